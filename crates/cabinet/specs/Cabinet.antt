@@ -1,0 +1,223 @@
+-- One cabinet: what its table says, and each change that a rule of document 01 makes to it alone.
+use Prim.Native.Nat.{ℕ, zero, suc, _+_, _-_, _*_, _/_, _%_}
+use mathlib.Core.Bool.{Bool, true, false, cond, not, _&&_}
+use mathlib.Core.List.{List, [], _∷_}
+use lib.ListN.{getD, set, replicate}
+use lib.Dec.{eqb, ltb}
+use Rattle.marks.specs.Marks.{Marks, marked, lowest, covers, both, noMarks}
+use Rattle.line.specs.declared.Check.{Check}
+use Rattle.line.specs.declared.Payload.{Payload}
+use Rattle.line.specs.declared.Place.{Place}
+use Rattle.line.specs.declared.Place.the-variants.{Cabinet as AtCabinet, Link as AtLink}
+use Rattle.line.specs.Packet.{startCheck, stepCheck}
+use Rattle.cabinet.specs.declared.State.{State}
+use Rattle.cabinet.specs.declared.State.the-variants.{Failed, Normal, CheckpBegin, Checkpointing, Checkpointed, Error, Recovering, Recovered, Crashed}
+use Rattle.cabinet.specs.declared.Version.{Version}
+use Rattle.cabinet.specs.declared.Version.the-variants.{Known}
+use Rattle.cabinet.specs.declared.Alarm.the-variants.{Quiet, Fault}
+use Rattle.cabinet.specs.declared.Phase.{Phase}
+use Rattle.cabinet.specs.declared.Table.{Table}
+use Rattle.cabinet.specs.declared.Noted.{Noted}
+use Rattle.cabinet.specs.declared.Registers.{Registers}
+use Rattle.cabinet.specs.declared.Image.{Image}
+use Rattle.cabinet.specs.declared.Cabinet.{Cabinet}
+use Rattle.cabinet.specs.State.{works, isIn, flipped, adopted, settled, doubted, bitOf}
+
+-- ---- images
+
+abbrev pub blankImage : Image
+blankImage = record { octets = replicate 32 0 }
+
+-- "octets 0 and 1 the booking in amperes"
+abbrev pub booked : Image → ℕ
+booked m = getD (m .octets) 0 0 * 256 + getD (m .octets) 1 0
+
+abbrev pub withBooked : Image → ℕ → Image
+withBooked m v = record { octets = set (set (m .octets) 0 (v / 256)) 1 (v % 256) }
+
+abbrev pub withOctet : Image → ℕ → ℕ → Image
+withOctet m p v = record { octets = set (m .octets) p v }
+
+-- "It moves in four pieces of 8 octets, 0 to 3": the first n octets of piece k, from one image into another
+abbrev pub pieceTo : ℕ → ℕ → Image → Image → Image
+pieceTo zero k from to = to
+pieceTo (suc n) k from to = withOctet (pieceTo n k from to) (k * 8 + n) (getD (from .octets) (k * 8 + n) 0)
+
+abbrev pub withPiece : ℕ → Image → Image → Image
+withPiece k from to = pieceTo 8 k from to
+
+-- ---- a cabinet's parts, replaced one at a time
+
+abbrev pub withPhase : Cabinet → Phase → Cabinet
+withPhase c p = record { phase = p; table = c .table; noted = c .noted; registers = c .registers; image = c .image; home = c .home; store = c .store; owed = c .owed }
+
+abbrev pub withTable : Cabinet → Table → Cabinet
+withTable c t = record { phase = c .phase; table = t; noted = c .noted; registers = c .registers; image = c .image; home = c .home; store = c .store; owed = c .owed }
+
+abbrev pub withNoted : Cabinet → Noted → Cabinet
+withNoted c n = record { phase = c .phase; table = c .table; noted = n; registers = c .registers; image = c .image; home = c .home; store = c .store; owed = c .owed }
+
+abbrev pub withRegisters : Cabinet → Registers → Cabinet
+withRegisters c r = record { phase = c .phase; table = c .table; noted = c .noted; registers = r; image = c .image; home = c .home; store = c .store; owed = c .owed }
+
+abbrev pub withImage : Cabinet → Image → Cabinet
+withImage c m = record { phase = c .phase; table = c .table; noted = c .noted; registers = c .registers; image = m; home = c .home; store = c .store; owed = c .owed }
+
+abbrev pub withOwed : Cabinet → Marks → Cabinet
+withOwed c o = record { phase = c .phase; table = c .table; noted = c .noted; registers = c .registers; image = c .image; home = c .home; store = c .store; owed = o }
+
+abbrev pub withState : Cabinet → State → Cabinet
+withState c s = withPhase c (record { state = s; version = c .phase .version; alarm = c .phase .alarm })
+
+abbrev pub withVersion : Cabinet → Version → Cabinet
+withVersion c v = withPhase c (record { state = c .phase .state; version = v; alarm = c .phase .alarm })
+
+abbrev pub withPieces : Cabinet → ℕ → Cabinet
+withPieces c k = withNoted c (record { come = c .noted .come; pieces = k; saved = c .noted .saved; restored = c .noted .restored; heard = c .noted .heard })
+
+-- ---- starting values
+
+abbrev pub nothingNoted : Noted
+nothingNoted = record { come = noMarks; pieces = 0; saved = noMarks; restored = noMarks; heard = noMarks }
+
+abbrev pub startRegisters : Registers
+startRegisters = record { sent = replicate 8 startCheck; taken = replicate 8 startCheck; hurt = noMarks }
+
+-- what stands at the numbers past n: a cabinet that does not work
+abbrev pub absent : Cabinet
+absent = record {
+  phase = record { state = Failed; version = Known false; alarm = Quiet };
+  table = record { cabinets = noMarks; links = noMarks };
+  noted = nothingNoted;
+  registers = startRegisters;
+  image = blankImage;
+  home = 0;
+  store = false;
+  owed = noMarks;
+}
+
+-- ---- what a cabinet's table says
+
+-- the neighbours over links in use: the table has the link and the cabinet
+abbrev pub inUse : Cabinet → Marks
+inUse c = both (c .table .links) (c .table .cabinets)
+
+-- "Its coordinator is the lowest-numbered cabinet in use there."
+abbrev pub coordinator : Cabinet → ℕ
+coordinator c = lowest (c .table .cabinets)
+
+-- a place struck from the table of cabinet i: a cabinet, or i's own end of a link
+abbrev pub struckAt : ℕ → Place → Table → Table
+struckAt i (AtCabinet a) t = record { cabinets = set (t .cabinets) a false; links = t .links }
+struckAt i (AtLink a b) t = record {
+  cabinets = t .cabinets;
+  links = cond (eqb i a) (set (t .links) b false) (cond (eqb i b) (set (t .links) a false) (t .links));
+}
+
+-- ---- normal packets
+
+-- a send taken: the amount leaves the booking, and the sender's register runs over the packet
+abbrev pub sending : Cabinet → ℕ → Payload → Cabinet
+sending c j p =
+    withImage (withRegisters c (record {
+      sent = set (c .registers .sent) j (stepCheck (getD (c .registers .sent) j startCheck) p);
+      taken = c .registers .taken;
+      hurt = c .registers .hurt;
+    })) (withBooked (c .image) (booked (c .image) - p .amount))
+
+-- "A receiver adds an amount modulo 65,536", and its register runs over the packet
+abbrev pub taking : Cabinet → ℕ → Payload → Cabinet
+taking c j p =
+    withImage (withRegisters c (record {
+      sent = c .registers .sent;
+      taken = set (c .registers .taken) j (stepCheck (getD (c .registers .taken) j startCheck) p);
+      hurt = c .registers .hurt;
+    })) (withBooked (c .image) ((booked (c .image) + p .amount) % 65536))
+
+-- a normal packet of the line from j was hurt
+abbrev pub hurtFrom : Cabinet → ℕ → Cabinet
+hurtFrom c j = withRegisters c (record { sent = c .registers .sent; taken = c .registers .taken; hurt = set (c .registers .hurt) j true })
+
+-- ---- saving
+
+-- "The sender's register restarts after a checkp is put", so on the lines in use
+abbrev pub restartIf : Bool → List Check → ℕ → List Check
+restartIf true rs j = set rs j startCheck
+restartIf false rs j = rs
+
+abbrev pub restartTo : ℕ → Marks → List Check → List Check
+restartTo zero m rs = rs
+restartTo (suc n) m rs = restartIf (marked m n) (restartTo n m rs) n
+
+-- enters checkp-begin, once its checkps are put; nothing is noted yet of the new save
+abbrev pub beginning : Cabinet → Cabinet
+beginning c =
+    withNoted (withRegisters (withState c CheckpBegin) (record {
+      sent = restartTo 8 (inUse c) (c .registers .sent);
+      taken = c .registers .taken;
+      hurt = c .registers .hurt;
+    })) nothingNoted
+
+-- an equal comparison with the checkp from j: it has come, and the receiver's register restarts
+abbrev pub comparing : Cabinet → ℕ → Cabinet
+comparing c j =
+    withNoted (withRegisters c (record {
+      sent = c .registers .sent;
+      taken = set (c .registers .taken) j startCheck;
+      hurt = set (c .registers .hurt) j false;
+    })) (record { come = set (c .noted .come) j true; pieces = c .noted .pieces; saved = c .noted .saved; restored = c .noted .restored; heard = c .noted .heard })
+
+-- "With checkp from all neighbours in use (none left counts as all) the cabinet enters checkpointing": its cut
+abbrev pub cutting : Cabinet → Cabinet
+cutting c = cond (covers (c .noted .come) (inUse c)) (withState c Checkpointing) c
+
+-- one piece more is written; with piece 3 cabinet i enters checkpointed, and all but the coordinator keep the version as old
+abbrev pub wrote : Cabinet → ℕ → Cabinet
+wrote c i =
+    cond (ltb (c .noted .pieces) 3) (withPieces c (c .noted .pieces + 1))
+    (withPieces (withPhase c (record {
+      state = Checkpointed;
+      version = cond (eqb (coordinator c) i) (c .phase .version) (doubted (c .phase .version));
+      alarm = c .phase .alarm;
+    })) 4)
+
+-- a home owes the saved report on j, or has made it
+abbrev pub owing : Cabinet → ℕ → Bool → Cabinet
+owing c j o = withOwed c (set (c .owed) j o)
+
+-- the coordinator has the saved report on j
+abbrev pub savedFor : Cabinet → ℕ → Cabinet
+savedFor c j = withNoted c (record { come = c .noted .come; pieces = c .noted .pieces; saved = set (c .noted .saved) j true; restored = c .noted .restored; heard = c .noted .heard })
+
+-- enters normal with a version; nothing is noted any more
+abbrev pub resuming : Cabinet → Version → Cabinet
+resuming c v = withNoted (withPhase c (record { state = Normal; version = v; alarm = Quiet })) nothingNoted
+
+-- ---- failing and recovering
+
+-- "Entering error: strike the place from the table, .. forget what was noted ..; a home forgets the reports it owes"
+abbrev pub alarmed : Cabinet → ℕ → Place → Cabinet
+alarmed c i p =
+    withOwed (withNoted (withTable (withPhase c (record { state = Error; version = c .phase .version; alarm = Fault p })) (struckAt i p (c .table))) nothingNoted) noMarks
+
+-- the fault packet of neighbour j has come
+abbrev pub hearing : Cabinet → ℕ → Cabinet
+hearing c j = withNoted c (record { come = c .noted .come; pieces = c .noted .pieces; saved = c .noted .saved; restored = c .noted .restored; heard = set (c .noted .heard) j true })
+
+-- enters recovering with a known version
+abbrev pub recovering : Cabinet → Bool → Cabinet
+recovering c v = withPhase c (record { state = Recovering; version = Known v; alarm = c .phase .alarm })
+
+-- one piece more is fetched; with piece 3 the cabinet enters recovered, and all its registers restart
+abbrev pub fetched : Cabinet → Image → Cabinet
+fetched c m =
+    cond (ltb (c .noted .pieces) 3) (withImage (withPieces c (c .noted .pieces + 1)) m)
+    (withImage (withRegisters (withPieces (withState c Recovered) 4) startRegisters) m)
+
+-- the coordinator has the restored report of j
+abbrev pub restoredFor : Cabinet → ℕ → Cabinet
+restoredFor c j = withNoted c (record { come = c .noted .come; pieces = c .noted .pieces; saved = c .noted .saved; restored = set (c .noted .restored) j true; heard = c .noted .heard })
+
+-- "crash .. puts every working cabinet .. in crashed and does nothing else"
+abbrev pub crashing : Cabinet → Cabinet
+crashing c = cond (works (c .phase .state)) (withState c Crashed) c

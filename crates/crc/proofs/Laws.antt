@@ -1,0 +1,156 @@
+-- Laws of the check value: the rule of the octet table, that nothing is lost on the way, and the published values.
+-- Assumes nothing.
+use mathlib.Core.Path.{_≡_, refl, sym, ap, _∙_}
+use mathlib.Core.List.{List, [], _∷_, _++_}
+use Prim.Native.Nat.{ℕ, zero, suc, _+_, _*_, _/_, _%_, _^_, _<_}
+use native.Mathlib.Nat.{mul-one, mul-le-mul-left, pow-suc}
+use native.Mathlib.Omega.{arith}
+use lib.Bits.{bitXor, xor-add-and, xor-shr, xor-mod, xor-lt, xor-comm, xor-zero-r, xor-shifted}
+use lib.ListN.{length, getD}
+use lib.Seq.{ext-getD}
+use lib.Pow.{pow-pos, mod-pow-add}
+use Rattle.crc.specs.Crc.{polynomial, crcBit, crcBits, crcOctet, crcFrom, crc, amountOctets, amountsOctets}
+use Rattle.crc.proofs.Xor.{xor-assoc, xor-swap, xor-cancel, xor-cancel-low, xor-shift}
+
+-- What an octet does to the register
+
+-- what stands below the highest bit passes one step unchanged, moved up by one
+bit-passes : (a low : ℕ) → low < 32768 → crcBit (bitXor a low) ≡ bitXor (crcBit a) (low * 2)
+unfolding crcBit
+bit-passes a low below =
+    let none-out : low / 32768 ≡ 0 = omega arith in
+    let fits : low * 2 % 65536 ≡ low * 2 = omega arith in
+    rw (xor-shift 1 a low, xor-mod (a * 2) (low * 2) 16, xor-shr a low 15, none-out, fits, xor-zero-r)
+    (xor-swap (a * 2 % 65536) (low * 2) _)
+
+-- the same over n steps, for what does not reach the top in them
+bits-pass : (n a low : ℕ) → low * 2 ^ n < 65536 → crcBits n (bitXor a low) ≡ bitXor (crcBits n a) (low * 2 ^ n)
+unfolding crcBits
+bits-pass zero a low below = ap (bitXor a) (sym (mul-one low))
+bits-pass (suc n) a low below =
+    let doubled : low * 2 ^ suc n ≡ low * (2 ^ n * 2) = ap (λ (x : ℕ). low * x) (pow-suc 2 n) in
+    ap (crcBits n) (bit-passes a low (omega (arith, mul-le-mul-left low (pow-pos n))))
+    ∙ bits-pass n (crcBit a) (low * 2) (omega arith) ∙ ap (bitXor (crcBits n (crcBit a))) (omega arith)
+
+-- a number is its high part and its low octet, joined by xor
+halves : (m : ℕ) → m ≡ bitXor (m / 256 * 256) (m % 256)
+halves m = omega (arith, xor-shifted (m / 256) 8 (m % 256) (omega arith))
+
+-- the rule of the table: the low octet moves up, and what falls out goes through the eight steps alone
+pub octet-rule : (r x : ℕ) → crcOctet r x ≡ bitXor (r * 256 % 65536) (crcBits 8 (bitXor (r / 256) x * 256))
+unfolding crcOctet
+octet-rule r x =
+    let out = bitXor (r / 256) x * 256 in
+    let moved : r % 256 * 256 ≡ r * 256 % 65536 = omega arith in
+    cc (
+      halves r,
+      xor-swap (r / 256 * 256) (r % 256) (x * 256),
+      xor-shift 8 (r / 256) x,
+      bits-pass 8 out (r % 256) (omega arith),
+      xor-comm (crcBits 8 out) (r % 256 * 256),
+    )
+
+-- The register stays within 16 bits
+
+bit-lt : (a : ℕ) → crcBit a < 65536
+unfolding crcBit
+bit-lt a = xor-lt 16 (a * 2 % 65536) (a / 32768 % 2 * polynomial) (omega arith) (omega arith)
+
+pub octet-lt : (r x : ℕ) → crcOctet r x < 65536
+unfolding crcOctet crcBits
+octet-lt r x = bit-lt _
+
+pub from-lt : (xs : List ℕ) (r : ℕ) → r < 65536 → crcFrom r xs < 65536
+unfolding crcFrom
+from-lt [] r below = below
+from-lt (x ∷ xs) r below = from-lt xs (crcOctet r x) (octet-lt r x)
+
+-- Nothing is lost: the polynomial is odd, so the bit that fell out can be read at the low end
+
+fallen-out : (a : ℕ) → crcBit a % 2 ≡ a / 32768 % 2
+unfolding crcBit
+fallen-out a = omega (arith, xor-add-and (a * 2 % 65536) (a / 32768 % 2 * polynomial))
+
+top-and-rest : (a : ℕ) → a % 65536 ≡ a / 32768 % 2 * 32768 + a * 2 % 65536 / 2
+top-and-rest a = omega (arith, mod-pow-add a 1 15)
+
+bit-inj : (a b : ℕ) → crcBit a ≡ crcBit b → a % 65536 ≡ b % 65536
+unfolding crcBit
+bit-inj a b same =
+    let top : a / 32768 % 2 ≡ b / 32768 % 2 = omega (arith, fallen-out a, fallen-out b) in
+    let rest : a * 2 % 65536 ≡ b * 2 % 65536 = xor-cancel _ _ (a / 32768 % 2 * polynomial) (cc) in
+    omega (arith, top-and-rest a, top-and-rest b)
+
+bits-inj : (n a b : ℕ) → crcBits n a ≡ crcBits n b → a % 65536 ≡ b % 65536
+unfolding crcBits
+bits-inj zero a b same = ap (λ (x : ℕ). x % 65536) same
+bits-inj (suc n) a b same = bit-inj a b (omega (arith, bit-lt a, bit-lt b, bits-inj n (crcBit a) (crcBit b) same))
+
+-- an octet loses nothing of the register
+pub octet-inj : (r r′ x : ℕ) → r < 65536 → r′ < 65536 → crcOctet r x ≡ crcOctet r′ x → r ≡ r′
+unfolding crcOctet
+octet-inj r r′ x below below′ same = omega (arith, xor-cancel-low 16 r r′ (x * 256) (bits-inj 8 _ _ same))
+
+-- nor does a list of octets
+pub from-inj : (xs : List ℕ) (r r′ : ℕ) → r < 65536 → r′ < 65536 → crcFrom r xs ≡ crcFrom r′ xs → r ≡ r′
+unfolding crcFrom
+from-inj [] r r′ below below′ same = same
+from-inj (x ∷ xs) r r′ below below′ same =
+    octet-inj r r′ x below below′ (from-inj xs (crcOctet r x) (crcOctet r′ x) (octet-lt r x) (octet-lt r′ x) same)
+
+-- the two octets of an amount are one number of 16 bits, joined to the register at once
+amount-joins : (r m : ℕ) → crcOctet (crcOctet r (m / 256)) (m % 256) ≡ crcBits 16 (bitXor m r)
+unfolding crcOctet crcBits
+amount-joins r m =
+    cc (
+      bits-pass 8 (bitXor r (m / 256 * 256)) (m % 256) (omega arith),
+      xor-assoc r (m / 256 * 256) (m % 256),
+      halves m,
+      xor-comm r m,
+    )
+
+-- a packet loses nothing of its amount
+pub amount-inj : (r m m′ : ℕ) → m < 65536 → m′ < 65536
+    → crcFrom r (amountOctets m) ≡ crcFrom r (amountOctets m′) → m ≡ m′
+unfolding crcFrom
+amount-inj r m m′ below below′ same =
+    let s = crcOctet r 0 in
+    let joined : crcBits 16 (bitXor m s) ≡ crcBits 16 (bitXor m′ s) = sym (amount-joins s m) ∙ same ∙ amount-joins s m′ in
+    omega (arith, xor-cancel-low 16 m m′ s (bits-inj 16 (bitXor m s) (bitXor m′ s) joined))
+
+-- Lists in parts
+
+pub from-append : (xs ys : List ℕ) (r : ℕ) → crcFrom r (xs ++ ys) ≡ crcFrom (crcFrom r xs) ys
+unfolding crcFrom
+from-append [] ys r = refl
+from-append (x ∷ xs) ys r = from-append xs ys (crcOctet r x)
+
+pub amounts-append : (xs ys : List ℕ) → amountsOctets (xs ++ ys) ≡ amountsOctets xs ++ amountsOctets ys
+unfolding amountsOctets
+amounts-append [] ys = refl
+amounts-append (m ∷ ms) ys = ap (λ (l : List ℕ). amountOctets m ++ l) (amounts-append ms ys)
+
+-- One hurt amount is always seen: lists of amounts that differ at place k alone have different check values
+pub one-differs : (xs ys : List ℕ) (k r : ℕ) → length xs ≡ length ys → k < length xs
+    → getD xs k 0 < 65536 → getD ys k 0 < 65536 → (getD xs k 0 ≡ getD ys k 0 → ⊥)
+    → ((j : ℕ) → (j ≡ k → ⊥) → getD xs j 0 ≡ getD ys j 0)
+    → crcFrom r (amountsOctets xs) ≡ crcFrom r (amountsOctets ys) → ⊥
+unfolding crcFrom amountsOctets
+one-differs [] ys k r long inside bx by hurt others same = omega arith
+one-differs (x ∷ xs) [] k r long inside bx by hurt others same = omega arith
+one-differs (x ∷ xs) (y ∷ ys) zero r long inside bx by hurt others same =
+    let rest : xs ≡ ys = ext-getD 0 xs ys (omega arith) (λ i h. others (suc i) (omega arith)) in
+    hurt (amount-inj r x y bx by (from-inj (amountsOctets xs) _ _ (octet-lt _ _) (octet-lt _ _) (rw (← rest) at same)))
+one-differs (x ∷ xs) (y ∷ ys) (suc k) r long inside bx by hurt others same =
+    one-differs xs ys k _ (omega arith) (omega arith) bx by hurt (λ j other. others (suc j) (λ e. other (omega arith)))
+    (rw (← others 0 (omega arith)) at same)
+
+-- The published values
+
+-- the ASCII text 123456789
+abbrev pub nineDigits : List ℕ
+nineDigits = 0x31 ∷ 0x32 ∷ 0x33 ∷ 0x34 ∷ 0x35 ∷ 0x36 ∷ 0x37 ∷ 0x38 ∷ 0x39 ∷ []
+
+pub vectors : (crc [] ≡ 0xFFFF) × (crc nineDigits ≡ 0x29B1)
+unfolding crcFrom crcOctet crcBits crcBit
+vectors = (refl, refl)

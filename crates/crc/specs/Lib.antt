@@ -1,0 +1,2 @@
+-- The definitions that the contracts of `crc` cite.
+pub mod Crc

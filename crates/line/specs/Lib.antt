@@ -1,0 +1,3 @@
+-- Packets and lines: the definitions that the functions of this crate are promised equal to.
+pub mod Packet
+pub mod Line

@@ -1,0 +1,2 @@
+-- Document 01, "The group file" and "Load".
+pub mod Load

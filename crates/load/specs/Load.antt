@@ -1,0 +1,184 @@
+-- Document 01, "The group file" and the refusals of a load: a file's octets to the group, lines and store, or a number 1 to 7.
+use Prim.Native.Nat.{ℕ, zero, suc, _+_, _-_, _*_, _/_, _%_}
+use mathlib.Core.Bool.{Bool, true, false, cond, not, _&&_, _||_}
+use mathlib.Core.List.{List, [], _∷_}
+use lib.ListN.{length, getD, set, replicate}
+use lib.Dec.{eqb, ltb, leb}
+use Rattle.marks.specs.Marks.{Marks, marked, noMarks}
+use Rattle.marks.specs.Reach.{Rows, mark, connected}
+use Rattle.cabinet.specs.declared.State.the-variants.{Normal}
+use Rattle.cabinet.specs.declared.Version.the-variants.{Known}
+use Rattle.cabinet.specs.declared.Alarm.the-variants.{Quiet}
+use Rattle.cabinet.specs.declared.Image.{Image}
+use Rattle.cabinet.specs.declared.Cabinet.{Cabinet}
+use Rattle.group.specs.declared.Outgoing.{Outgoing}
+use Rattle.group.specs.declared.Slots.{Slots}
+use Rattle.group.specs.declared.Group.{Group}
+use Rattle.group.specs.declared.Outcome.{Outcome}
+use Rattle.cabinet.specs.Cabinet.{blankImage, nothingNoted, startRegisters, absent}
+use Rattle.group.specs.Lines.{emptyLines}
+use Rattle.group.specs.Group.{noRow, blankSlots, ofRows, answering}
+
+-- ---- the fields
+
+-- "two-octet numbers have the high octet first"
+abbrev pub number : List ℕ → ℕ → ℕ
+number f i = getD f i 0 * 256 + getD f (i + 1) 0
+
+abbrev pub cabinetCount : List ℕ → ℕ
+cabinetCount f = number f 0
+
+abbrev pub linkCount : List ℕ → ℕ
+linkCount f = number f 2
+
+-- "offset of the cabinet table (10), offset of the link table (10 + 4 × n), total length (10 + 4 × n + 2 × m)"
+abbrev pub linkTable : List ℕ → ℕ
+linkTable f = 10 + 4 * cabinetCount f
+
+abbrev pub totalLength : List ℕ → ℕ
+totalLength f = linkTable f + 2 * linkCount f
+
+-- the entry of cabinet i, numbered from 0: "home (one octet), store mark (one octet, 0 or 1), booking (two octets)"
+abbrev pub homeOf : List ℕ → ℕ → ℕ
+homeOf f i = getD f (10 + 4 * i) 0
+
+abbrev pub storeMark : List ℕ → ℕ → ℕ
+storeMark f i = getD f (11 + 4 * i) 0
+
+abbrev pub bookingOf : List ℕ → ℕ → ℕ
+bookingOf f i = number f (12 + 4 * i)
+
+-- link entry k: "two cabinet numbers, lower first"
+abbrev pub lowerOf : List ℕ → ℕ → ℕ
+lowerOf f k = getD f (linkTable f + 2 * k) 0
+
+abbrev pub higherOf : List ℕ → ℕ → ℕ
+higherOf f k = getD f (linkTable f + 2 * k + 1) 0
+
+-- ---- the checks
+
+abbrev pub offsetsRight : List ℕ → Bool
+offsetsRight f =
+    eqb (number f 4) 10 && (eqb (number f 6) (linkTable f) && (eqb (number f 8) (totalLength f) && eqb (totalLength f) (length f)))
+
+-- 4: the mark is 0 or 1, the home is 1 to n, and the home is a store
+abbrev pub cabinetRight : List ℕ → ℕ → Bool
+cabinetRight f i =
+    leb (storeMark f i) 1 && (leb 1 (homeOf f i) && (leb (homeOf f i) (cabinetCount f) && eqb (storeMark f (homeOf f i - 1)) 1))
+
+abbrev pub cabinetsRight : ℕ → List ℕ → Bool
+cabinetsRight zero f = true
+cabinetsRight (suc n) f = cabinetsRight n f && cabinetRight f n
+
+-- 5: two numbers of 1 to n, lower first; "entries rise strictly by first, then second number"
+abbrev pub linkRight : List ℕ → ℕ → Bool
+linkRight f k = leb 1 (lowerOf f k) && (ltb (lowerOf f k) (higherOf f k) && leb (higherOf f k) (cabinetCount f))
+
+abbrev pub risesTo : List ℕ → ℕ → Bool
+risesTo f zero = true
+risesTo f (suc k) = ltb (lowerOf f k * 256 + higherOf f k) (lowerOf f (suc k) * 256 + higherOf f (suc k))
+
+abbrev pub linksRight : ℕ → List ℕ → Bool
+linksRight zero f = true
+linksRight (suc k) f = linksRight k f && (linkRight f k && risesTo f k)
+
+-- the rows of marks that the first k link entries make
+abbrev pub linked : Rows → ℕ → ℕ → Rows
+linked rs a b = set rs a (set (getD rs a noMarks) b true)
+
+abbrev pub linkRows : ℕ → List ℕ → Rows
+linkRows zero f = replicate 8 noMarks
+linkRows (suc k) f = linked (linked (linkRows k f) (lowerOf f k - 1) (higherOf f k - 1)) (higherOf f k - 1) (lowerOf f k - 1)
+
+abbrev pub rowsIn : List ℕ → Rows
+rowsIn f = linkRows (linkCount f) f
+
+-- the row of the cabinets that the file has
+abbrev pub present : List ℕ → Marks
+present f =
+    ltb 0 (cabinetCount f) ∷ ltb 1 (cabinetCount f) ∷ ltb 2 (cabinetCount f) ∷ ltb 3 (cabinetCount f) ∷ ltb 4 (cabinetCount f)
+    ∷ ltb 5 (cabinetCount f) ∷ ltb 6 (cabinetCount f) ∷ ltb 7 (cabinetCount f) ∷ []
+
+abbrev pub bookings : ℕ → List ℕ → ℕ
+bookings zero f = 0
+bookings (suc n) f = bookings n f + bookingOf f n
+
+-- "The feeder's total is the sum of the bookings in the file."
+abbrev pub feederTotal : List ℕ → ℕ
+feederTotal f = bookings (cabinetCount f) f
+
+abbrev pub refuse : Bool → ℕ → ℕ → ℕ
+refuse true k next = next
+refuse false k next = k
+
+-- "where several apply, the first in the order written"
+abbrev pub loadRefusal : List ℕ → ℕ
+loadRefusal f =
+    refuse (leb 10 (length f)) 1
+    (refuse (leb 2 (cabinetCount f) && leb (cabinetCount f) 8) 2
+    (refuse (offsetsRight f) 3
+    (refuse (cabinetsRight (cabinetCount f) f) 4
+    (refuse (linksRight (linkCount f) f) 5
+    (refuse (connected (rowsIn f) (present f)) 6
+    (refuse (leb (feederTotal f) 65535) 7 0))))))
+
+-- ---- the group
+
+-- "octets 0 and 1 the booking in amperes, 2 to 31 notes (zero at the start)"
+abbrev pub imageOf : List ℕ → ℕ → Image
+imageOf f i = record { octets = getD f (12 + 4 * i) 0 ∷ getD f (13 + 4 * i) 0 ∷ replicate 30 0 }
+
+-- "At the start every version variable is 0 .. and every cabinet is in normal."
+abbrev pub startingCabinet : List ℕ → Rows → ℕ → Cabinet
+startingCabinet f rows i = record {
+  phase = record { state = Normal; version = Known false; alarm = Quiet };
+  table = record { cabinets = present f; links = getD rows i noMarks };
+  noted = nothingNoted;
+  registers = startRegisters;
+  image = imageOf f i;
+  home = homeOf f i - 1;
+  store = eqb (storeMark f i) 1;
+  owed = noMarks;
+}
+
+abbrev pub cabinetOf : List ℕ → Rows → ℕ → Cabinet
+cabinetOf f rows i = cond (ltb i (cabinetCount f)) (startingCabinet f rows i) absent
+
+abbrev pub cabinetsOf : List ℕ → Rows → List Cabinet
+cabinetsOf f rows =
+    cabinetOf f rows 0 ∷ cabinetOf f rows 1 ∷ cabinetOf f rows 2 ∷ cabinetOf f rows 3 ∷ cabinetOf f rows 4 ∷ cabinetOf f rows 5
+    ∷ cabinetOf f rows 6 ∷ cabinetOf f rows 7 ∷ []
+
+-- "slot 0 holds the starting images"
+abbrev pub slotsOf : List ℕ → ℕ → Slots
+slotsOf f i = cond (ltb i (cabinetCount f)) (record { zero = imageOf f i; one = blankImage }) blankSlots
+
+abbrev pub storeOf : List ℕ → List Slots
+storeOf f = slotsOf f 0 ∷ slotsOf f 1 ∷ slotsOf f 2 ∷ slotsOf f 3 ∷ slotsOf f 4 ∷ slotsOf f 5 ∷ slotsOf f 6 ∷ slotsOf f 7 ∷ []
+
+abbrev pub groupOf : List ℕ → Rows → Group
+groupOf f rows = record {
+  n = cabinetCount f;
+  cabinets = cabinetsOf f rows;
+  links = ofRows rows;
+  sound = ofRows rows;
+  outgoing = replicate 8 emptyLines;
+  store = storeOf f;
+}
+
+-- a refused file leaves no group
+abbrev pub noGroup : Group
+noGroup = record {
+  n = 0;
+  cabinets = replicate 8 absent;
+  links = replicate 8 noRow;
+  sound = replicate 8 noRow;
+  outgoing = replicate 8 emptyLines;
+  store = replicate 8 blankSlots;
+}
+
+abbrev pub loadWith : List ℕ → ℕ → Outcome
+loadWith f k = cond (eqb k 0) (answering 0 (groupOf f (rowsIn f))) (answering k noGroup)
+
+unfoldable pub load : List ℕ → Outcome
+load f = loadWith f (loadRefusal f)

@@ -1,0 +1,10 @@
+-- `struck` clears two marks, one after the other.
+use borrow.Author.Needs.{needs}
+use Rattle.marks.proofs.struck.Statement.{statement}
+use Rattle.marks.proofs.struck.Tie as tie
+
+pub struck-spec : {M : Type 1} → statement M
+struck-spec = tie.close (tie.spec
+    (λ c κs. search needs)
+    (λ c κs. search needs)
+    (λ c. rw (c .cleared2 .ensures, c .before .cleared .ensures)))

@@ -1,0 +1,38 @@
+-- Eight marks, one for each cabinet: the lowest one marked, those wanted and had, those in both.
+use Prim.Native.Nat.{ℕ, zero, suc, _+_}
+use mathlib.Core.List.{List, [], _∷_}
+use mathlib.Core.Bool.{Bool, true, false, cond, not, _&&_, _||_}
+use lib.ListN.{getD, replicate}
+
+abbrev pub Marks : Type 0
+Marks = List Bool
+
+abbrev pub noMarks : Marks
+noMarks = replicate 8 false
+
+abbrev pub marked : Marks → ℕ → Bool
+marked m i = getD m i false
+
+-- the lowest number that passes the test, of the n from i on; 8 where none does
+abbrev pub lowestFrom : (ℕ → Bool) → ℕ → ℕ → ℕ
+lowestFrom test zero i = 8
+lowestFrom test (suc n) i = cond (test i) i (lowestFrom test n (i + 1))
+
+abbrev pub lowest : Marks → ℕ
+lowest m = lowestFrom (marked m) 8 0
+
+-- each of the first n that is wanted is had
+abbrev pub coversTo : ℕ → Marks → Marks → Bool
+coversTo zero h w = true
+coversTo (suc n) h w = coversTo n h w && (not (marked w n) || marked h n)
+
+abbrev pub covers : Marks → Marks → Bool
+covers h w = coversTo 8 h w
+
+-- cabinet i is marked in both
+abbrev pub inBoth : Marks → Marks → ℕ → Bool
+inBoth a b i = marked a i && marked b i
+
+abbrev pub both : Marks → Marks → Marks
+both a b =
+    inBoth a b 0 ∷ inBoth a b 1 ∷ inBoth a b 2 ∷ inBoth a b 3 ∷ inBoth a b 4 ∷ inBoth a b 5 ∷ inBoth a b 6 ∷ inBoth a b 7 ∷ []

@@ -1,0 +1,177 @@
+// Eight marks, one for each cabinet, rows of marks, and the reach check. Cabinets are numbered 0 to 7.
+ghost use mathlib.Core.Path.{_≡_};
+ghost use mathlib.Core.Bool.{false, _&&_, _||_};
+ghost use Prim.Native.Nat.{ℕ, _<_, _≤_};
+ghost use lib.ListN.{set};
+ghost use Rattle.marks.specs.Marks.{lowest, covers, both};
+ghost use Rattle.marks.specs.Reach.{
+  cleared,
+  struck,
+  touched,
+  fresh,
+  next,
+  spread,
+  unseen,
+  first,
+  reached,
+  connected,
+};
+
+fn and(a: bool, b: bool) -> bool
+    ensures { λ r. ⌜ r ≡ a && b ⌝ }
+{
+    if a { b } else { false }
+}
+
+fn or(a: bool, b: bool) -> bool
+    ensures { λ r. ⌜ r ≡ a || b ⌝ }
+{
+    if a { true } else { b }
+}
+
+// The lowest number marked, 8 where none is.
+pub fn lowest(marks: [bool; 8]) -> u8
+    ensures { λ r. ⌜ r ≡ lowest marks ⌝ }
+    ensures { λ r. ⌜ r ≤ 8 ⌝ }
+{
+    let mut i: u8 = 0;
+    while i < 8 {
+        if marks[i as usize] {
+            return i;
+        }
+        i += 1;
+    }
+    8
+}
+
+// Every one that is wanted is had.
+pub fn covers(have: [bool; 8], want: [bool; 8]) -> bool
+    ensures { λ r. ⌜ r ≡ covers have want ⌝ }
+{
+    let mut all = true;
+    let mut cabinet = 0;
+    while cabinet < 8 {
+        all = and(all, or(!want[cabinet], have[cabinet]));
+        cabinet += 1;
+    }
+    all
+}
+
+// The marks that stand in both.
+pub fn both(a: [bool; 8], b: [bool; 8]) -> [bool; 8]
+    ensures { λ r. ⌜ r ≡ both a b ⌝ }
+{
+    [
+        and(a[0], b[0]),
+        and(a[1], b[1]),
+        and(a[2], b[2]),
+        and(a[3], b[3]),
+        and(a[4], b[4]),
+        and(a[5], b[5]),
+        and(a[6], b[6]),
+        and(a[7], b[7]),
+    ]
+}
+
+// The marks with j's cleared; unchanged where j is not below 8.
+fn without(marks: [bool; 8], j: u8) -> [bool; 8]
+    ensures { λ r. ⌜ r ≡ set marks j false ⌝ }
+{
+    let mut left = marks;
+    if j < 8 {
+        left[j as usize] = false;
+    }
+    left
+}
+
+// The rows with i's mark for j cleared.
+fn cleared(rows: [[bool; 8]; 8], i: u8, j: u8) -> [[bool; 8]; 8]
+    ensures { λ r. ⌜ r ≡ cleared rows i j ⌝ }
+{
+    let mut left = rows;
+    if i < 8 {
+        left[i as usize] = without(rows[i as usize], j);
+    }
+    left
+}
+
+// The rows with the link between a and b struck, both ways.
+pub fn struck(rows: [[bool; 8]; 8], a: u8, b: u8) -> [[bool; 8]; 8]
+    ensures { λ r. ⌜ r ≡ struck rows a b ⌝ }
+{
+    cleared(cleared(rows, a, b), b, a)
+}
+
+// One that is seen has a mark for j.
+fn touched(rows: [[bool; 8]; 8], seen: [bool; 8], j: usize) -> bool
+    requires { ⌜ j < 8 ⌝ }
+    ensures { λ r. ⌜ r ≡ touched 8 rows seen j ⌝ }
+{
+    let mut some = false;
+    let mut i = 0;
+    while i < 8 {
+        some = or(some, and(seen[i], rows[i][j]));
+        i += 1;
+    }
+    some
+}
+
+// j works, is not yet seen, and a seen one has a mark for it.
+fn fresh(rows: [[bool; 8]; 8], working: [bool; 8], seen: [bool; 8], j: usize) -> bool
+    requires { ⌜ j < 8 ⌝ }
+    ensures { λ r. ⌜ r ≡ fresh rows working seen j ⌝ }
+{
+    and(working[j], and(!seen[j], touched(rows, seen, j)))
+}
+
+// The lowest fresh one, 8 where none is.
+fn next(rows: [[bool; 8]; 8], working: [bool; 8], seen: [bool; 8]) -> usize
+    ensures { λ r. ⌜ r ≡ next rows working seen ⌝ }
+{
+    let mut j = 0;
+    while j < 8 {
+        if fresh(rows, working, seen, j) {
+            return j;
+        }
+        j += 1;
+    }
+    8
+}
+
+// The seen ones with all that are reached from them. It ends since one fewer is unseen at each call.
+fn grow(rows: [[bool; 8]; 8], working: [bool; 8], seen: [bool; 8]) -> [bool; 8]
+    ensures { λ r. ⌜ ((n : ℕ) → unseen seen ≤ n → r ≡ spread n rows working seen) ⌝ }
+{
+    let found = next(rows, working, seen);
+    if found < 8 {
+        let mut more = seen;
+        more[found] = true;
+        return grow(rows, working, more);
+    }
+    seen
+}
+
+// Just the lowest working one, or none where none works.
+fn first(working: [bool; 8]) -> [bool; 8]
+    ensures { λ r. ⌜ r ≡ first working ⌝ }
+{
+    let lowest_one = lowest(working);
+    let mut marks = [false; 8];
+    if lowest_one < 8 {
+        marks[lowest_one as usize] = true;
+    }
+    marks
+}
+
+fn reached(rows: [[bool; 8]; 8], working: [bool; 8]) -> [bool; 8]
+    ensures { λ r. ⌜ r ≡ reached rows working ⌝ }
+{
+    grow(rows, working, first(working))
+}
+
+// Every working cabinet is reached from the lowest working one, over working ones.
+pub fn connected(rows: [[bool; 8]; 8], working: [bool; 8]) -> bool
+    ensures { λ r. ⌜ r ≡ connected rows working ⌝ }
+{
+    covers(reached(rows, working), working)
+}

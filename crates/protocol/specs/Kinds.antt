@@ -1,0 +1,223 @@
+-- The eleven kinds of step: of each its refusals, "the first in the order written", and what it does when it is taken.
+-- Cabinets are numbered from 0 here; the step entry has made checks 8 to 12.
+use Prim.Native.Nat.{ℕ, zero, suc, _+_, _-_}
+use mathlib.Core.Bool.{Bool, true, false, cond, not, _&&_, _||_}
+use mathlib.Core.List.{List}
+use lib.ListN.{getD, set}
+use lib.Dec.{eqb, ltb, leb}
+use Rattle.marks.specs.Marks.{Marks, marked, covers}
+use Rattle.marks.specs.Reach.{mark, connected}
+use Rattle.line.specs.declared.Place.the-variants.{Cabinet as AtCabinet, Link as AtLink}
+use Rattle.line.specs.declared.Packet.{Packet}
+use Rattle.line.specs.declared.Packet.the-variants.{Normal as NormalPacket}
+use Rattle.line.specs.Packet.{isEmpty, isNormal, damaged}
+use Rattle.line.specs.Line.{oldest, rest, put, normals, packetAt, replaced}
+use Rattle.cabinet.specs.declared.State.the-variants.{Normal, Checkpointing, Error, Recovering, Recovered}
+use Rattle.cabinet.specs.declared.Alarm.{Alarm}
+use Rattle.cabinet.specs.declared.Alarm.the-variants.{Quiet, Fault}
+use Rattle.line.specs.declared.Place.{Place}
+use Rattle.cabinet.specs.declared.Cabinet.{Cabinet}
+use Rattle.group.specs.declared.Group.{Group}
+use Rattle.group.specs.declared.Outcome.{Outcome}
+use Rattle.cabinet.specs.State.{isIn, inRecovery, inRestoring, inSaving, bitOf}
+use Rattle.cabinet.specs.Cabinet.{inUse, coordinator, booked, withImage, withOctet, withPiece, sending, hurtFrom, wrote, owing, savedFor, fetched, restoredFor}
+use Rattle.group.specs.Group.{cabinet, withCabinet, stateOf, line, withLine, slot, withSlot, rowsOf, some, working, recoveringOnes, unsure, answering, taken, crashed}
+use Rattle.protocol.specs.Moves.{join, cutIfAll, commit, recoverWith, markFailed, alarmTo, endRecovery}
+use Rattle.protocol.specs.Receive.{receive}
+
+-- a check of a refusal: where the test does not hold the answer is k, else the next check decides
+abbrev pub need : Bool → ℕ → ℕ → ℕ
+need true k next = next
+need false k next = k
+
+-- "A refusal leaves group and store unchanged."
+abbrev pub orRefuse : ℕ → Group → Outcome → Outcome
+orRefuse k g o = cond (eqb k 0) o (answering k g)
+
+-- ---- 1 send
+
+abbrev pub sendRefusal : Group → ℕ → ℕ → ℕ → ℕ
+sendRefusal g a b q =
+    need (marked (inUse (cabinet g a)) b) 13
+    (need (isIn (stateOf g a) Normal) 14
+    (need (ltb 0 q) 15
+    (need (leb q (booked (cabinet g a .image))) 16
+    (need (ltb (normals (line g a b)) 8) 17 0))))
+
+unfoldable pub sent : Group → ℕ → ℕ → ℕ → Group
+sent g a b q =
+    withLine (withCabinet g a (sending (cabinet g a) b (record { amount = q }))) a b (put (line g a b) (NormalPacket (record { amount = q })))
+
+unfoldable pub sendStep : Group → ℕ → ℕ → ℕ → Outcome
+sendStep g a b q = orRefuse (sendRefusal g a b q) g (taken (sent g a b q))
+
+-- ---- 2 note
+
+abbrev pub noteRefusal : Group → ℕ → ℕ → ℕ → ℕ
+noteRefusal g a p q = need (isIn (stateOf g a) Normal) 14 (need (leb 2 p && (leb p 31 && leb q 255)) 15 0)
+
+unfoldable pub noteStep : Group → ℕ → ℕ → ℕ → Outcome
+noteStep g a p q =
+    orRefuse (noteRefusal g a p q) g (taken (withCabinet g a (withImage (cabinet g a) (withOctet (cabinet g a .image) p q))))
+
+-- ---- 3 begin
+
+abbrev pub beginRefusal : Group → ℕ → ℕ
+beginRefusal g a = need (isIn (stateOf g a) Normal && eqb (coordinator (cabinet g a)) a) 14 0
+
+unfoldable pub beginStep : Group → ℕ → Outcome
+beginStep g a = orRefuse (beginRefusal g a) g (taken (cutIfAll (join g a) a))
+
+-- ---- 4 deliver
+
+abbrev pub deliverRefusal : Group → ℕ → ℕ → ℕ
+deliverRefusal g a b = need (mark (rowsOf (g .links)) a b) 13 (need (not (isEmpty (oldest (line g a b)))) 18 0)
+
+-- "Over a link struck at b it is dropped."
+unfoldable pub delivered : Group → ℕ → ℕ → Outcome
+delivered g a b =
+    cond (marked (inUse (cabinet g b)) a) (receive g (withLine g a b (rest (line g a b))) a b (oldest (line g a b)))
+    (taken (withLine g a b (rest (line g a b))))
+
+unfoldable pub deliverStep : Group → ℕ → ℕ → Outcome
+deliverStep g a b = orRefuse (deliverRefusal g a b) g (delivered g a b)
+
+-- ---- 5 write
+
+abbrev pub writeRefusal : Group → ℕ → ℕ
+writeRefusal g a =
+    need (isIn (stateOf g a) Checkpointing) 14 (need (not (inRecovery (stateOf g (cabinet g a .home)))) 19 0)
+
+-- "Pieces go to slot 1 − version."
+unfoldable pub writePiece : Group → ℕ → Group
+writePiece g a =
+    withCabinet
+    (withSlot g a (not (bitOf (cabinet g a .phase .version)))
+    (withPiece (cabinet g a .noted .pieces) (cabinet g a .image) (slot g a (not (bitOf (cabinet g a .phase .version))))))
+    a (wrote (cabinet g a) a)
+
+-- with piece 3 "the home then owes one saved report"
+abbrev pub oweIf : Bool → Group → ℕ → ℕ → Group
+oweIf true g h a = withCabinet g h (owing (cabinet g h) a true)
+oweIf false g h a = g
+
+unfoldable pub writeStep : Group → ℕ → Outcome
+writeStep g a =
+    orRefuse (writeRefusal g a) g (taken (oweIf (not (ltb (cabinet g a .noted .pieces) 3)) (writePiece g a) (cabinet g a .home) a))
+
+-- ---- 6 saved
+
+abbrev pub savedRefusal : Group → ℕ → ℕ
+savedRefusal g a =
+    need
+    (marked (cabinet g (cabinet g a .home) .owed) a && inSaving (stateOf g (coordinator (cabinet g (cabinet g a .home)))))
+    19 0
+
+-- the report on a goes from home h to coordinator k
+unfoldable pub reportSaved : Group → ℕ → ℕ → ℕ → Group
+reportSaved g a h k =
+    withCabinet (withCabinet g h (owing (cabinet g h) a false)) k
+    (savedFor (cabinet (withCabinet g h (owing (cabinet g h) a false)) k) a)
+
+-- "When the coordinator has this save's reports for every cabinet in its table": the commit
+unfoldable pub commitIfAll : Group → ℕ → Group
+commitIfAll g k = cond (covers (cabinet g k .noted .saved) (cabinet g k .table .cabinets)) (commit g k) g
+
+unfoldable pub savedStep : Group → ℕ → Outcome
+savedStep g a =
+    orRefuse (savedRefusal g a) g
+    (taken
+    (commitIfAll (reportSaved g a (cabinet g a .home) (coordinator (cabinet g (cabinet g a .home))))
+    (coordinator (cabinet g (cabinet g a .home)))))
+
+-- ---- 7 fetch
+
+abbrev pub fetchRefusal : Group → ℕ → ℕ
+fetchRefusal g a = need (isIn (stateOf g a) Recovering) 14 (need (inRestoring (stateOf g (cabinet g a .home))) 19 0)
+
+-- "from the slot of the home's version"
+unfoldable pub fetchPiece : Group → ℕ → Group
+fetchPiece g a =
+    withCabinet g a
+    (fetched (cabinet g a)
+    (withPiece (cabinet g a .noted .pieces) (slot g a (bitOf (cabinet g (cabinet g a .home) .phase .version))) (cabinet g a .image)))
+
+unfoldable pub fetchStep : Group → ℕ → Outcome
+fetchStep g a = orRefuse (fetchRefusal g a) g (taken (fetchPiece g a))
+
+-- ---- 8 restored
+
+-- not reported already, every neighbour's fault heard, the coordinator ready to note it
+abbrev pub mayReport : Cabinet → Cabinet → ℕ → Bool
+mayReport c k a = not (marked (k .noted .restored) a) && (covers (c .noted .heard) (inUse c) && inRestoring (k .phase .state))
+
+abbrev pub restoredRefusal : Group → ℕ → ℕ
+restoredRefusal g a =
+    need (isIn (stateOf g a) Recovered) 14 (need (mayReport (cabinet g a) (cabinet g (coordinator (cabinet g a))) a) 19 0)
+
+unfoldable pub reportRestored : Group → ℕ → ℕ → Group
+reportRestored g a k = withCabinet g k (restoredFor (cabinet g k) a)
+
+-- "When the coordinator, in recovered, has restored reports from all in its table": the end of the recovery
+unfoldable pub endIfAll : Group → ℕ → Group
+endIfAll g k =
+    cond (isIn (stateOf g k) Recovered && covers (cabinet g k .noted .restored) (cabinet g k .table .cabinets)) (endRecovery g k) g
+
+unfoldable pub restoredStep : Group → ℕ → Outcome
+restoredStep g a =
+    orRefuse (restoredRefusal g a) g
+    (taken (endIfAll (reportRestored g a (coordinator (cabinet g a))) (coordinator (cabinet g a))))
+
+-- ---- 9 wait over
+
+-- the fault is the coordinator as it was before the strike, and a link in use joined the two
+abbrev pub lostCoordinator : Alarm → Cabinet → Bool
+lostCoordinator Quiet c = false
+lostCoordinator (Fault (AtCabinet k)) c = ltb k (coordinator c) && marked (c .table .links) k
+lostCoordinator (Fault (AtLink j k)) c = false
+
+abbrev pub waitOverRefusal : Group → ℕ → ℕ
+waitOverRefusal g a =
+    need (isIn (stateOf g a) Error && lostCoordinator (cabinet g a .phase .alarm) (cabinet g a)) 14
+    (need (covers (unsure g) (working g)) 19 0)
+
+-- "version becomes old and a goes on as if recover had brought it"
+unfoldable pub waitOverStep : Group → ℕ → Outcome
+waitOverStep g a = orRefuse (waitOverRefusal g a) g (taken (recoverWith g a (bitOf (cabinet g a .phase .version))))
+
+-- ---- 10 fail
+
+-- "a store cabinet fails; a cabinet fails .. while some working cabinet is in error, recovering or recovered; .. or at a fail
+-- (the failing one left out) .. some working cabinet is not reached"
+abbrev pub failCrashes : Group → ℕ → Bool
+failCrashes g a =
+    cabinet g a .store || (some (recoveringOnes g) || not (connected (rowsOf (g .sound)) (set (working g) a false)))
+
+unfoldable pub failStep : Group → ℕ → Outcome
+failStep g a = cond (failCrashes g a) (crashed g) (taken (alarmTo 8 (markFailed g a) a))
+
+-- ---- 11 damage (wired into the step entry only together with the proof of demand 3)
+
+-- a normal packet may be hurt once until the receiver's register restarts
+abbrev pub hurtAlready : Group → ℕ → ℕ → Packet → Bool
+hurtAlready g a b p = isNormal p && marked (cabinet g b .registers .hurt) a
+
+abbrev pub damageRefusal : Group → ℕ → ℕ → ℕ → ℕ → ℕ
+damageRefusal g a b p q =
+    need (mark (rowsOf (g .links)) a b) 13
+    (need (not (isEmpty (packetAt (line g a b) p))) 18
+    (need (ltb 0 q) 15
+    (need (not (hurtAlready g a b (packetAt (line g a b) p))) 20 0)))
+
+abbrev pub hurtIf : Bool → Group → ℕ → ℕ → Group
+hurtIf true g a b = withCabinet g b (hurtFrom (cabinet g b) a)
+hurtIf false g a b = g
+
+unfoldable pub hurt : Group → ℕ → ℕ → ℕ → ℕ → Group
+hurt g a b p q =
+    hurtIf (isNormal (packetAt (line g a b) p)) (withLine g a b (replaced (line g a b) p (damaged (packetAt (line g a b) p) q))) a b
+
+-- ".. or damage is done, while some working cabinet is in error, recovering or recovered"
+unfoldable pub damageStep : Group → ℕ → ℕ → ℕ → ℕ → Outcome
+damageStep g a b p q =
+    orRefuse (damageRefusal g a b p q) g (cond (some (recoveringOnes g)) (crashed g) (taken (hurt g a b p q)))

@@ -1,0 +1,6 @@
+-- Document 01 as definitions: the moves, the eleven kinds of step, the step entry and the listing.
+pub mod Moves
+pub mod Receive
+pub mod Kinds
+pub mod Entry
+pub mod Listing

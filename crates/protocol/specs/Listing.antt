@@ -1,0 +1,110 @@
+-- The listing: the whole text that the program prints for a group file and a file of step records.
+use Prim.Native.Nat.{ℕ, zero, suc, _+_, _*_, _/_, _%_}
+use mathlib.Core.Bool.{Bool, true, false, cond}
+use mathlib.Core.List.{List, [], _∷_, _++_}
+use lib.ListN.{length, take, drop}
+use lib.Dec.{eqb, ltb}
+use Rattle.cabinet.specs.declared.State.{State}
+use Rattle.cabinet.specs.declared.State.the-variants.{Failed, Normal, CheckpBegin, Checkpointing, Checkpointed, Error, Recovering, Recovered, Crashed}
+use Rattle.cabinet.specs.declared.Version.{Version}
+use Rattle.cabinet.specs.declared.Version.the-variants.{Known, Unknown}
+use Rattle.cabinet.specs.declared.Cabinet.{Cabinet}
+use Rattle.group.specs.declared.Group.{Group}
+use Rattle.group.specs.declared.Outcome.{Outcome}
+use Rattle.cabinet.specs.Cabinet.{booked}
+use Rattle.group.specs.Group.{cabinet}
+use Rattle.load.specs.Load.{load}
+use Rattle.protocol.specs.Entry.{step}
+
+-- a text is the list of its ASCII octets
+abbrev pub Text : Type 0
+Text = List ℕ
+
+-- ---- words
+
+abbrev space : ℕ
+space = 32
+
+abbrev newline : ℕ
+newline = 10
+
+abbrev pub loadWord : Text
+loadWord = 108 ∷ 111 ∷ 97 ∷ 100 ∷ []
+
+abbrev pub stepWord : Text
+stepWord = 115 ∷ 116 ∷ 101 ∷ 112 ∷ []
+
+abbrev pub cabWord : Text
+cabWord = 99 ∷ 97 ∷ 98 ∷ []
+
+-- the names of the states in 004 III-D, and failed
+abbrev pub stateWord : State → Text
+stateWord Failed = 102 ∷ 97 ∷ 105 ∷ 108 ∷ 101 ∷ 100 ∷ []
+stateWord Normal = 110 ∷ 111 ∷ 114 ∷ 109 ∷ 97 ∷ 108 ∷ []
+stateWord CheckpBegin = 99 ∷ 104 ∷ 101 ∷ 99 ∷ 107 ∷ 112 ∷ 45 ∷ 98 ∷ 101 ∷ 103 ∷ 105 ∷ 110 ∷ []
+stateWord Checkpointing = 99 ∷ 104 ∷ 101 ∷ 99 ∷ 107 ∷ 112 ∷ 111 ∷ 105 ∷ 110 ∷ 116 ∷ 105 ∷ 110 ∷ 103 ∷ []
+stateWord Checkpointed = 99 ∷ 104 ∷ 101 ∷ 99 ∷ 107 ∷ 112 ∷ 111 ∷ 105 ∷ 110 ∷ 116 ∷ 101 ∷ 100 ∷ []
+stateWord Error = 101 ∷ 114 ∷ 114 ∷ 111 ∷ 114 ∷ []
+stateWord Recovering = 114 ∷ 101 ∷ 99 ∷ 111 ∷ 118 ∷ 101 ∷ 114 ∷ 105 ∷ 110 ∷ 103 ∷ []
+stateWord Recovered = 114 ∷ 101 ∷ 99 ∷ 111 ∷ 118 ∷ 101 ∷ 114 ∷ 101 ∷ 100 ∷ []
+stateWord Crashed = 99 ∷ 114 ∷ 97 ∷ 115 ∷ 104 ∷ 101 ∷ 100 ∷ []
+
+-- "version u for unknown"
+abbrev pub versionWord : Version → Text
+versionWord (Known v) = cond v 49 48 ∷ []
+versionWord (Unknown v) = 117 ∷ []
+
+-- ---- numbers in decimal, of at most five digits
+
+abbrev pub digits : ℕ → ℕ → Text
+digits zero n = []
+digits (suc f) n = cond (ltb n 10) ((48 + n) ∷ []) (digits f (n / 10) ++ ((48 + n % 10) ∷ []))
+
+abbrev pub decimal : ℕ → Text
+decimal n = digits 5 n
+
+-- ---- lines
+
+abbrev pub loadLine : ℕ → Text
+loadLine k = loadWord ++ space ∷ decimal k ++ newline ∷ []
+
+abbrev pub stepLine : ℕ → ℕ → Text
+stepLine k answer = stepWord ++ space ∷ decimal k ++ space ∷ decimal answer ++ newline ∷ []
+
+-- the rest of a cabinet's line: `failed` alone, else state, version and booking
+abbrev pub cabRest : State → Cabinet → Text
+cabRest Failed c = stateWord Failed
+cabRest Normal c = stateWord Normal ++ space ∷ versionWord (c .phase .version) ++ space ∷ decimal (booked (c .image))
+cabRest CheckpBegin c = stateWord CheckpBegin ++ space ∷ versionWord (c .phase .version) ++ space ∷ decimal (booked (c .image))
+cabRest Checkpointing c = stateWord Checkpointing ++ space ∷ versionWord (c .phase .version) ++ space ∷ decimal (booked (c .image))
+cabRest Checkpointed c = stateWord Checkpointed ++ space ∷ versionWord (c .phase .version) ++ space ∷ decimal (booked (c .image))
+cabRest Error c = stateWord Error ++ space ∷ versionWord (c .phase .version) ++ space ∷ decimal (booked (c .image))
+cabRest Recovering c = stateWord Recovering ++ space ∷ versionWord (c .phase .version) ++ space ∷ decimal (booked (c .image))
+cabRest Recovered c = stateWord Recovered ++ space ∷ versionWord (c .phase .version) ++ space ∷ decimal (booked (c .image))
+cabRest Crashed c = stateWord Crashed ++ space ∷ versionWord (c .phase .version) ++ space ∷ decimal (booked (c .image))
+
+abbrev pub cabLine : ℕ → Cabinet → Text
+cabLine i c = cabWord ++ space ∷ decimal (i + 1) ++ space ∷ cabRest (c .phase .state) c ++ newline ∷ []
+
+-- the lines of the cabinets below n
+abbrev pub cabLines : ℕ → Group → Text
+cabLines zero g = []
+cabLines (suc n) g = cabLines n g ++ cabLine n (cabinet g n)
+
+-- ---- the run
+
+-- "the first 10,000 records; a short last one counts as a record"
+unfoldable pub records : ℕ → List ℕ → List (List ℕ)
+records zero s = []
+records (suc n) s = cond (eqb (length s) 0) [] (take 6 s ∷ records n (drop 6 s))
+
+-- the steps from number k on, and the cabinets after the last
+unfoldable pub runFrom : ℕ → Group → List (List ℕ) → Text
+runFrom k g [] = cabLines (g .n) g
+runFrom k g (r ∷ rs) = let o = step g r in stepLine k (o .answer) ++ runFrom (suc k) (o .group) rs
+
+abbrev pub listingOf : Outcome → List ℕ → Text
+listingOf o steps = cond (eqb (o .answer) 0) (runFrom 1 (o .group) (records 10000 steps)) (loadLine (o .answer))
+
+unfoldable pub listing : List ℕ → List ℕ → Text
+listing file steps = listingOf (load file) steps

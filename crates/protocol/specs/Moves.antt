@@ -1,0 +1,108 @@
+-- The moves that the rules of document 01 are made of, each once: what several kinds of step or packet have in common.
+use Prim.Native.Nat.{ℕ, zero, suc}
+use mathlib.Core.Bool.{Bool, true, false, cond, not, _&&_}
+use mathlib.Core.List.{List, [], _∷_}
+use lib.ListN.{set}
+use Rattle.marks.specs.Marks.{Marks, marked, covers}
+use Rattle.marks.specs.Reach.{Rows, struck, connected}
+use Rattle.line.specs.declared.Payload.{Payload}
+use Rattle.line.specs.declared.Place.{Place}
+use Rattle.line.specs.declared.Place.the-variants.{Cabinet as AtCabinet}
+use Rattle.line.specs.declared.Packet.{Packet}
+use Rattle.line.specs.declared.Packet.the-variants.{Resume, Recover, Fault}
+use Rattle.line.specs.Packet.{linkPlace}
+use Rattle.line.specs.Line.{emptyLine}
+use Rattle.cabinet.specs.declared.State.the-variants.{Failed}
+use Rattle.cabinet.specs.declared.Version.{Version}
+use Rattle.cabinet.specs.declared.Version.the-variants.{Known, Unknown}
+use Rattle.cabinet.specs.declared.Cabinet.{Cabinet}
+use Rattle.group.specs.declared.Group.{Group}
+use Rattle.group.specs.declared.Outcome.{Outcome}
+use Rattle.cabinet.specs.State.{flipped, adopted, works}
+use Rattle.cabinet.specs.Cabinet.{inUse, beginning, comparing, cutting, resuming, alarmed, hearing, recovering, withState}
+use Rattle.group.specs.Lines.{emptyLines, withLineTo, putAll, putCheckps}
+use Rattle.group.specs.Group.{cabinet, withCabinet, outgoing, withOutgoing, withLine, rowsOf, withSound, working, taken, crashed}
+
+-- a packet on all lines in use of cabinet i
+unfoldable pub broadcast : Group → ℕ → Packet → Group
+broadcast g i p = withOutgoing g i (putAll (inUse (cabinet g i)) p (outgoing g i))
+
+-- ---- saving
+
+-- join: "enters checkp-begin and puts checkp on all lines in use"
+unfoldable pub join : Group → ℕ → Group
+join g i =
+    withCabinet (withOutgoing g i (putCheckps (inUse (cabinet g i)) (cabinet g i .registers .sent) (outgoing g i))) i (beginning (cabinet g i))
+
+-- cut: if the checkps of all neighbours in use have come, the cabinet enters checkpointing
+unfoldable pub cutIfAll : Group → ℕ → Group
+cutIfAll g i = withCabinet g i (cutting (cabinet g i))
+
+-- take checkp: an equal comparison of b with the checkp from a
+unfoldable pub takeCheckp : Group → ℕ → ℕ → Group
+takeCheckp g a b = cutIfAll (withCabinet g b (comparing (cabinet g b) a)) b
+
+-- enter normal with a version, and put resume on all lines in use
+unfoldable pub resumeWith : Group → ℕ → Version → Group
+resumeWith g i v = broadcast (withCabinet g i (resuming (cabinet g i) v)) i Resume
+
+-- commit: "it flips its version, enters normal and puts resume everywhere"
+unfoldable pub commit : Group → ℕ → Group
+commit g k = resumeWith g k (flipped (cabinet g k .phase .version))
+
+-- take a resume in checkpointed: "sets version to 1 − old, enters normal and puts resume on its other lines"
+unfoldable pub adopt : Group → ℕ → ℕ → Group
+adopt g a b =
+    withOutgoing (withCabinet g b (resuming (cabinet g b) (adopted (cabinet g b .phase .version)))) b
+    (putAll (set (inUse (cabinet g b)) a false) Resume (outgoing g b))
+
+-- ---- failing and recovering
+
+-- go on with a known version: "put recover with it and enter recovering"
+unfoldable pub recoverWith : Group → ℕ → Bool → Group
+recoverWith g i v = broadcast (withCabinet g i (recovering (cabinet g i) v)) i (Recover v)
+
+abbrev pub recoverIfKnown : Group → ℕ → Version → Group
+recoverIfKnown g i (Known v) = recoverWith g i v
+recoverIfKnown g i (Unknown v) = g
+
+-- enter error: strike, empty every outgoing line, forget, put fault; "if the version is known, put recover with it"
+unfoldable pub raise : Group → ℕ → Place → Group
+raise g i p = broadcast (withOutgoing (withCabinet g i (alarmed (cabinet g i) i p)) i emptyLines) i (Fault p)
+
+unfoldable pub enterError : Group → ℕ → Place → Group
+enterError g i p = recoverIfKnown (raise g i p) i (cabinet g i .phase .version)
+
+-- hear fault: b has had a's fault packet
+unfoldable pub hear : Group → ℕ → ℕ → Group
+hear g a b = withCabinet g b (hearing (cabinet g b) a)
+
+-- find a link fault at b on the link from a: "(that link left out) some working cabinet is not reached" crashes the group
+unfoldable pub findLinkFault : Group → Group → ℕ → ℕ → Outcome
+findLinkFault before g a b =
+    cond (connected (struck (rowsOf (g .sound)) a b) (working g))
+    (taken (enterError (withSound g (struck (rowsOf (g .sound)) a b)) b (linkPlace a b)))
+    (crashed before)
+
+-- the lines to cabinet a from those below n are emptied
+abbrev pub emptiedTo : ℕ → Group → ℕ → Group
+emptiedTo zero g a = g
+emptiedTo (suc n) g a = withLine (emptiedTo n g a) n a emptyLine
+
+-- mark failed: "A failing cabinet's lines are emptied both ways"
+unfoldable pub markFailed : Group → ℕ → Group
+markFailed g a = emptiedTo 8 (withOutgoing (withCabinet g a (withState (cabinet g a) Failed)) a emptyLines) a
+
+-- ".. and all its neighbours over links in use enter error in the same step"
+abbrev pub enterErrorIf : Bool → Group → ℕ → Place → Group
+enterErrorIf true g i p = enterError g i p
+enterErrorIf false g i p = g
+
+unfoldable pub alarmTo : ℕ → Group → ℕ → Group
+alarmTo zero g a = g
+alarmTo (suc n) g a =
+    enterErrorIf (works (cabinet g n .phase .state) && marked (inUse (cabinet g n)) a) (alarmTo n g a) n (AtCabinet a)
+
+-- end the recovery: "it enters normal and puts resume on all lines in use"; so does a cabinet in recovered on resume
+unfoldable pub endRecovery : Group → ℕ → Group
+endRecovery g i = resumeWith g i (cabinet g i .phase .version)

@@ -1,0 +1,27 @@
+// The steps of a group, and what a step record decodes to.
+// The protocol itself is in specs/: this crate's functions and theorems are about those definitions.
+
+// A step with the fields that its kind uses. Cabinets are numbered from 1, as in the record.
+pub enum Step {
+    Send { a: u8, b: u8, q: u16 },
+    Note { a: u8, p: u8, q: u16 },
+    Begin { a: u8 },
+    Deliver { a: u8, b: u8 },
+    Write { a: u8 },
+    Saved { a: u8 },
+    Fetch { a: u8 },
+    Restored { a: u8 },
+    WaitOver { a: u8 },
+    Fail { a: u8 },
+}
+
+// What six octets, or some other number of them, decode to.
+pub enum Decoded {
+    Malformed,
+    Unused,
+    Taken(Step),
+}
+
+pub fn nothing() -> u8 {
+    0
+}
