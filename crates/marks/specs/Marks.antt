@@ -1,4 +1,5 @@
 -- Eight marks, one for each cabinet: the lowest one marked, those wanted and had, those in both.
+-- `lowest`, `covers` and `both` stay shut unless unfolded, so that a caller's goal names them and does not spell them out.
 use Prim.Native.Nat.{ℕ, zero, suc, _+_}
 use mathlib.Core.List.{List, [], _∷_}
 use mathlib.Core.Bool.{Bool, true, false, cond, not, _&&_, _||_}
@@ -18,7 +19,8 @@ abbrev pub lowestFrom : (ℕ → Bool) → ℕ → ℕ → ℕ
 lowestFrom test zero i = 8
 lowestFrom test (suc n) i = cond (test i) i (lowestFrom test n (i + 1))
 
-abbrev pub lowest : Marks → ℕ
+-- the lowest number marked, 8 where none is
+unfoldable pub lowest : Marks → ℕ
 lowest m = lowestFrom (marked m) 8 0
 
 -- each of the first n that is wanted is had
@@ -26,13 +28,15 @@ abbrev pub coversTo : ℕ → Marks → Marks → Bool
 coversTo zero h w = true
 coversTo (suc n) h w = coversTo n h w && (not (marked w n) || marked h n)
 
-abbrev pub covers : Marks → Marks → Bool
+-- every one of the eight that is wanted is had
+unfoldable pub covers : Marks → Marks → Bool
 covers h w = coversTo 8 h w
 
 -- cabinet i is marked in both
 abbrev pub inBoth : Marks → Marks → ℕ → Bool
 inBoth a b i = marked a i && marked b i
 
-abbrev pub both : Marks → Marks → Marks
+-- the marks that stand in both
+unfoldable pub both : Marks → Marks → Marks
 both a b =
     inBoth a b 0 ∷ inBoth a b 1 ∷ inBoth a b 2 ∷ inBoth a b 3 ∷ inBoth a b 4 ∷ inBoth a b 5 ∷ inBoth a b 6 ∷ inBoth a b 7 ∷ []

@@ -6,9 +6,9 @@ use mathlib.Core.Logic.{⊎-elim}
 use native.Mathlib.Decide.{decLt}
 use native.Mathlib.Nat.{eq-or-lt-of-le}
 use native.Mathlib.Omega.{arith}
-use Rattle.marks.specs.Marks.{Marks, marked, lowestFrom, lowest, coversTo, covers, both, inBoth}
+use Rattle.marks.specs.Marks.{Marks, marked, lowestFrom, lowest, coversTo, covers, both}
 
--- what holds of both answers of a choice holds of the choice
+-- what holds of each answer, given the test, holds of the choice
 pub cond-elim : {A : Type 0} (P : A → Type 0) (b : Bool) (x y : A) → (b ≡ true → P x) → (b ≡ false → P y) → P (cond b x y)
 cond-elim P true x y t f = t refl
 cond-elim P false x y t f = f refl
@@ -23,10 +23,10 @@ true-unless false h = absurd (h refl)
 -- ---- the lowest number that passes a test
 
 module _ (test : ℕ → Bool) where
-  pub lowestFrom-most : (n i : ℕ) → i + n ≡ 8 → lowestFrom test n i ≤ 8
-  lowestFrom-most zero i e = omega arith
-  lowestFrom-most (suc n) i e =
-      cond-elim (λ k. k ≤ 8) (test i) i (lowestFrom test n (i + 1)) (λ t. omega arith) (λ f. lowestFrom-most n (i + 1) (omega arith))
+  pub lowestFrom-le-eight : (n i : ℕ) → i + n ≡ 8 → lowestFrom test n i ≤ 8
+  lowestFrom-le-eight zero i e = omega arith
+  lowestFrom-le-eight (suc n) i e =
+      cond-elim (λ k. k ≤ 8) (test i) i (lowestFrom test n (i + 1)) (λ t. omega arith) (λ f. lowestFrom-le-eight n (i + 1) (omega arith))
 
   pub lowestFrom-passes : (n i : ℕ) → lowestFrom test n i < 8 → test (lowestFrom test n i) ≡ true
   lowestFrom-passes zero i h = absurd (omega arith)
@@ -41,18 +41,21 @@ module _ (test : ℕ → Bool) where
       (λ f l. ⊎-elim (λ q. ap test (sym q) ∙ f) (λ m. lowestFrom-least n (i + 1) (omega arith) k (omega arith) l) (eq-or-lt-of-le from))
       h
 
-pub lowest-most : (m : Marks) → lowest m ≤ 8
-lowest-most m = lowestFrom-most (marked m) 8 0 refl
+pub lowest-le-eight : (m : Marks) → lowest m ≤ 8
+unfolding lowest
+lowest-le-eight m = lowestFrom-le-eight (marked m) 8 0 refl
 
 pub lowest-marked : (m : Marks) → lowest m < 8 → marked m (lowest m) ≡ true
+unfolding lowest
 lowest-marked m h = lowestFrom-passes (marked m) 8 0 h
 
 pub lowest-least : (m : Marks) (k : ℕ) → k < lowest m → marked m k ≡ false
+unfolding lowest
 lowest-least m k h = lowestFrom-least (marked m) 8 0 refl k (omega arith) h
 
 -- no marked one is below the lowest
-pub lowest-below : (m : Marks) (k : ℕ) → marked m k ≡ true → lowest m ≤ k
-lowest-below m k h = go (lowest m) (lowest-least m k)
+pub lowest-le-marked : (m : Marks) (k : ℕ) → marked m k ≡ true → lowest m ≤ k
+lowest-le-marked m k h = go (lowest m) (lowest-least m k)
   where
     go : (l : ℕ) → (k < l → marked m k ≡ false) → l ≤ k
     go l f = elim (decLt k l) [ yes b ↦ absurd (never-both (marked m k) h (f b)) | no b ↦ omega arith ]
@@ -87,14 +90,17 @@ module _ (h w : Marks) where
       (has-coversTo n (λ i l e. f i (omega arith) e), had-wanted (marked w n) (marked h n) (f n (omega arith)))
 
   pub covers-has : covers h w ≡ true → (i : ℕ) → i < 8 → marked w i ≡ true → marked h i ≡ true
+  unfolding covers
   covers-has c = coversTo-has 8 c
 
   pub has-covers : ((i : ℕ) → i < 8 → marked w i ≡ true → marked h i ≡ true) → covers h w ≡ true
+  unfolding covers
   has-covers f = has-coversTo 8 f
 
 -- ---- what stands in both
 
 pub marked-both : (a b : Marks) (i : ℕ) → i < 8 → marked (both a b) i ≡ (marked a i && marked b i)
+unfolding both
 marked-both a b zero h = refl
 marked-both a b (suc zero) h = refl
 marked-both a b (suc (suc zero)) h = refl

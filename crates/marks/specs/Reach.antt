@@ -1,4 +1,5 @@
 -- Rows of marks, one row for each cabinet: a link struck, and who is reached from the lowest working cabinet.
+-- `struck` and `connected` stay shut unless unfolded, as those of Marks do.
 use Prim.Native.Nat.{ℕ, zero, suc}
 use mathlib.Core.List.{List, [], _∷_}
 use mathlib.Core.Bool.{Bool, true, false, cond, not, _&&_, _||_}
@@ -17,8 +18,8 @@ mark rows i j = getD (getD rows i []) j false
 abbrev pub cleared : Rows → ℕ → ℕ → Rows
 cleared rows i j = set rows i (set (getD rows i []) j false)
 
--- the link between a and b is struck, both ways
-abbrev pub struck : Rows → ℕ → ℕ → Rows
+-- the link between a and b is struck, both ways; nothing changes where a number is out of range
+unfoldable pub struck : Rows → ℕ → ℕ → Rows
 struck rows a b = cleared (cleared rows a b) b a
 
 -- one of the first n is seen and has a mark for j
@@ -50,9 +51,10 @@ unseen (false ∷ seen) = suc (unseen seen)
 abbrev pub first : Marks → Marks
 first working = set noMarks (lowest working) true
 
+-- those reached from the lowest working one by stepping from working neighbour to working neighbour
 abbrev pub reached : Rows → Marks → Marks
 reached rows working = spread 8 rows working (first working)
 
 -- every working cabinet is reached from the lowest working one
-abbrev pub connected : Rows → Marks → Bool
+unfoldable pub connected : Rows → Marks → Bool
 connected rows working = covers (reached rows working) working

@@ -1,4 +1,4 @@
--- Laws of the reach check: exactly those are reached that a path over working neighbours leads to. And of a struck link.
+-- Laws of the reach check (exactly those are reached that a path over working neighbours leads to) and of a struck link.
 use Prim.Native.Nat.{ℕ, zero, suc, _≤_, _<_}
 use mathlib.Core.Path.{_≡_, refl, sym, _∙_, ap}
 use mathlib.Core.Bool.{Bool, true, false, cond, not, _&&_, _||_}
@@ -13,7 +13,7 @@ use native.Mathlib.Nat.{eq-or-lt-of-le}
 use native.Mathlib.Omega.{arith}
 use Rattle.marks.specs.Marks.{Marks, marked, noMarks, lowestFrom, lowest}
 use Rattle.marks.specs.Reach.{Rows, mark, cleared, struck, touched, fresh, next, spread, unseen, first, reached, connected}
-use Rattle.marks.specs.MarksLaws.{cond-elim, never-both, true-unless, lowestFrom-passes, lowestFrom-least, lowest-below, covers-has, has-covers}
+use Rattle.marks.specs.MarksLaws.{cond-elim, never-both, true-unless, lowestFrom-passes, lowestFrom-least, lowest-le-marked, covers-has, has-covers}
 
 -- from s to a cabinet by stepping over marks onto working cabinets
 pub data Path (rows : Rows) (working : Marks) (s : ℕ) : ℕ → Type 0 where
@@ -27,11 +27,11 @@ fresh-parts true false touches h = (refl, refl, h)
 fresh-parts true true touches h = absurd (never-both false h refl)
 fresh-parts false seen touches h = absurd (never-both false h refl)
 
-pub fresh-facts : (rows : Rows) (working seen : Marks) (j : ℕ) → fresh rows working seen j ≡ true
+fresh-facts : (rows : Rows) (working seen : Marks) (j : ℕ) → fresh rows working seen j ≡ true
     → (marked working j ≡ true) × (marked seen j ≡ false) × (touched 8 rows seen j ≡ true)
 fresh-facts rows working seen j h = fresh-parts (marked working j) (marked seen j) (touched 8 rows seen j) h
 
--- the next one is fresh, so it is not yet seen, and one fewer is unseen once it is marked
+-- the next one is fresh
 next-facts : (rows : Rows) (working seen : Marks) → next rows working seen < 8
     → (marked working (next rows working seen) ≡ true) × (marked seen (next rows working seen) ≡ false) × (touched 8 rows seen (next rows working seen) ≡ true)
 next-facts rows working seen l =
@@ -79,7 +79,7 @@ set-adds : (seen : Marks) (k j : ℕ) → marked (set seen k true) j ≡ true �
 set-adds seen k j h =
     elim (ℕ-discrete j k) [ yes q ↦ inl q | no d ↦ inr (sym (getD-set-other seen k j true false d) ∙ h) ]
 
-pub one-fewer : (seen : Marks) (j : ℕ) → j < length seen → marked seen j ≡ false → unseen seen ≡ suc (unseen (set seen j true))
+one-fewer : (seen : Marks) (j : ℕ) → j < length seen → marked seen j ≡ false → unseen seen ≡ suc (unseen (set seen j true))
 one-fewer [] j l e = absurd (omega arith)
 one-fewer (false ∷ seen) zero l e = refl
 one-fewer (true ∷ seen) zero l e = absurd (never-both true refl e)
@@ -91,6 +91,7 @@ unseen-most [] = omega arith
 unseen-most (true ∷ seen) = omega (arith, unseen-most seen)
 unseen-most (false ∷ seen) = omega (arith, unseen-most seen)
 
+-- once the next one is marked, one fewer is unseen
 pub next-fewer : (rows : Rows) (working seen : Marks) (j : ℕ) → j ≡ next rows working seen → j < 8 → length seen ≡ 8
     → unseen seen ≡ suc (unseen (set seen j true))
 next-fewer rows working seen j e b l =
@@ -182,12 +183,15 @@ module _ (rows : Rows) (working : Marks) where
       (spread-keeps 8 (first working) (lowest working) (getD-set-same noMarks (lowest working) true false l))
       p .1
 
+  -- the check says yes exactly if every working cabinet has a path from the lowest working one
   pub connected-paths : connected rows working ≡ true → (j : ℕ) → j < 8 → marked working j ≡ true → Path rows working (lowest working) j
+  unfolding connected
   connected-paths c j l w = reached-path j (covers-has (reached rows working) working c j l w)
 
   pub paths-connected : ((j : ℕ) → j < 8 → marked working j ≡ true → Path rows working (lowest working) j) → connected rows working ≡ true
+  unfolding connected
   paths-connected f =
-      has-covers (reached rows working) working (λ j l w. path-reached j (le-lt (lowest-below working j w) l) (f j l w))
+      has-covers (reached rows working) working (λ j l w. path-reached j (le-lt (lowest-le-marked working j w) l) (f j l w))
 
 -- ---- a struck link
 
@@ -231,16 +235,21 @@ cleared-row (row ∷ rows) (suc i) j (suc k) = cleared-row rows i j k
 
 module _ (rows : Rows) (a b : ℕ) where
   pub struck-there : mark (struck rows a b) a b ≡ false
+  unfolding struck
   struck-there = stays-cleared (cleared rows a b) b a a b (cleared-there rows a b)
 
   pub struck-back : mark (struck rows a b) b a ≡ false
+  unfolding struck
   struck-back = cleared-there (cleared rows a b) b a
 
   pub struck-other : (i j : ℕ) → ((i ≡ a) × (j ≡ b) → ⊥) → ((i ≡ b) × (j ≡ a) → ⊥) → mark (struck rows a b) i j ≡ mark rows i j
+  unfolding struck
   struck-other i j d e = cleared-other (cleared rows a b) b a i j e ∙ cleared-other rows a b i j d
 
   pub length-struck : length (struck rows a b) ≡ length rows
+  unfolding struck
   length-struck = simp length-set
 
   pub length-struck-row : (i : ℕ) → length (getD (struck rows a b) i []) ≡ length (getD rows i [])
+  unfolding struck
   length-struck-row i = cleared-row (cleared rows a b) b a i ∙ cleared-row rows a b i

@@ -17,6 +17,7 @@ ghost use Rattle.marks.specs.Reach.{
   connected,
 };
 
+// `and` and `or` are calls, so that they leave no branch in their callers' proofs.
 fn and(a: bool, b: bool) -> bool
     ensures { λ r. ⌜ r ≡ a && b ⌝ }
 {
@@ -32,7 +33,6 @@ fn or(a: bool, b: bool) -> bool
 // The lowest number marked, 8 where none is.
 pub fn lowest(marks: [bool; 8]) -> u8
     ensures { λ r. ⌜ r ≡ lowest marks ⌝ }
-    ensures { λ r. ⌜ r ≤ 8 ⌝ }
 {
     let mut i: u8 = 0;
     while i < 8 {
@@ -163,6 +163,7 @@ fn first(working: [bool; 8]) -> [bool; 8]
     marks
 }
 
+// Those reached from the lowest working one.
 fn reached(rows: [[bool; 8]; 8], working: [bool; 8]) -> [bool; 8]
     ensures { λ r. ⌜ r ≡ reached rows working ⌝ }
 {

@@ -46,11 +46,12 @@ pub +grow-spec : {M : Type 1} → statement M
     (λ c κs.
     let a = c .before .before .args in
     let h : length (a .seen) ≡ 8 = search needs in
-    (omega (arith, next-fewer (a .rows) (a .working) (a .seen) _ (c .before .next .ensures) (c .if1 .taken) h), tt))
+    let l : c .before .next .result < 8 = omega arith in
+    (omega (arith, next-fewer (a .rows) (a .working) (a .seen) _ (c .before .next .ensures) l h), tt))
     (λ c.
     let a = c .before .before .before .args in
     let h : length (a .seen) ≡ 8 = search needs in
+    let l : c .before .before .next .result < 8 = omega arith in
     let e = c .before .before .next .ensures in
-    let l = c .before .if1 .taken in
     more (a .rows) (a .working) (a .seen) _ e _ l (next-fewer (a .rows) (a .working) (a .seen) _ e l h) (c .grow .ensures))
-    (λ c. λ n le. last _ _ _ _ (c .before .next .ensures) (c .if1 .left) n)
+    (λ c. let l : 8 ≤ c .before .next .result = omega arith in λ n le. last _ _ _ _ (c .before .next .ensures) l n)

@@ -1,9 +1,11 @@
 -- `both` makes each mark by one `and`.
 use borrow.Author.Needs.{needs}
+use Rattle.marks.specs.Marks.{both}
 use Rattle.marks.proofs.both.Statement.{statement}
 use Rattle.marks.proofs.both.Tie as tie
 
 pub both-spec : {M : Type 1} → statement M
+unfolding both
 both-spec = tie.close (tie.spec
     (λ c. search needs)
     (λ c. search needs)

@@ -4,7 +4,7 @@ use Prim.Native.Nat.{_≤_, _-_}
 use mathlib.Core.Path.{_≡_, _∙_}
 use native.Mathlib.Omega.{arith}
 use native.Mathlib.Numerals.{add-one}
-use Rattle.marks.specs.Marks.{coversTo}
+use Rattle.marks.specs.Marks.{covers, coversTo}
 use Rattle.marks.proofs.covers.Statement.{statement}
 use Rattle.marks.proofs.covers.Tie as tie
 
@@ -15,6 +15,7 @@ abbrev μ-loop : tie.MeasureT-loop
 μ-loop have want all₀ cabinet₀ all cabinet = 8 - cabinet
 
 pub covers-spec : {M : Type 1} → statement M
+unfolding covers
 covers-spec = tie.close (tie.spec Inv-loop μ-loop
     (λ c. search needs)
     (λ c. search needs)

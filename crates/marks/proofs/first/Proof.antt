@@ -1,8 +1,7 @@
 -- `first` marks nothing where none works, as `set` does past the end.
 use borrow.Author.Needs.{needs}
 use lib.Seq.{set-out}
-use lib.ListN.{replicate}
-use mathlib.Core.Bool.{false, true}
+use mathlib.Core.Bool.{true}
 use Rattle.marks.specs.Marks.{noMarks}
 use Rattle.marks.proofs.first.Statement.{statement}
 use Rattle.marks.proofs.first.Tie as tie
@@ -12,5 +11,5 @@ first-spec = tie.close (tie.spec
     (λ c κs. search needs)
     (λ c. search needs)
     (λ c. search needs)
-    (λ c. rw (← c .before .lowest .ensures .0))
-    (λ c. rw (← c .before .lowest .ensures .0, set-out noMarks (c .before .lowest .result) true (c .if1 .left))))
+    (λ c. rw (← c .before .lowest .ensures))
+    (λ c. rw (← c .before .lowest .ensures, set-out noMarks (c .before .lowest .result) true (c .if1 .left))))

@@ -1,6 +1,6 @@
 -- `next` looks from 0 up: the invariant is that none below j is fresh, said as where the search goes on.
 use borrow.Author.Needs.{needs}
-use Prim.Native.Nat.{ℕ, suc, _≤_, _<_, _-_, _+_}
+use Prim.Native.Nat.{_≤_, _-_}
 use mathlib.Core.Path.{_≡_, sym, _∙_}
 use native.Mathlib.Omega.{arith}
 use Rattle.marks.specs.Marks.{lowestFrom}

@@ -1,6 +1,5 @@
 -- `reached` has enough fuel, since no more than eight are unseen at the start.
 use borrow.Author.Needs.{needs}
-use mathlib.Core.Path.{_≡_}
 use Rattle.marks.specs.ReachLaws.{first-unseen}
 use Rattle.marks.proofs.reached.Statement.{statement}
 use Rattle.marks.proofs.reached.Tie as tie
