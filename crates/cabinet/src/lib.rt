@@ -4,6 +4,66 @@ use line::Check;
 use line::Payload;
 use line::Place;
 ghost use mathlib.Core.Path.{_≡_};
+ghost use mathlib.Core.Bool.{false, cond, _||_};
+ghost use Prim.Native.Nat.{_-_, _*_, _+_, _<_};
+ghost use lib.Dec.{eqb};
+ghost use lib.ListN.{getD, set};
+ghost use Rattle.marks.specs.Marks.{marked, covers};
+ghost use Rattle.line.specs.Packet.{startCheck};
+ghost use Rattle.cabinet.specs.State.{
+  rank,
+  isIn,
+  works,
+  inRecovery,
+  inRestoring,
+  inSaving,
+  isUnknown,
+  bitOf,
+  doubted,
+  flipped,
+  adopted,
+  settled,
+  isFor,
+};
+ghost use Rattle.cabinet.specs.Cabinet.{
+  blankImage,
+  booked,
+  withBooked,
+  withOctet,
+  withPiece,
+  withPhase,
+  withTable,
+  withNoted,
+  withRegisters,
+  withImage,
+  withOwed,
+  withState,
+  withPieces,
+  nothingNoted,
+  startRegisters,
+  absent,
+  inUse,
+  coordinator,
+  struckAt,
+  sending,
+  taking,
+  hurtFrom,
+  restartIf,
+  restartTo,
+  beginning,
+  comparing,
+  cutting,
+  wrote,
+  owing,
+  savedFor,
+  resuming,
+  alarmed,
+  hearing,
+  recovering,
+  fetched,
+  restoredFor,
+  crashing,
+};
 
 // The eight logical states of the 1984 paper, III-D, and failed.
 pub enum State {
@@ -72,4 +132,693 @@ pub struct Cabinet {
     pub home: u8,
     pub store: bool,
     pub owed: [bool; 8],
+}
+
+// ---- states and versions
+
+fn or(a: bool, b: bool) -> bool
+    ensures { λ r. ⌜ r ≡ a || b ⌝ }
+{
+    if a { true } else { b }
+}
+
+// A number for each state, by which states are compared.
+pub fn rank(s: State) -> u8
+    ensures { λ r. ⌜ r ≡ rank s ⌝ }
+{
+    match s {
+        State::Failed => 0,
+        State::Normal => 1,
+        State::CheckpBegin => 2,
+        State::Checkpointing => 3,
+        State::Checkpointed => 4,
+        State::Error => 5,
+        State::Recovering => 6,
+        State::Recovered => 7,
+        State::Crashed => 8,
+    }
+}
+
+pub fn is_in(s: State, t: State) -> bool
+    ensures { λ r. ⌜ r ≡ isIn s t ⌝ }
+{
+    rank(s) == rank(t)
+}
+
+pub fn works(s: State) -> bool
+    ensures { λ r. ⌜ r ≡ works s ⌝ }
+{
+    !is_in(s, State::Failed)
+}
+
+// In error, recovering or recovered.
+pub fn in_recovery(s: State) -> bool
+    ensures { λ r. ⌜ r ≡ inRecovery s ⌝ }
+{
+    or(is_in(s, State::Error), in_restoring(s))
+}
+
+// In recovering or recovered.
+pub fn in_restoring(s: State) -> bool
+    ensures { λ r. ⌜ r ≡ inRestoring s ⌝ }
+{
+    or(is_in(s, State::Recovering), is_in(s, State::Recovered))
+}
+
+// Past the cut of a save: in checkpointing or checkpointed.
+pub fn in_saving(s: State) -> bool
+    ensures { λ r. ⌜ r ≡ inSaving s ⌝ }
+{
+    or(
+        is_in(s, State::Checkpointing),
+        is_in(s, State::Checkpointed),
+    )
+}
+
+pub fn is_unknown(v: Version) -> bool
+    ensures { λ r. ⌜ r ≡ isUnknown v ⌝ }
+{
+    match v {
+        Version::Known(_) => false,
+        Version::Unknown(_) => true,
+    }
+}
+
+// The version, and while it is unknown the old one.
+pub fn bit_of(v: Version) -> bool
+    ensures { λ r. ⌜ r ≡ bitOf v ⌝ }
+{
+    match v {
+        Version::Known(bit) => bit,
+        Version::Unknown(old) => old,
+    }
+}
+
+// The version kept as old and set to unknown.
+pub fn doubted(v: Version) -> Version
+    ensures { λ r. ⌜ r ≡ doubted v ⌝ }
+{
+    match v {
+        Version::Known(bit) => Version::Unknown(bit),
+        Version::Unknown(old) => Version::Unknown(old),
+    }
+}
+
+// The coordinator's version once it commits.
+pub fn flipped(v: Version) -> Version
+    ensures { λ r. ⌜ r ≡ flipped v ⌝ }
+{
+    match v {
+        Version::Known(bit) => Version::Known(!bit),
+        Version::Unknown(old) => Version::Unknown(old),
+    }
+}
+
+// The version once resume is taken in checkpointed.
+pub fn adopted(v: Version) -> Version
+    ensures { λ r. ⌜ r ≡ adopted v ⌝ }
+{
+    match v {
+        Version::Known(bit) => Version::Known(bit),
+        Version::Unknown(old) => Version::Known(!old),
+    }
+}
+
+// The version once the wait is over.
+pub fn settled(v: Version) -> Version
+    ensures { λ r. ⌜ r ≡ settled v ⌝ }
+{
+    match v {
+        Version::Known(bit) => Version::Known(bit),
+        Version::Unknown(old) => Version::Known(old),
+    }
+}
+
+// The fault that was entered error for is at this place.
+pub fn is_for(alarm: Alarm, place: Place) -> bool
+    ensures { λ r. ⌜ r ≡ isFor alarm place ⌝ }
+{
+    match alarm {
+        Alarm::Quiet => false,
+        Alarm::Fault(known) => line::same_place(known, place),
+    }
+}
+
+// ---- marks and registers by number: past the eighth none is marked, and nothing changes
+
+pub fn marked(marks: [bool; 8], j: u8) -> bool
+    ensures { λ r. ⌜ r ≡ marked marks j ⌝ }
+{
+    if j < 8 { marks[j as usize] } else { false }
+}
+
+pub fn set_mark(marks: [bool; 8], j: u8, mark: bool) -> [bool; 8]
+    ensures { λ r. ⌜ r ≡ set marks j mark ⌝ }
+{
+    let mut changed = marks;
+    if j < 8 {
+        changed[j as usize] = mark;
+    }
+    changed
+}
+
+pub fn check_at(checks: [Check; 8], j: u8) -> Check
+    ensures { λ r. ⌜ r ≡ getD checks j startCheck ⌝ }
+{
+    if j < 8 {
+        checks[j as usize]
+    } else {
+        Check::start()
+    }
+}
+
+fn set_check(checks: [Check; 8], j: u8, check: Check) -> [Check; 8]
+    ensures { λ r. ⌜ r ≡ set checks j check ⌝ }
+{
+    let mut changed = checks;
+    if j < 8 {
+        changed[j as usize] = check;
+    }
+    changed
+}
+
+fn restart_if(restart: bool, checks: [Check; 8], j: u8) -> [Check; 8]
+    ensures { λ r. ⌜ r ≡ restartIf restart checks j ⌝ }
+{
+    if restart {
+        set_check(checks, j, Check::start())
+    } else {
+        checks
+    }
+}
+
+// The registers of the marked lines restart.
+fn restarted(marks: [bool; 8], checks: [Check; 8]) -> [Check; 8]
+    ensures { λ r. ⌜ r ≡ restartTo 8 marks checks ⌝ }
+{
+    let mut left = checks;
+    let mut j: u8 = 0;
+    while j < 8 {
+        let next = restart_if(marked(marks, j), left, j);
+        left = next;
+        j += 1;
+    }
+    left
+}
+
+// ---- images
+
+fn wide(octet: u8) -> u16
+    ensures { λ r. ⌜ (r ≡ octet) × (r < 256) ⌝ }
+{
+    octet as u16
+}
+
+fn minus(x: u16, y: u16) -> u16
+    ensures { λ r. ⌜ r ≡ x - y ⌝ }
+{
+    if y <= x { x - y } else { 0 }
+}
+
+impl Image {
+    pub fn blank() -> Image
+        ensures { λ r. ⌜ r ≡ blankImage ⌝ }
+    {
+        Image { octets: [0; 32] }
+    }
+
+    // The booking in amperes.
+    pub fn booked(self) -> u16
+        ensures { λ r. ⌜ r ≡ booked self ⌝ }
+    {
+        let high = wide(self.octets[0]);
+        let low = wide(self.octets[1]);
+        high * 256 + low
+    }
+
+    pub fn with_booked(self, amount: u16) -> Image
+        ensures { λ r. ⌜ r ≡ withBooked self amount ⌝ }
+    {
+        let mut image = self;
+        let high = (amount / 256) as u8;
+        let low = (amount % 256) as u8;
+        image.octets[0] = high;
+        image.octets[1] = low;
+        image
+    }
+
+    pub fn with_octet(self, p: u8, octet: u8) -> Image
+        ensures { λ r. ⌜ r ≡ withOctet self p octet ⌝ }
+    {
+        let mut image = self;
+        if p < 32 {
+            image.octets[p as usize] = octet;
+        }
+        image
+    }
+
+    // Octet n of piece k, from another image.
+    fn with_octet_from(self, k: u8, n: usize, from: Image) -> Image
+        requires { ⌜ n < 8 ⌝ }
+        ensures { λ r. ⌜ r ≡ withOctet self (k * 8 + n) (getD (from .octets) (k * 8 + n) 0) ⌝ }
+    {
+        let mut image = self;
+        let place = (k as usize) * 8 + n;
+        if place < 32 {
+            let octet = from.octets[place];
+            image.octets[place] = octet;
+        }
+        image
+    }
+
+    // Piece k, from another image.
+    pub fn with_piece(self, k: u8, from: Image) -> Image
+        ensures { λ r. ⌜ r ≡ withPiece k from self ⌝ }
+    {
+        let mut to = self;
+        let mut n = 0;
+        while n < 8 {
+            to = to.with_octet_from(k, n, from);
+            n += 1;
+        }
+        to
+    }
+}
+
+// ---- a table with a place struck
+
+// The links of cabinet i without that between a and b, where i is an end of it.
+fn without_link(links: [bool; 8], i: u8, a: u8, b: u8) -> [bool; 8]
+    ensures { λ r. ⌜ r ≡ cond (eqb i a) (set links b false) (cond (eqb i b) (set links a false) links) ⌝ }
+{
+    if i == a {
+        return set_mark(links, b, false);
+    }
+    if i == b {
+        return set_mark(links, a, false);
+    }
+    links
+}
+
+// The place struck from the table of cabinet i: a cabinet, or i's own end of a link.
+pub fn struck_at(i: u8, place: Place, table: Table) -> Table
+    ensures { λ r. ⌜ r ≡ struckAt i place table ⌝ }
+{
+    let cabinets = table.cabinets;
+    let links = table.links;
+    match place {
+        Place::Cabinet(a) => Table {
+            cabinets: set_mark(cabinets, a, false),
+            links: links,
+        },
+        Place::Link(a, b) => Table {
+            cabinets: cabinets,
+            links: without_link(links, i, a, b),
+        },
+    }
+}
+
+// ---- starting values
+
+// What is noted before a save or a recovery.
+pub fn nothing_noted() -> Noted
+    ensures { λ r. ⌜ r ≡ nothingNoted ⌝ }
+{
+    Noted {
+        come: [false; 8],
+        pieces: 0,
+        saved: [false; 8],
+        restored: [false; 8],
+        heard: [false; 8],
+    }
+}
+
+pub fn start_registers() -> Registers
+    ensures { λ r. ⌜ r ≡ startRegisters ⌝ }
+{
+    let start = Check::start();
+    Registers {
+        sent: [start; 8],
+        taken: [start; 8],
+        hurt: [false; 8],
+    }
+}
+
+impl Cabinet {
+    // What stands at the numbers past n: a cabinet that does not work.
+    pub fn absent() -> Cabinet
+        ensures { λ r. ⌜ r ≡ absent ⌝ }
+    {
+        Cabinet {
+            phase: Phase {
+                state: State::Failed,
+                version: Version::Known(false),
+                alarm: Alarm::Quiet,
+            },
+            table: Table {
+                cabinets: [false; 8],
+                links: [false; 8],
+            },
+            noted: nothing_noted(),
+            registers: start_registers(),
+            image: Image::blank(),
+            home: 0,
+            store: false,
+            owed: [false; 8],
+        }
+    }
+
+    // ---- one part replaced
+
+    fn with_phase(self, phase: Phase) -> Cabinet
+        ensures { λ r. ⌜ r ≡ withPhase self phase ⌝ }
+    {
+        let mut c = self;
+        c.phase = phase;
+        c
+    }
+
+    fn with_table(self, table: Table) -> Cabinet
+        ensures { λ r. ⌜ r ≡ withTable self table ⌝ }
+    {
+        let mut c = self;
+        c.table = table;
+        c
+    }
+
+    fn with_noted(self, noted: Noted) -> Cabinet
+        ensures { λ r. ⌜ r ≡ withNoted self noted ⌝ }
+    {
+        let mut c = self;
+        c.noted = noted;
+        c
+    }
+
+    fn with_registers(self, registers: Registers) -> Cabinet
+        ensures { λ r. ⌜ r ≡ withRegisters self registers ⌝ }
+    {
+        let mut c = self;
+        c.registers = registers;
+        c
+    }
+
+    pub fn with_image(self, image: Image) -> Cabinet
+        ensures { λ r. ⌜ r ≡ withImage self image ⌝ }
+    {
+        let mut c = self;
+        c.image = image;
+        c
+    }
+
+    fn with_owed(self, owed: [bool; 8]) -> Cabinet
+        ensures { λ r. ⌜ r ≡ withOwed self owed ⌝ }
+    {
+        let mut c = self;
+        c.owed = owed;
+        c
+    }
+
+    pub fn with_state(self, state: State) -> Cabinet
+        ensures { λ r. ⌜ r ≡ withState self state ⌝ }
+    {
+        let phase = self.phase;
+        let version = phase.version;
+        let alarm = phase.alarm;
+        let phase = Phase {
+            state: state,
+            version: version,
+            alarm: alarm,
+        };
+        self.with_phase(phase)
+    }
+
+    fn with_pieces(self, pieces: u8) -> Cabinet
+        ensures { λ r. ⌜ r ≡ withPieces self pieces ⌝ }
+    {
+        let mut noted = self.noted;
+        noted.pieces = pieces;
+        self.with_noted(noted)
+    }
+
+    // ---- what its table says
+
+    // The neighbours over links in use: the table has the link and the cabinet.
+    pub fn in_use(self) -> [bool; 8]
+        ensures { λ r. ⌜ r ≡ inUse self ⌝ }
+    {
+        let table = self.table;
+        let links = table.links;
+        let cabinets = table.cabinets;
+        marks::both(links, cabinets)
+    }
+
+    // The lowest-numbered cabinet in use, 8 where none is.
+    pub fn coordinator(self) -> u8
+        ensures { λ r. ⌜ r ≡ coordinator self ⌝ }
+    {
+        let table = self.table;
+        let cabinets = table.cabinets;
+        marks::lowest(cabinets)
+    }
+
+    // ---- normal packets
+
+    // A send to j taken: the amount leaves the booking, and the sender's register runs over the packet.
+    pub fn sending(self, j: u8, p: Payload) -> Cabinet
+        ensures { λ r. ⌜ r ≡ sending self j p ⌝ }
+    {
+        let mut registers = self.registers;
+        let sent = registers.sent;
+        let check = check_at(sent, j).step(p);
+        let sent = set_check(sent, j, check);
+        registers.sent = sent;
+        let image = self.image;
+        let left = minus(image.booked(), p.amount);
+        self.with_registers(registers)
+            .with_image(image.with_booked(left))
+    }
+
+    // The amount of a packet from j added modulo 65,536, and the receiver's register runs over the packet.
+    pub fn taking(self, j: u8, p: Payload) -> Cabinet
+        ensures { λ r. ⌜ r ≡ taking self j p ⌝ }
+    {
+        let mut registers = self.registers;
+        let taken = registers.taken;
+        let check = check_at(taken, j).step(p);
+        let taken = set_check(taken, j, check);
+        registers.taken = taken;
+        let image = self.image;
+        let more = std::num::wrapping_add_u16(image.booked(), p.amount);
+        self.with_registers(registers)
+            .with_image(image.with_booked(more))
+    }
+
+    // A normal packet of the line from j was hurt.
+    pub fn hurt_from(self, j: u8) -> Cabinet
+        ensures { λ r. ⌜ r ≡ hurtFrom self j ⌝ }
+    {
+        let mut registers = self.registers;
+        let hurt = registers.hurt;
+        let hurt = set_mark(hurt, j, true);
+        registers.hurt = hurt;
+        self.with_registers(registers)
+    }
+
+    // ---- saving
+
+    // Enters checkp-begin, once its checkps are put on all lines in use, whose registers restart.
+    pub fn beginning(self) -> Cabinet
+        ensures { λ r. ⌜ r ≡ beginning self ⌝ }
+    {
+        let mut registers = self.registers;
+        let sent = registers.sent;
+        let sent = restarted(self.in_use(), sent);
+        registers.sent = sent;
+        self.with_state(State::CheckpBegin)
+            .with_registers(registers)
+            .with_noted(nothing_noted())
+    }
+
+    // An equal comparison with the checkp from j: it has come, and the receiver's register restarts.
+    pub fn comparing(self, j: u8) -> Cabinet
+        ensures { λ r. ⌜ r ≡ comparing self j ⌝ }
+    {
+        let mut registers = self.registers;
+        let taken = registers.taken;
+        let taken = set_check(taken, j, Check::start());
+        registers.taken = taken;
+        let hurt = registers.hurt;
+        let hurt = set_mark(hurt, j, false);
+        registers.hurt = hurt;
+        let mut noted = self.noted;
+        let come = noted.come;
+        let come = set_mark(come, j, true);
+        noted.come = come;
+        self.with_registers(registers).with_noted(noted)
+    }
+
+    // The checkps of all neighbours in use have come.
+    fn all_come(self) -> bool
+        ensures { λ r. ⌜ r ≡ covers (self .noted .come) (inUse self) ⌝ }
+    {
+        let noted = self.noted;
+        let come = noted.come;
+        marks::covers(come, self.in_use())
+    }
+
+    // Enters checkpointing once the checkps of all neighbours in use have come: its cut.
+    pub fn cutting(self) -> Cabinet
+        ensures { λ r. ⌜ r ≡ cutting self ⌝ }
+    {
+        if self.all_come() {
+            self.with_state(State::Checkpointing)
+        } else {
+            self
+        }
+    }
+
+    // The version of cabinet i once its pieces are saved: all but the coordinator keep it as old.
+    fn version_saved(self, i: u8) -> Version
+        ensures { λ r. ⌜ r ≡ cond (eqb (coordinator self) i) (self .phase .version) (doubted (self .phase .version)) ⌝ }
+    {
+        let phase = self.phase;
+        let version = phase.version;
+        if self.coordinator() == i {
+            version
+        } else {
+            doubted(version)
+        }
+    }
+
+    // Cabinet i has written one piece more; with piece 3 it enters checkpointed.
+    pub fn wrote(self, i: u8) -> Cabinet
+        ensures { λ r. ⌜ r ≡ wrote self i ⌝ }
+    {
+        let noted = self.noted;
+        if noted.pieces < 3 {
+            return self.with_pieces(noted.pieces + 1);
+        }
+        let phase = self.phase;
+        let version = self.version_saved(i);
+        let alarm = phase.alarm;
+        let phase = Phase {
+            state: State::Checkpointed,
+            version: version,
+            alarm: alarm,
+        };
+        self.with_phase(phase).with_pieces(4)
+    }
+
+    // A home owes the saved report on j, or has made it.
+    pub fn owing(self, j: u8, owes: bool) -> Cabinet
+        ensures { λ r. ⌜ r ≡ owing self j owes ⌝ }
+    {
+        let owed = self.owed;
+        self.with_owed(set_mark(owed, j, owes))
+    }
+
+    // The coordinator has the saved report on j.
+    pub fn saved_for(self, j: u8) -> Cabinet
+        ensures { λ r. ⌜ r ≡ savedFor self j ⌝ }
+    {
+        let mut noted = self.noted;
+        let saved = noted.saved;
+        let saved = set_mark(saved, j, true);
+        noted.saved = saved;
+        self.with_noted(noted)
+    }
+
+    // Enters normal with a version; nothing is noted any more.
+    pub fn resuming(self, version: Version) -> Cabinet
+        ensures { λ r. ⌜ r ≡ resuming self version ⌝ }
+    {
+        let phase = Phase {
+            state: State::Normal,
+            version: version,
+            alarm: Alarm::Quiet,
+        };
+        self.with_phase(phase).with_noted(nothing_noted())
+    }
+
+    // ---- failing and recovering
+
+    // Cabinet i enters error for a place: struck from the table, and all that was noted or owed is forgotten.
+    pub fn alarmed(self, i: u8, place: Place) -> Cabinet
+        ensures { λ r. ⌜ r ≡ alarmed self i place ⌝ }
+    {
+        let phase = self.phase;
+        let version = phase.version;
+        let phase = Phase {
+            state: State::Error,
+            version: version,
+            alarm: Alarm::Fault(place),
+        };
+        let table = self.table;
+        let table = struck_at(i, place, table);
+        let c = self.with_phase(phase)
+            .with_table(table)
+            .with_noted(nothing_noted());
+        c.with_owed([false; 8])
+    }
+
+    // The fault packet of neighbour j has come.
+    pub fn hearing(self, j: u8) -> Cabinet
+        ensures { λ r. ⌜ r ≡ hearing self j ⌝ }
+    {
+        let mut noted = self.noted;
+        let heard = noted.heard;
+        let heard = set_mark(heard, j, true);
+        noted.heard = heard;
+        self.with_noted(noted)
+    }
+
+    // Enters recovering with a known version.
+    pub fn recovering(self, bit: bool) -> Cabinet
+        ensures { λ r. ⌜ r ≡ recovering self bit ⌝ }
+    {
+        let phase = self.phase;
+        let alarm = phase.alarm;
+        let phase = Phase {
+            state: State::Recovering,
+            version: Version::Known(bit),
+            alarm: alarm,
+        };
+        self.with_phase(phase)
+    }
+
+    // One piece more is fetched; with piece 3 it enters recovered, and all its registers restart.
+    pub fn fetched(self, image: Image) -> Cabinet
+        ensures { λ r. ⌜ r ≡ fetched self image ⌝ }
+    {
+        let noted = self.noted;
+        if noted.pieces < 3 {
+            return self.with_pieces(noted.pieces + 1).with_image(image);
+        }
+        let c = self.with_state(State::Recovered).with_pieces(4);
+        c.with_registers(start_registers()).with_image(image)
+    }
+
+    // The coordinator has the restored report of j.
+    pub fn restored_for(self, j: u8) -> Cabinet
+        ensures { λ r. ⌜ r ≡ restoredFor self j ⌝ }
+    {
+        let mut noted = self.noted;
+        let restored = noted.restored;
+        let restored = set_mark(restored, j, true);
+        noted.restored = restored;
+        self.with_noted(noted)
+    }
+
+    // A crash of the group puts every working cabinet in crashed.
+    pub fn crashing(self) -> Cabinet
+        ensures { λ r. ⌜ r ≡ crashing self ⌝ }
+    {
+        let phase = self.phase;
+        let state = phase.state;
+        if works(state) {
+            self.with_state(State::Crashed)
+        } else {
+            self
+        }
+    }
 }

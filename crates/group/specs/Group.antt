@@ -1,4 +1,5 @@
 -- The whole group: one accessor and one store function for each component, and what is asked of all cabinets at once.
+-- Those marked `unfoldable` stay shut unless unfolded, so that a caller's goal names them and does not spell them out.
 use Prim.Native.Nat.{ℕ, zero, suc}
 use mathlib.Core.Bool.{Bool, true, false, cond, _&&_}
 use mathlib.Core.List.{List, [], _∷_}
@@ -23,10 +24,10 @@ use Rattle.group.specs.Lines.{emptyLines, lineTo, withLineTo}
 
 -- ---- cabinets
 
-abbrev pub cabinet : Group → ℕ → Cabinet
+unfoldable pub cabinet : Group → ℕ → Cabinet
 cabinet g i = getD (g .cabinets) i absent
 
-abbrev pub withCabinet : Group → ℕ → Cabinet → Group
+unfoldable pub withCabinet : Group → ℕ → Cabinet → Group
 withCabinet g i c = record { n = g .n; cabinets = set (g .cabinets) i c; links = g .links; sound = g .sound; outgoing = g .outgoing; store = g .store }
 
 abbrev pub stateOf : Group → ℕ → State
@@ -34,31 +35,31 @@ stateOf g i = cabinet g i .phase .state
 
 -- ---- lines
 
-abbrev pub outgoing : Group → ℕ → Outgoing
+unfoldable pub outgoing : Group → ℕ → Outgoing
 outgoing g i = getD (g .outgoing) i emptyLines
 
-abbrev pub withOutgoing : Group → ℕ → Outgoing → Group
+unfoldable pub withOutgoing : Group → ℕ → Outgoing → Group
 withOutgoing g i o = record { n = g .n; cabinets = g .cabinets; links = g .links; sound = g .sound; outgoing = set (g .outgoing) i o; store = g .store }
 
 -- the line from a to b
-abbrev pub line : Group → ℕ → ℕ → Line
+unfoldable pub line : Group → ℕ → ℕ → Line
 line g a b = lineTo (outgoing g a) b
 
-abbrev pub withLine : Group → ℕ → ℕ → Line → Group
+unfoldable pub withLine : Group → ℕ → ℕ → Line → Group
 withLine g a b l = withOutgoing g a (withLineTo (outgoing g a) b l)
 
 -- ---- the store: slot 0 and slot 1 of each cabinet
 
-abbrev pub blankSlots : Slots
+unfoldable pub blankSlots : Slots
 blankSlots = record { zero = blankImage; one = blankImage }
 
-abbrev pub slot : Group → ℕ → Bool → Image
+unfoldable pub slot : Group → ℕ → Bool → Image
 slot g i v = cond v (getD (g .store) i blankSlots .one) (getD (g .store) i blankSlots .zero)
 
-abbrev pub withSlots : Group → ℕ → Slots → Group
+unfoldable pub withSlots : Group → ℕ → Slots → Group
 withSlots g i s = record { n = g .n; cabinets = g .cabinets; links = g .links; sound = g .sound; outgoing = g .outgoing; store = set (g .store) i s }
 
-abbrev pub withSlot : Group → ℕ → Bool → Image → Group
+unfoldable pub withSlot : Group → ℕ → Bool → Image → Group
 withSlot g i v m =
     withSlots g i
     (cond v (record { zero = getD (g .store) i blankSlots .zero; one = m }) (record { zero = m; one = getD (g .store) i blankSlots .one }))
@@ -68,7 +69,7 @@ withSlot g i v m =
 abbrev pub noRow : Row
 noRow = record { marks = noMarks }
 
-abbrev pub rowsOf : List Row → Rows
+unfoldable pub rowsOf : List Row → Rows
 rowsOf rs =
     getD rs 0 noRow .marks ∷ getD rs 1 noRow .marks ∷ getD rs 2 noRow .marks ∷ getD rs 3 noRow .marks ∷ getD rs 4 noRow .marks
     ∷ getD rs 5 noRow .marks ∷ getD rs 6 noRow .marks ∷ getD rs 7 noRow .marks ∷ []
@@ -76,10 +77,10 @@ rowsOf rs =
 abbrev pub rowAt : Rows → ℕ → Row
 rowAt rs i = record { marks = getD rs i noMarks }
 
-abbrev pub ofRows : Rows → List Row
+unfoldable pub ofRows : Rows → List Row
 ofRows rs = rowAt rs 0 ∷ rowAt rs 1 ∷ rowAt rs 2 ∷ rowAt rs 3 ∷ rowAt rs 4 ∷ rowAt rs 5 ∷ rowAt rs 6 ∷ rowAt rs 7 ∷ []
 
-abbrev pub withSound : Group → Rows → Group
+unfoldable pub withSound : Group → Rows → Group
 withSound g rs = record { n = g .n; cabinets = g .cabinets; links = g .links; sound = ofRows rs; outgoing = g .outgoing; store = g .store }
 
 -- ---- asked of all cabinets
@@ -90,21 +91,21 @@ those f g =
     f (cabinet g 0) ∷ f (cabinet g 1) ∷ f (cabinet g 2) ∷ f (cabinet g 3) ∷ f (cabinet g 4) ∷ f (cabinet g 5) ∷ f (cabinet g 6)
     ∷ f (cabinet g 7) ∷ []
 
-abbrev pub some : Marks → Bool
+unfoldable pub some : Marks → Bool
 some m = ltb (lowest m) 8
 
-abbrev pub working : Group → Marks
+unfoldable pub working : Group → Marks
 working g = those (λ c. works (c .phase .state)) g
 
 -- those in error, recovering or recovered
-abbrev pub recoveringOnes : Group → Marks
+unfoldable pub recoveringOnes : Group → Marks
 recoveringOnes g = those (λ c. inRecovery (c .phase .state)) g
 
 -- those in error with unknown version
-abbrev pub unsure : Group → Marks
+unfoldable pub unsure : Group → Marks
 unsure g = those (λ c. isIn (c .phase .state) Error && isUnknown (c .phase .version)) g
 
-abbrev pub isCrashed : Group → Bool
+unfoldable pub isCrashed : Group → Bool
 isCrashed g = some (those (λ c. isIn (c .phase .state) Crashed) g)
 
 -- ---- answers
@@ -116,7 +117,7 @@ answering k g = record { answer = k; group = g }
 abbrev pub taken : Group → Outcome
 taken g = answering 0 g
 
-abbrev pub crashAll : Group → Group
+unfoldable pub crashAll : Group → Group
 crashAll g = record {
   n = g .n;
   cabinets = crashing (cabinet g 0) ∷ crashing (cabinet g 1) ∷ crashing (cabinet g 2) ∷ crashing (cabinet g 3) ∷ crashing (cabinet g 4)

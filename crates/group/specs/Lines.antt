@@ -1,4 +1,5 @@
 -- A cabinet's outgoing lines: one of them read or replaced, and packets put on several at once.
+-- Those marked `unfoldable` stay shut unless unfolded, as those of Group do.
 use Prim.Native.Nat.{ℕ, zero, suc}
 use mathlib.Core.Bool.{Bool, true, false}
 use mathlib.Core.List.{List, [], _∷_}
@@ -13,13 +14,13 @@ use Rattle.line.specs.Packet.{startCheck}
 use Rattle.line.specs.Line.{emptyCell, emptyLine, put}
 use Rattle.group.specs.declared.Outgoing.{Outgoing}
 
-abbrev pub emptyLines : Outgoing
+unfoldable pub emptyLines : Outgoing
 emptyLines = record { lines = replicate 8 emptyLine }
 
-abbrev pub lineTo : Outgoing → ℕ → Line
+unfoldable pub lineTo : Outgoing → ℕ → Line
 lineTo o j = getD (o .lines) j emptyLine
 
-abbrev pub withLineTo : Outgoing → ℕ → Line → Outgoing
+unfoldable pub withLineTo : Outgoing → ℕ → Line → Outgoing
 withLineTo o j l = record { lines = set (o .lines) j l }
 
 -- a packet on the line to j, if it is asked for
@@ -33,7 +34,7 @@ putRowTo zero m ps o = o
 putRowTo (suc n) m ps o = putIf (marked m n) (putRowTo n m ps o) n (getD ps n emptyCell .packet)
 
 -- one packet on all marked lines
-abbrev pub putAll : Marks → Packet → Outgoing → Outgoing
+unfoldable pub putAll : Marks → Packet → Outgoing → Outgoing
 putAll m p o = putRowTo 8 m (replicate 8 (record { packet = p })) o
 
 -- on each marked line a checkp with that line's register
@@ -45,5 +46,5 @@ checkps rs =
     checkpCell rs 0 ∷ checkpCell rs 1 ∷ checkpCell rs 2 ∷ checkpCell rs 3 ∷ checkpCell rs 4 ∷ checkpCell rs 5 ∷ checkpCell rs 6
     ∷ checkpCell rs 7 ∷ []
 
-abbrev pub putCheckps : Marks → List Check → Outgoing → Outgoing
+unfoldable pub putCheckps : Marks → List Check → Outgoing → Outgoing
 putCheckps m rs o = putRowTo 8 m (checkps rs) o

@@ -2,8 +2,20 @@
 // Cabinets are numbered 0 to 7 here: a cabinet's number in a file or a record, less one.
 use cabinet::Cabinet;
 use cabinet::Image;
+use cabinet::State;
+use line::Cell;
+use line::Check;
 use line::Line;
+use line::Packet;
 ghost use mathlib.Core.Path.{_≡_};
+ghost use mathlib.Core.Bool.{cond, _&&_};
+ghost use lib.ListN.{getD};
+ghost use Rattle.cabinet.specs.declared.State.the-variants.{Error, Crashed};
+ghost use Rattle.cabinet.specs.State.{works, isIn, inRecovery, isUnknown};
+ghost use Rattle.cabinet.specs.Cabinet.{crashing};
+ghost use Rattle.line.specs.declared.Packet.the-variants.{Checkp};
+ghost use Rattle.group.specs.Lines.{emptyLines, lineTo, withLineTo, putIf, putRowTo, putAll, checkps, putCheckps};
+ghost use Rattle.group.specs.Group.{cabinet, withCabinet, stateOf, outgoing, withOutgoing, line, withLine, blankSlots, slot, withSlots, withSlot, rowsOf, ofRows, withSound, those, some, working, recoveringOnes, unsure, isCrashed, answering, taken, crashAll, crashed};
 
 // One row of eight marks for a cabinet: its links.
 pub struct Row {
@@ -35,4 +47,456 @@ pub struct Group {
 pub struct Outcome {
     pub answer: u8,
     pub group: Group,
+}
+
+impl Outgoing {
+    pub fn empty() -> Outgoing
+        ensures { λ r. ⌜ r ≡ emptyLines ⌝ }
+    {
+        let line = Line::empty();
+        Outgoing { lines: [line; 8] }
+    }
+
+    pub fn line_to(self, j: u8) -> Line
+        ensures { λ r. ⌜ r ≡ lineTo self j ⌝ }
+    {
+        let k = j as usize;
+        if k < 8 { self.lines[k] } else { Line::empty() }
+    }
+
+    pub fn with_line_to(self, j: u8, l: Line) -> Outgoing
+        ensures { λ r. ⌜ r ≡ withLineTo self j l ⌝ }
+    {
+        let k = j as usize;
+        let mut o = self;
+        if k < 8 {
+            o.lines[k] = l;
+        }
+        o
+    }
+
+    fn put_if(self, asked: bool, j: u8, p: Packet) -> Outgoing
+        ensures { λ r. ⌜ r ≡ putIf asked self j p ⌝ }
+    {
+        if asked {
+            self.with_line_to(j, self.line_to(j).put(p))
+        } else {
+            self
+        }
+    }
+
+    // On each marked line its packet of the row.
+    fn put_row(self, marks: [bool; 8], row: [Cell; 8]) -> Outgoing
+        ensures { λ r. ⌜ r ≡ putRowTo 8 marks row self ⌝ }
+    {
+        let mut o = self;
+        let mut j: u8 = 0;
+        while j < 8 {
+            let k = j as usize;
+            let c = row[k];
+            let p = c.packet;
+            o = o.put_if(marks[k], j, p);
+            j += 1;
+        }
+        o
+    }
+
+    pub fn put_all(self, marks: [bool; 8], p: Packet) -> Outgoing
+        ensures { λ r. ⌜ r ≡ putAll marks p self ⌝ }
+    {
+        self.put_row(marks, [Cell { packet: p }; 8])
+    }
+
+    // On each marked line a checkp with that line's register.
+    pub fn put_checkps(self, marks: [bool; 8], registers: [Check; 8]) -> Outgoing
+        ensures { λ r. ⌜ r ≡ putCheckps marks registers self ⌝ }
+    {
+        self.put_row(marks, checkps(registers))
+    }
+}
+
+fn checkp_cell(c: Check) -> Cell
+    ensures { λ r. ⌜ r ≡ record { packet = Checkp c } ⌝ }
+{
+    Cell {
+        packet: Packet::Checkp(c),
+    }
+}
+
+fn checkps(registers: [Check; 8]) -> [Cell; 8]
+    ensures { λ r. ⌜ r ≡ checkps registers ⌝ }
+{
+    [
+        checkp_cell(registers[0]),
+        checkp_cell(registers[1]),
+        checkp_cell(registers[2]),
+        checkp_cell(registers[3]),
+        checkp_cell(registers[4]),
+        checkp_cell(registers[5]),
+        checkp_cell(registers[6]),
+        checkp_cell(registers[7]),
+    ]
+}
+
+fn marks_of(row: Row) -> [bool; 8]
+    ensures { λ r. ⌜ r ≡ row .marks ⌝ }
+{
+    row.marks
+}
+
+// The rows as the reach check takes them.
+fn rows_of(rows: [Row; 8]) -> [[bool; 8]; 8]
+    ensures { λ r. ⌜ r ≡ rowsOf rows ⌝ }
+{
+    [
+        marks_of(rows[0]),
+        marks_of(rows[1]),
+        marks_of(rows[2]),
+        marks_of(rows[3]),
+        marks_of(rows[4]),
+        marks_of(rows[5]),
+        marks_of(rows[6]),
+        marks_of(rows[7]),
+    ]
+}
+
+fn row_with(marks: [bool; 8]) -> Row
+    ensures { λ r. ⌜ r ≡ record { marks = marks } ⌝ }
+{
+    Row { marks: marks }
+}
+
+pub fn of_rows(rows: [[bool; 8]; 8]) -> [Row; 8]
+    ensures { λ r. ⌜ r ≡ ofRows rows ⌝ }
+{
+    [
+        row_with(rows[0]),
+        row_with(rows[1]),
+        row_with(rows[2]),
+        row_with(rows[3]),
+        row_with(rows[4]),
+        row_with(rows[5]),
+        row_with(rows[6]),
+        row_with(rows[7]),
+    ]
+}
+
+// One is marked.
+pub fn some(marks: [bool; 8]) -> bool
+    ensures { λ r. ⌜ r ≡ some marks ⌝ }
+{
+    marks::lowest(marks) < 8
+}
+
+pub fn answering(k: u8, g: Group) -> Outcome
+    ensures { λ r. ⌜ r ≡ answering k g ⌝ }
+{
+    Outcome {
+        answer: k,
+        group: g,
+    }
+}
+
+pub fn taken(g: Group) -> Outcome
+    ensures { λ r. ⌜ r ≡ taken g ⌝ }
+{
+    answering(0, g)
+}
+
+// The two slots of a cabinet, read and replaced one at a time.
+impl Slots {
+    pub fn blank() -> Slots
+        ensures { λ r. ⌜ r ≡ blankSlots ⌝ }
+    {
+        let image = Image::blank();
+        Slots {
+            zero: image,
+            one: image,
+        }
+    }
+
+    fn image(self, v: bool) -> Image
+        ensures { λ r. ⌜ r ≡ cond v (self .one) (self .zero) ⌝ }
+    {
+        if v { self.one } else { self.zero }
+    }
+
+    fn with_image(self, v: bool, m: Image) -> Slots
+        ensures { λ r. ⌜ r ≡ cond v (record { zero = self .zero; one = m }) (record { zero = m; one = self .one }) ⌝ }
+    {
+        let mut s = self;
+        if v {
+            s.one = m;
+        } else {
+            s.zero = m;
+        }
+        s
+    }
+}
+
+// A call, so that it leaves no branch in its callers' proofs.
+fn and(a: bool, b: bool) -> bool
+    ensures { λ r. ⌜ r ≡ a && b ⌝ }
+{
+    if a { b } else { false }
+}
+
+impl Group {
+    pub fn cabinet(self, i: u8) -> Cabinet
+        ensures { λ r. ⌜ r ≡ cabinet self i ⌝ }
+    {
+        let k = i as usize;
+        if k < 8 {
+            self.cabinets[k]
+        } else {
+            Cabinet::absent()
+        }
+    }
+
+    pub fn with_cabinet(self, i: u8, c: Cabinet) -> Group
+        ensures { λ r. ⌜ r ≡ withCabinet self i c ⌝ }
+    {
+        let k = i as usize;
+        let mut g = self;
+        if k < 8 {
+            g.cabinets[k] = c;
+        }
+        g
+    }
+
+    pub fn state_of(self, i: u8) -> State
+        ensures { λ r. ⌜ r ≡ stateOf self i ⌝ }
+    {
+        let c = self.cabinet(i);
+        let p = c.phase;
+        p.state
+    }
+
+    pub fn outgoing(self, i: u8) -> Outgoing
+        ensures { λ r. ⌜ r ≡ outgoing self i ⌝ }
+    {
+        let k = i as usize;
+        if k < 8 {
+            self.outgoing[k]
+        } else {
+            Outgoing::empty()
+        }
+    }
+
+    pub fn with_outgoing(self, i: u8, o: Outgoing) -> Group
+        ensures { λ r. ⌜ r ≡ withOutgoing self i o ⌝ }
+    {
+        let k = i as usize;
+        let mut g = self;
+        if k < 8 {
+            g.outgoing[k] = o;
+        }
+        g
+    }
+
+    // The line from a to b.
+    pub fn line(self, a: u8, b: u8) -> Line
+        ensures { λ r. ⌜ r ≡ line self a b ⌝ }
+    {
+        self.outgoing(a).line_to(b)
+    }
+
+    pub fn with_line(self, a: u8, b: u8, l: Line) -> Group
+        ensures { λ r. ⌜ r ≡ withLine self a b l ⌝ }
+    {
+        let o = self.outgoing(a);
+        self.with_outgoing(a, o.with_line_to(b, l))
+    }
+
+    pub fn link_rows(self) -> [[bool; 8]; 8]
+        ensures { λ r. ⌜ r ≡ rowsOf (self .links) ⌝ }
+    {
+        let rows = self.links;
+        rows_of(rows)
+    }
+
+    pub fn sound_rows(self) -> [[bool; 8]; 8]
+        ensures { λ r. ⌜ r ≡ rowsOf (self .sound) ⌝ }
+    {
+        let rows = self.sound;
+        rows_of(rows)
+    }
+
+    pub fn with_sound(self, rows: [[bool; 8]; 8]) -> Group
+        ensures { λ r. ⌜ r ≡ withSound self rows ⌝ }
+    {
+        let mut g = self;
+        let sound = of_rows(rows);
+        g.sound = sound;
+        g
+    }
+
+    fn with_slots(self, i: u8, s: Slots) -> Group
+        ensures { λ r. ⌜ r ≡ withSlots self i s ⌝ }
+    {
+        let k = i as usize;
+        let mut g = self;
+        if k < 8 {
+            g.store[k] = s;
+        }
+        g
+    }
+
+    fn slots(self, i: u8) -> Slots
+        ensures { λ r. ⌜ r ≡ getD (self .store) i blankSlots ⌝ }
+    {
+        let k = i as usize;
+        if k < 8 { self.store[k] } else { Slots::blank() }
+    }
+
+    // The image in cabinet i's slot 0 or 1.
+    pub fn slot(self, i: u8, v: bool) -> Image
+        ensures { λ r. ⌜ r ≡ slot self i v ⌝ }
+    {
+        self.slots(i).image(v)
+    }
+
+    pub fn with_slot(self, i: u8, v: bool, m: Image) -> Group
+        ensures { λ r. ⌜ r ≡ withSlot self i v m ⌝ }
+    {
+        self.with_slots(i, self.slots(i).with_image(v, m))
+    }
+
+    // ---- asked of all cabinets
+
+    fn works_at(self, i: u8) -> bool
+        ensures { λ r. ⌜ r ≡ works (stateOf self i) ⌝ }
+    {
+        cabinet::works(self.state_of(i))
+    }
+
+    pub fn working(self) -> [bool; 8]
+        ensures { λ r. ⌜ r ≡ working self ⌝ }
+    {
+        [
+            self.works_at(0),
+            self.works_at(1),
+            self.works_at(2),
+            self.works_at(3),
+            self.works_at(4),
+            self.works_at(5),
+            self.works_at(6),
+            self.works_at(7),
+        ]
+    }
+
+    fn recovers_at(self, i: u8) -> bool
+        ensures { λ r. ⌜ r ≡ inRecovery (stateOf self i) ⌝ }
+    {
+        cabinet::in_recovery(self.state_of(i))
+    }
+
+    // Those in error, recovering or recovered.
+    pub fn recovering_ones(self) -> [bool; 8]
+        ensures { λ r. ⌜ r ≡ recoveringOnes self ⌝ }
+    {
+        [
+            self.recovers_at(0),
+            self.recovers_at(1),
+            self.recovers_at(2),
+            self.recovers_at(3),
+            self.recovers_at(4),
+            self.recovers_at(5),
+            self.recovers_at(6),
+            self.recovers_at(7),
+        ]
+    }
+
+    fn unsure_at(self, i: u8) -> bool
+        ensures { λ r. ⌜ r ≡ isIn (stateOf self i) Error && isUnknown (cabinet self i .phase .version) ⌝ }
+    {
+        let c = self.cabinet(i);
+        let p = c.phase;
+        let v = p.version;
+        and(
+            cabinet::is_in(self.state_of(i), State::Error),
+            cabinet::is_unknown(v),
+        )
+    }
+
+    // Those in error with unknown version.
+    pub fn unsure(self) -> [bool; 8]
+        ensures { λ r. ⌜ r ≡ unsure self ⌝ }
+    {
+        [
+            self.unsure_at(0),
+            self.unsure_at(1),
+            self.unsure_at(2),
+            self.unsure_at(3),
+            self.unsure_at(4),
+            self.unsure_at(5),
+            self.unsure_at(6),
+            self.unsure_at(7),
+        ]
+    }
+
+    fn crashed_at(self, i: u8) -> bool
+        ensures { λ r. ⌜ r ≡ isIn (stateOf self i) Crashed ⌝ }
+    {
+        cabinet::is_in(self.state_of(i), State::Crashed)
+    }
+
+    fn crashed_ones(self) -> [bool; 8]
+        ensures { λ r. ⌜ r ≡ those (λ c. isIn (c .phase .state) Crashed) self ⌝ }
+    {
+        [
+            self.crashed_at(0),
+            self.crashed_at(1),
+            self.crashed_at(2),
+            self.crashed_at(3),
+            self.crashed_at(4),
+            self.crashed_at(5),
+            self.crashed_at(6),
+            self.crashed_at(7),
+        ]
+    }
+
+    pub fn is_crashed(self) -> bool
+        ensures { λ r. ⌜ r ≡ isCrashed self ⌝ }
+    {
+        some(self.crashed_ones())
+    }
+
+    fn crashing_at(self, i: u8) -> Cabinet
+        ensures { λ r. ⌜ r ≡ crashing (cabinet self i) ⌝ }
+    {
+        self.cabinet(i).crashing()
+    }
+
+    fn crashing_ones(self) -> [Cabinet; 8]
+        ensures { λ r. ⌜ r ≡ crashAll self .cabinets ⌝ }
+    {
+        [
+            self.crashing_at(0),
+            self.crashing_at(1),
+            self.crashing_at(2),
+            self.crashing_at(3),
+            self.crashing_at(4),
+            self.crashing_at(5),
+            self.crashing_at(6),
+            self.crashing_at(7),
+        ]
+    }
+
+    // A crash of the group: every working cabinet is crashed.
+    pub fn crash_all(self) -> Group
+        ensures { λ r. ⌜ r ≡ crashAll self ⌝ }
+    {
+        let mut g = self;
+        let cabinets = self.crashing_ones();
+        g.cabinets = cabinets;
+        g
+    }
+}
+
+// The step is taken, and the group crashed.
+pub fn crashed(g: Group) -> Outcome
+    ensures { λ r. ⌜ r ≡ crashed g ⌝ }
+{
+    answering(50, g.crash_all())
 }

@@ -3,7 +3,7 @@ use Prim.Native.Nat.{ℕ, zero, suc, _+_, _<_, _≤_}
 use native.Mathlib.Numerals.{add-one}
 use native.Mathlib.Omega.{arith}
 use mathlib.Core.Bool.{Bool, true, false, cond}
-use mathlib.Core.Path.{_≡_, refl, ap, sym, _∙_}
+use mathlib.Core.Path.{_≡_, refl, ap, _∙_}
 use mathlib.Core.List.{List, [], _∷_, _++_}
 use lib.ListN.{length, getD, set, drop, drop-of-length-le}
 use lib.Seq.{drop-cons}
@@ -41,7 +41,7 @@ pub count-more : (l : List Cell) (i n : ℕ) → i < length l → normalsIn l �
     → normalsIn l ≡ (n + cond (isNormal (getD l i emptyCell .packet)) 1 0) + normalsIn (drop (i + 1) l)
 count-more l i n h e =
     let d : normalsIn (drop i l) ≡ cond (isNormal (getD l i emptyCell .packet)) 1 0 + normalsIn (drop (i + 1) l)
-        = rw (add-one, drop-cons l i emptyCell h) in
+    = rw (add-one, drop-cons l i emptyCell h) in
     omega arith
 
 pub count-ended : (l : List Cell) (i n : ℕ) → length l ≤ i → normalsIn l ≡ n + normalsIn (drop i l) → n ≡ normalsIn l

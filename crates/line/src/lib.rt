@@ -252,14 +252,14 @@ fn one_if(b: bool) -> u8
 fn first_empty(l: Line) -> usize
     ensures { λ r. ⌜ r ≡ firstEmpty (l .cells) ⌝ }
 {
-    let mut i = 0;
-    while i < 12 {
-        let c = l.cells[i];
+    let mut place = 0;
+    while place < 12 {
+        let c = l.cells[place];
         let p = c.packet;
         if is_empty(p) {
-            return i;
+            return place;
         }
-        i += 1;
+        place += 1;
     }
-    i
+    place
 }

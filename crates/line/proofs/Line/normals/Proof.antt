@@ -19,9 +19,14 @@ loop-again : tie.Need-loop-again Inv-loop μ-loop
 loop-again c =
     let w = c .before .before .before in
     let s = w .before .before in
-    let h : length (s .args .t1 .cells) ≡ 12 = simp length-map at (s .good .0 .1 .1 .0 .1 .0 .1) in
-    (search needs, (search needs, rw (c .one-if .ensures .0, c .before .is-normal .ensures)
-        (count-more (s .args .t1 .cells) (w .before .loop .i) (w .before .loop .count) (omega (arith, w .loop-test .taken)) (w .before .loop .inv .1 .1))))
+    let h : length (s .args .t1 .cells) ≡ 12 = simp length-map at (s .good .0 .1 .1 .0 .1 .0 .1) in (
+      search needs,
+      (
+        search needs,
+        rw (c .one-if .ensures .0, c .before .is-normal .ensures)
+            (count-more (s .args .t1 .cells) (w .before .loop .i) (w .before .loop .count) (omega (arith, w .loop-test .taken)) (w .before .loop .inv .1 .1)),
+      ),
+    )
 
 returns : tie.Need-returns Inv-loop μ-loop
 returns c =

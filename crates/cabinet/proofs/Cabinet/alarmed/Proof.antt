@@ -1,0 +1,14 @@
+-- `alarmed` enters the state, strikes and forgets, one call after the other.
+use borrow.Author.Needs.{needs}
+use Rattle.cabinet.proofs.Cabinet.alarmed.Statement.{statement}
+use Rattle.cabinet.proofs.Cabinet.alarmed.Tie as tie
+
+pub alarmed-spec : {M : Type 1} → statement M
+alarmed-spec = tie.close (tie.spec
+    (λ c κs. search needs)
+    (λ c κs. search needs)
+    (λ c κs. search needs)
+    (λ c κs. search needs)
+    (λ c κs. search needs)
+    (λ c κs. search needs)
+    (λ c. rw (c .with-owed .ensures, c .before .with-noted .ensures, c .before .before .nothing-noted .ensures, c .before .before .before .with-table .ensures, c .before .before .before .before .with-phase .ensures, c .before .before .before .before .before .struck-at .ensures)))

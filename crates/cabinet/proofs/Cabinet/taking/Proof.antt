@@ -1,0 +1,16 @@
+-- `taking` steps one register and books the amount on, one call after the other.
+use borrow.Author.Needs.{needs}
+use Rattle.cabinet.proofs.Cabinet.taking.Statement.{statement}
+use Rattle.cabinet.proofs.Cabinet.taking.Tie as tie
+
+pub taking-spec : {M : Type 1} → statement M
+taking-spec = tie.close (tie.spec
+    (λ c κs. search needs)
+    (λ c κs. search needs)
+    (λ c κs. search needs)
+    (λ c κs. search needs)
+    (λ c κs. search needs)
+    (λ c κs. search needs)
+    (λ c κs. search needs)
+    (λ c κs. search needs)
+    (λ c. rw (c .with-image .ensures, c .before .with-booked .ensures, c .before .before .with-registers .ensures, c .before .before .before .wrapping-add-u16 .ensures, c .before .before .before .before .booked .ensures, c .before .before .before .before .before .before .set-check .ensures, c .before .before .before .before .before .before .before .step .ensures, c .before .before .before .before .before .before .before .before .check-at .ensures)))

@@ -1,0 +1,286 @@
+-- What holds of every file that is loaded: the group, lines and store start as document 01 says.
+use Prim.Native.Nat.{ℕ, zero, suc, _+_, _-_, _*_, _≤_, _<_}
+use mathlib.Core.Path.{_≡_, refl, sym, _∙_, ap}
+use mathlib.Core.Bool.{Bool, true, false, cond, _&&_, and-eq-true-iff}
+use mathlib.Core.List.{List, [], _∷_}
+use mathlib.Core.Logic.{⊎-elim}
+use native.Mathlib.Omega.{arith}
+use native.Mathlib.Decide.{ℕ-discrete, decLt}
+use native.Mathlib.Nat.{eq-or-lt-of-le}
+use lib.ListN.{length, getD, replicate, List·getD-eq-default}
+use lib.Dec.{leb, ltb, eqb, lit<}
+use borrow.Author.Tests.{lt-ltb, le-ltb, leb-true, eqb-true, eq-eqb, ne-eqb}
+use Rattle.marks.specs.Marks.{Marks, marked, noMarks}
+use Rattle.marks.specs.Reach.{Rows, mark, connected}
+use Rattle.line.specs.Line.{emptyLine}
+use Rattle.cabinet.specs.declared.Image.{Image}
+use Rattle.cabinet.specs.declared.Cabinet.{Cabinet}
+use Rattle.cabinet.specs.State.{works}
+use Rattle.cabinet.specs.Cabinet.{blankImage, booked, absent}
+use Rattle.group.specs.declared.Outgoing.{Outgoing}
+use Rattle.group.specs.declared.Slots.{Slots}
+use Rattle.group.specs.declared.Group.{Group}
+use Rattle.group.specs.declared.Outcome.{Outcome}
+use Rattle.group.specs.Lines.{emptyLines, lineTo}
+use Rattle.group.specs.Group.{cabinet, outgoing, line, blankSlots, slot, rowAt, rowsOf, ofRows, working, answering}
+use Rattle.load.specs.Load.{cabinetCount, linkCount, homeOf, storeMark, bookingOf, cabinetRight, cabinetsRight, linkRows, rowsIn, present, bookings, feederTotal, loadRefusal, imageOf, startingCabinet, cabinetOf, cabinetsOf, slotsOf, storeOf, groupOf, noGroup, loadWith, load}
+use Rattle.load.specs.Starts.{bookedTo, Starts}
+use Rattle.load.proofs.Lists.{eight, made, read-back, repeated, chosen, other, any-default}
+use Rattle.load.proofs.Passed.{Passed, passed}
+use Rattle.load.proofs.Links.{Fair, fair-links, connected-same}
+
+-- ---- an answer of 0 is a group that no check refused
+
+accepted : (f : List ℕ) (k : ℕ) → loadWith f k .answer ≡ 0 → k ≡ 0
+accepted f k e =
+    elim (ℕ-discrete k 0) [
+      | yes q ↦ q
+      | no d ↦ sym (ap (λ (o : Outcome). o .answer) (other (eqb k 0) (answering 0 (groupOf f (rowsIn f))) (answering k noGroup) (ne-eqb k 0 d))) ∙ e
+    ]
+
+no-refusal : (f : List ℕ) → load f .answer ≡ 0 → loadRefusal f ≡ 0
+unfolding load
+no-refusal f e = accepted f (loadRefusal f) e
+
+the-group : (f : List ℕ) → load f .answer ≡ 0 → load f .group ≡ groupOf f (rowsIn f)
+unfolding load
+the-group f e =
+    ap (λ (o : Outcome). o .group)
+    (chosen (eqb (loadRefusal f) 0) (answering 0 (groupOf f (rowsIn f))) (answering (loadRefusal f) noGroup) (eq-eqb (loadRefusal f) 0 (no-refusal f e)))
+
+-- ---- right cabinet entries
+
+module _ (f : List ℕ) where
+  right-at : (n : ℕ) → cabinetsRight n f ≡ true → (i : ℕ) → i < n → cabinetRight f i ≡ true
+  right-at zero r i h = absurd (omega arith)
+  right-at (suc n) r i h =
+      let parts = and-eq-true-iff (cabinetsRight n f) (cabinetRight f n) .0 r in
+      ⊎-elim (λ q. ap (cabinetRight f) q ∙ parts .1) (λ l. right-at n (parts .0) i l) (eq-or-lt-of-le (upto h))
+    where
+      upto : i < suc n → i ≤ n
+      upto l = omega arith
+
+  -- the home is 1 to n, and is a store
+  right-home : (i : ℕ) → cabinetRight f i ≡ true → (1 ≤ homeOf f i) × (homeOf f i ≤ cabinetCount f) × (eqb (storeMark f (homeOf f i - 1)) 1 ≡ true)
+  right-home i r =
+      let home = homeOf f i in
+      let stores = eqb (storeMark f (home - 1)) 1 in
+      let all = and-eq-true-iff (leb (storeMark f i) 1) (leb 1 home && (leb home (cabinetCount f) && stores)) .0 r .1 in
+      let first = and-eq-true-iff (leb 1 home) (leb home (cabinetCount f) && stores) .0 all in
+      let rest = and-eq-true-iff (leb home (cabinetCount f)) stores .0 (first .1) in
+      (leb-true 1 home (first .0), leb-true home (cabinetCount f) (rest .0), rest .1)
+
+-- ---- octets
+
+blank-octet : (k : ℕ) → getD (blankImage .octets) k 0 < 256
+blank-octet k = omega (arith, repeated {A = ℕ} 32 k 0)
+
+image-octet : (f : List ℕ) → ((i : ℕ) → getD f i 0 < 256) → (i k : ℕ) → getD (imageOf f i .octets) k 0 < 256
+image-octet f small i zero = small (12 + 4 * i)
+image-octet f small i (suc zero) = small (13 + 4 * i)
+image-octet f small i (suc (suc k)) = omega (arith, repeated {A = ℕ} 30 k 0)
+
+image-booked : (f : List ℕ) (i : ℕ) → booked (imageOf f i) ≡ bookingOf f i
+image-booked f i =
+    let e : 13 + 4 * i ≡ 12 + 4 * i + 1 = omega arith in
+    ap (λ (k : ℕ). getD f (12 + 4 * i) 0 * 256 + getD f k 0) e
+
+not-marked : (b : Bool) → (b ≡ true → ⊥) → b ≡ false
+not-marked true d = absurd (d refl)
+not-marked false d = refl
+
+same-truth : (a b : Bool) → (a ≡ true → b ≡ true) → (b ≡ true → a ≡ true) → a ≡ b
+same-truth true b p q = sym (p refl)
+same-truth false true p q = q refl
+same-truth false false p q = refl
+
+le-refl : (n : ℕ) → n ≤ n
+le-refl n = omega arith
+
+plus : {a b c d : ℕ} → a ≡ b → c ≡ d → a + c ≡ b + d
+plus p q = rw (p, q)
+
+-- ---- what stands at a number
+
+module _ (f : List ℕ) (rows : Rows) where
+  abbrev g : Group
+  g = groupOf f rows
+
+  cabinet-at : (i : ℕ) → i < 8 → cabinet g i ≡ cabinetOf f rows i
+  unfolding cabinet
+  cabinet-at i h = made (cabinetOf f rows) absent i h
+
+  cabinet-out : (i : ℕ) → 8 ≤ i → cabinet g i ≡ absent
+  unfolding cabinet
+  cabinet-out i h = List·getD-eq-default (cabinetsOf f rows) absent h
+
+  slots-at : (i : ℕ) → i < 8 → getD (storeOf f) i blankSlots ≡ slotsOf f i
+  slots-at i h = made (slotsOf f) blankSlots i h
+
+  module _ (most : cabinetCount f ≤ 8) where
+    here : (i : ℕ) → i < cabinetCount f → cabinet g i ≡ startingCabinet f rows i
+    here i h = cabinet-at i (omega arith) ∙ chosen (ltb i (cabinetCount f)) (startingCabinet f rows i) absent (lt-ltb i (cabinetCount f) h)
+
+    gone : (i : ℕ) → cabinetCount f ≤ i → cabinet g i ≡ absent
+    gone i h =
+        elim (decLt i 8) [
+          | yes l ↦ cabinet-at i l ∙ other (ltb i (cabinetCount f)) (startingCabinet f rows i) absent (le-ltb i (cabinetCount f) h)
+          | no l ↦ cabinet-out i (omega arith)
+        ]
+
+    -- what holds of a cabinet of the file and of none, holds at every number
+    either : (P : Cabinet → Type 0) (i : ℕ) → P (startingCabinet f rows i) → P absent → P (cabinet g i)
+    either P i s a = elim (decLt i (cabinetCount f)) [ yes h ↦ rw (here i h) s | no h ↦ rw (gone i (omega arith)) a ]
+
+    -- ---- the store
+
+    slots-here : (i : ℕ) → i < cabinetCount f → getD (storeOf f) i blankSlots ≡ record { zero = imageOf f i; one = blankImage }
+    slots-here i h = slots-at i (omega arith) ∙ chosen (ltb i (cabinetCount f)) _ blankSlots (lt-ltb i (cabinetCount f) h)
+
+    slots-gone : (i : ℕ) → cabinetCount f ≤ i → getD (storeOf f) i blankSlots ≡ blankSlots
+    slots-gone i h =
+        elim (decLt i 8) [
+          | yes l ↦ slots-at i l ∙ other (ltb i (cabinetCount f)) (record { zero = imageOf f i; one = blankImage }) blankSlots (le-ltb i (cabinetCount f) h)
+          | no l ↦ List·getD-eq-default (storeOf f) blankSlots {n = i} (omega arith)
+        ]
+
+    slot-here : (i : ℕ) → i < cabinetCount f → slot g i false ≡ imageOf f i
+    unfolding slot
+    slot-here i h = ap (λ (s : Slots). s .zero) (slots-here i h)
+
+    slot-gone : (i : ℕ) (v : Bool) → cabinetCount f ≤ i → slot g i v ≡ blankImage
+    unfolding slot blankSlots
+    slot-gone i true h = ap (λ (s : Slots). s .one) (slots-gone i h)
+    slot-gone i false h = ap (λ (s : Slots). s .zero) (slots-gone i h)
+
+    slot-one : (i : ℕ) → slot g i true ≡ blankImage
+    unfolding slot
+    slot-one i = elim (decLt i (cabinetCount f)) [ yes h ↦ ap (λ (s : Slots). s .one) (slots-here i h) | no h ↦ slot-gone i true (omega arith) ]
+
+    -- what holds of the starting image and of a blank one, holds of every slot
+    either-slot : (P : Image → Type 0) (i : ℕ) (v : Bool) → P (imageOf f i) → P blankImage → P (slot g i v)
+    either-slot P i true s a = rw (slot-one i) a
+    either-slot P i false s a =
+        elim (decLt i (cabinetCount f)) [ yes h ↦ rw (slot-here i h) s | no h ↦ rw (slot-gone i false (omega arith)) a ]
+
+    -- ---- the bookings
+
+    booked-to : (m : ℕ) → m ≤ cabinetCount f → bookedTo m g ≡ bookings m f
+    booked-to zero h = refl
+    booked-to (suc m) h = plus (booked-to m (omega arith)) (ap (λ (c : Cabinet). booked (c .image)) (here m (omega arith)) ∙ image-booked f m)
+
+  -- ---- the lines
+
+  outgoing-empty : (i : ℕ) → outgoing g i ≡ emptyLines
+  unfolding outgoing
+  outgoing-empty i = repeated 8 i emptyLines
+
+  line-empty : (i j : ℕ) → line g i j ≡ emptyLine
+  unfolding line lineTo emptyLines
+  line-empty i j = ap (λ (o : Outgoing). lineTo o j) (outgoing-empty i) ∙ repeated 8 j emptyLine
+
+  -- ---- the links
+
+  works-if : (b : Bool) (i : ℕ) → works (cond b (startingCabinet f rows i) absent .phase .state) ≡ b
+  works-if true i = refl
+  works-if false i = refl
+
+  works-at : (i : ℕ) → i < 8 → works (cabinet g i .phase .state) ≡ ltb i (cabinetCount f)
+  works-at i h = ap (λ (c : Cabinet). works (c .phase .state)) (cabinet-at i h) ∙ works-if (ltb i (cabinetCount f)) i
+
+  working-present : working g ≡ present f
+  unfolding working
+  working-present =
+      eight (works-at 0 (lit< tt)) (works-at 1 (lit< tt)) (works-at 2 (lit< tt)) (works-at 3 (lit< tt)) (works-at 4 (lit< tt)) (works-at 5 (lit< tt)) (works-at 6 (lit< tt)) (works-at 7 (lit< tt))
+
+  rows-back : length rows ≡ 8 → rowsOf (ofRows rows) ≡ rows
+  unfolding rowsOf ofRows
+  rows-back e = read-back rows noMarks e
+
+  eight-rows : length (ofRows rows) ≡ 8
+  unfolding ofRows
+  eight-rows = refl
+
+  -- ---- the whole, where no check refuses the file
+
+  module _ (ok : Passed f) (fair : Fair (cabinetCount f) rows) where
+    row-eight : (i : ℕ) → length (getD rows i noMarks) ≡ 8
+    row-eight i =
+        elim (decLt i 8) [
+          | yes h ↦ ap length (any-default rows i noMarks [] (omega (arith, fair .size))) ∙ fair .row-size i h
+          | no h ↦ ap length (List·getD-eq-default rows noMarks {n = i} (omega (arith, fair .size)))
+        ]
+
+    presence : (i : ℕ) → marked (present f) i ≡ ltb i (cabinetCount f)
+    presence i =
+        elim (decLt i 8) [
+          | yes h ↦ made (λ k. ltb k (cabinetCount f)) false i h
+          | no h ↦ List·getD-eq-default (present f) false {n = i} (omega arith) ∙ sym (le-ltb i (cabinetCount f) (omega (arith, ok .most)))
+        ]
+
+    home-at : (i : ℕ) → i < cabinetCount f → cabinet g i .home ≡ homeOf f i - 1
+    home-at i h = ap (λ (c : Cabinet). c .home) (here (ok .most) i h)
+
+    home-fact : (i : ℕ) → i < cabinetCount f → (1 ≤ homeOf f i) × (homeOf f i ≤ cabinetCount f) × (eqb (storeMark f (homeOf f i - 1)) 1 ≡ true)
+    home-fact i h = right-home f i (right-at f (cabinetCount f) (ok .cabinets) i h)
+
+    home-within : (i : ℕ) → i < cabinetCount f → homeOf f i - 1 < cabinetCount f
+    home-within i h = let p = home-fact i h in omega arith
+
+    sound-links : Fair (cabinetCount f) (rowsOf (ofRows rows))
+    sound-links = rw (rows-back (fair .size)) fair
+
+    no-mark : (i j : ℕ) → (mark (rowsOf (ofRows rows)) i j ≡ true → ⊥) → mark (rowsOf (ofRows rows)) i j ≡ false
+    no-mark i j d = not-marked (mark (rowsOf (ofRows rows)) i j) d
+
+    started : rows ≡ rowsIn f → ((i : ℕ) → getD f i 0 < 256) → Starts f g
+    started file small = record {
+      count = refl;
+      least = ok .least;
+      most = ok .most;
+      eight-cabinets = refl;
+      eight-links = eight-rows;
+      eight-sound = eight-rows;
+      eight-outgoing = refl;
+      eight-slots = refl;
+      eight-rows = sound-links .size;
+      eight-marks = λ i h. ap (λ (r : Rows). length (getD r i noMarks)) (rows-back (fair .size)) ∙ row-eight i;
+      eight-in-tables = λ i. either (ok .most) (λ c. (length (c .table .cabinets) ≡ 8) × (length (c .table .links) ≡ 8)) i (refl, row-eight i) (refl, refl);
+      image-size = λ i. either (ok .most) (λ c. length (c .image .octets) ≡ 32) i refl refl;
+      slot-size = λ i v. either-slot (ok .most) (λ m. length (m .octets) ≡ 32) i v refl refl;
+      starting = λ i h. here (ok .most) i h ∙ ap (λ (r : Rows). startingCabinet f r i) file;
+      phase = λ i h. ap (λ (c : Cabinet). c .phase) (here (ok .most) i h);
+      in-table = λ i h. ap (λ (c : Cabinet). c .table .cabinets) (here (ok .most) i h);
+      own-links = λ i h. ap (λ (c : Cabinet). c .table .links) (here (ok .most) i h) ∙ ap (λ (r : Rows). getD r i noMarks) (sym (rows-back (fair .size)));
+      noted = λ i h. ap (λ (c : Cabinet). c .noted) (here (ok .most) i h);
+      registers = λ i h. ap (λ (c : Cabinet). c .registers) (here (ok .most) i h);
+      owed = λ i h. ap (λ (c : Cabinet). c .owed) (here (ok .most) i h);
+      image = λ i h. ap (λ (c : Cabinet). c .image) (here (ok .most) i h);
+      presence = presence;
+      at-work = working-present;
+      past = gone (ok .most);
+      empty-lines = outgoing-empty;
+      empty = line-empty;
+      slot-zero = λ i h. slot-here (ok .most) i h ∙ sym (ap (λ (c : Cabinet). c .image) (here (ok .most) i h));
+      slot-one = slot-one (ok .most);
+      slot-past = slot-gone (ok .most);
+      home-below = λ i h. rw (home-at i h) (home-within i h);
+      home-stores = λ i h. ap (λ (k : ℕ). cabinet g k .store) (home-at i h) ∙ (ap (λ (c : Cabinet). c .store) (here (ok .most) (homeOf f i - 1) (home-within i h)) ∙ home-fact i h .2);
+      file-links = rows-back (fair .size) ∙ file;
+      all-sound = refl;
+      both-ways = λ i j. same-truth (mark (rowsOf (ofRows rows)) i j) (mark (rowsOf (ofRows rows)) j i) (sound-links .both-ways i j) (sound-links .both-ways j i);
+      not-self = λ i. no-mark i i (sound-links .not-self i);
+      none-from-past = λ i j h. no-mark i j (λ m. let b = sound-links .below i j m in omega arith);
+      none-to-past = λ i j h. no-mark i j (λ m. let b = sound-links .below i j m in omega arith);
+      joined = connected-same (rows-back (fair .size) ∙ file) working-present ∙ ok .joined;
+      total = booked-to (ok .most) (cabinetCount f) (le-refl (cabinetCount f));
+      total-most = ok .total;
+      image-octets = λ i k. either (ok .most) (λ c. getD (c .image .octets) k 0 < 256) i (image-octet f small i k) (blank-octet k);
+      slot-octets = λ i v k. either-slot (ok .most) (λ m. getD (m .octets) k 0 < 256) i v (image-octet f small i k) (blank-octet k);
+    }
+
+-- every group that load answers with 0 starts as document 01 says
+pub starts : (f : List ℕ) → ((i : ℕ) → getD f i 0 < 256) → load f .answer ≡ 0 → Starts f (load f .group)
+starts f small e =
+    let ok = passed f (no-refusal f e) in
+    rw (the-group f e) (started f (rowsIn f) ok (fair-links f (linkCount f) (ok .most) (ok .links)) refl small)

@@ -1,0 +1,16 @@
+-- `offsets_right` asks its four questions in the definition's order.
+use borrow.Author.Needs.{needs}
+use Rattle.load.proofs.offsets_right.Statement.{statement}
+use Rattle.load.proofs.offsets_right.Tie as tie
+
+pub offsets-right-spec : {M : Type 1} → statement M
+offsets-right-spec = tie.close (tie.spec
+    (λ c κs. search needs)
+    (λ c κs. search needs)
+    (λ c κs. search needs)
+    (λ c κs. search needs)
+    (λ c κs. search needs)
+    (λ c κs. search needs)
+    (λ c κs. search needs)
+    (λ c κs. search needs)
+    (λ c. rw (c .and3 .ensures, c .before .number3 .ensures .0, c .before .before .and2 .ensures, c .before .before .before .link-table .ensures .0, c .before .before .before .before .number2 .ensures .0, c .before .before .before .before .before .and .ensures, c .before .before .before .before .before .before .number .ensures .0, c .before .before .before .before .before .before .before .total-length .ensures)))

@@ -1,0 +1,20 @@
+-- The marked cases of document 01, all of them at once, by computation.
+use mathlib.Core.Path.{_≡_, refl}
+use mathlib.Core.List.{map}
+use Rattle.crc.specs.Crc.{crcBit, crcBits, crcOctet, crcFrom}
+use Rattle.marks.specs.Marks.{lowest, covers, both}
+use Rattle.marks.specs.Reach.{connected}
+use Rattle.group.specs.Lines.{emptyLines, lineTo, withLineTo, putAll}
+use Rattle.group.specs.Group.{cabinet, withCabinet, outgoing, withOutgoing, line, withLine, blankSlots, slot, rowsOf, ofRows, some, working, recoveringOnes, isCrashed}
+use Rattle.load.specs.Load.{load}
+use Rattle.protocol.specs.Moves.{broadcast, resumeWith, recoverWith, raise, enterError, markFailed, alarmTo, endRecovery}
+use Rattle.protocol.specs.Receive.{receiveNormal}
+use Rattle.protocol.specs.Kinds.{sent, sendStep, beginStep, delivered, deliverStep, fetchPiece, fetchStep, reportRestored, endIfAll, restoredStep, failStep}
+use Rattle.protocol.specs.Entry.{step}
+use Rattle.protocol.specs.Listing.{records, runFrom, listing}
+use Rattle.protocol.specs.Marked.{Case, marked, found}
+
+-- every case of the table is found as the paper has it
+pub marked-cases : map (λ (c : Case). found (c .asked)) marked ≡ map (λ (c : Case). c .expected) marked
+unfolding crcBit crcBits crcOctet crcFrom lowest covers both connected emptyLines lineTo withLineTo putAll cabinet withCabinet outgoing withOutgoing line withLine blankSlots slot rowsOf ofRows some working recoveringOnes isCrashed load broadcast resumeWith recoverWith raise enterError markFailed alarmTo endRecovery receiveNormal sent sendStep beginStep delivered deliverStep fetchPiece fetchStep reportRestored endIfAll restoredStep failStep step records runFrom listing found
+marked-cases = refl

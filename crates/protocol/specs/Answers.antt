@@ -1,0 +1,61 @@
+-- Document 01, "Steps": the refusal numbers that the paper lists for each kind of step, and which of its checks refuses.
+use Prim.Native.Nat.{ℕ, _-_}
+use mathlib.Core.Bool.{Bool, false, _||_}
+use mathlib.Core.List.{List, [], _∷_, _++_}
+use lib.Dec.{eqb}
+use Rattle.group.specs.declared.Group.{Group}
+use Rattle.protocol.specs.declared.Step.{Step}
+use Rattle.protocol.specs.declared.Step.the-variants.{Send, Note, Begin, Deliver, Write, Saved, Fetch, Restored, WaitOver, Fail}
+use Rattle.protocol.specs.declared.Decoded.{Decoded}
+use Rattle.protocol.specs.declared.Decoded.the-variants.{Malformed, Unused, Taken}
+use Rattle.protocol.specs.Kinds.{sendRefusal, noteRefusal, beginRefusal, deliverRefusal, writeRefusal, savedRefusal, fetchRefusal, restoredRefusal, waitOverRefusal}
+
+-- k stands in the list
+abbrev pub among : ℕ → List ℕ → Bool
+among k [] = false
+among k (x ∷ xs) = eqb k x || among k xs
+
+-- "12 a failed (in deliver, b failed; saved and damage skip this check)"
+abbrev pub workNumbers : Step → List ℕ
+workNumbers (Send a b q) = 12 ∷ []
+workNumbers (Note a p q) = 12 ∷ []
+workNumbers (Begin a) = 12 ∷ []
+workNumbers (Deliver a b) = 12 ∷ []
+workNumbers (Write a) = 12 ∷ []
+workNumbers (Saved a) = []
+workNumbers (Fetch a) = 12 ∷ []
+workNumbers (Restored a) = 12 ∷ []
+workNumbers (WaitOver a) = 12 ∷ []
+workNumbers (Fail a) = 12 ∷ []
+
+-- the numbers under each kind
+abbrev pub kindNumbers : Step → List ℕ
+kindNumbers (Send a b q) = 13 ∷ 14 ∷ 15 ∷ 16 ∷ 17 ∷ []
+kindNumbers (Note a p q) = 14 ∷ 15 ∷ []
+kindNumbers (Begin a) = 14 ∷ []
+kindNumbers (Deliver a b) = 13 ∷ 18 ∷ []
+kindNumbers (Write a) = 14 ∷ 19 ∷ []
+kindNumbers (Saved a) = 19 ∷ []
+kindNumbers (Fetch a) = 14 ∷ 19 ∷ []
+kindNumbers (Restored a) = 14 ∷ 19 ∷ []
+kindNumbers (WaitOver a) = 14 ∷ 19 ∷ []
+kindNumbers (Fail a) = []
+
+-- "Every step first": 8, 9, or 10 to 12 and then those of the kind
+abbrev pub refusalNumbers : Decoded → List ℕ
+refusalNumbers Malformed = 8 ∷ []
+refusalNumbers Unused = 9 ∷ []
+refusalNumbers (Taken s) = 10 ∷ 11 ∷ workNumbers s ++ kindNumbers s
+
+-- what a kind's own checks say: 0 where the step is taken
+abbrev pub kindRefusal : Group → Step → ℕ
+kindRefusal g (Send a b q) = sendRefusal g (a - 1) (b - 1) q
+kindRefusal g (Note a p q) = noteRefusal g (a - 1) p q
+kindRefusal g (Begin a) = beginRefusal g (a - 1)
+kindRefusal g (Deliver a b) = deliverRefusal g (a - 1) (b - 1)
+kindRefusal g (Write a) = writeRefusal g (a - 1)
+kindRefusal g (Saved a) = savedRefusal g (a - 1)
+kindRefusal g (Fetch a) = fetchRefusal g (a - 1)
+kindRefusal g (Restored a) = restoredRefusal g (a - 1)
+kindRefusal g (WaitOver a) = waitOverRefusal g (a - 1)
+kindRefusal g (Fail a) = 0

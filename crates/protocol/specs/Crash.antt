@@ -1,0 +1,103 @@
+-- Document 01, "The group crashes when, and only when": the cases of that sentence, each in the paper's own terms.
+-- In a step cabinets count from 1, everywhere else here from 0.
+use Prim.Native.Nat.{ℕ, _-_, _<_}
+use mathlib.Core.Path.{_≡_}
+use mathlib.Core.Bool.{true, false}
+use mathlib.Core.Logic.{_⊎_}
+use lib.ListN.{getD, set}
+use Rattle.marks.specs.Marks.{Marks, marked, lowest}
+use Rattle.marks.specs.Reach.{Rows, struck}
+use Rattle.marks.specs.ReachLaws.{Path}
+use Rattle.line.specs.declared.Payload.{Payload}
+use Rattle.line.specs.declared.Check.{Check}
+use Rattle.line.specs.declared.Place.{Place}
+use Rattle.line.specs.declared.Packet.{Packet}
+use Rattle.line.specs.declared.Packet.the-variants.{Normal as NormalPacket, Checkp, Fault, Invalid}
+use Rattle.line.specs.Packet.{startCheck}
+use Rattle.line.specs.Line.{oldest}
+use Rattle.cabinet.specs.declared.State.{State}
+use Rattle.cabinet.specs.declared.State.the-variants.{Normal, CheckpBegin, Checkpointing, Checkpointed, Error, Recovering, Recovered}
+use Rattle.cabinet.specs.declared.Alarm.the-variants.{Fault as For}
+use Rattle.cabinet.specs.declared.Cabinet.{Cabinet}
+use Rattle.group.specs.declared.Group.{Group}
+use Rattle.cabinet.specs.Cabinet.{inUse}
+use Rattle.group.specs.Group.{cabinet, stateOf, line, rowsOf, working}
+use Rattle.protocol.specs.declared.Step.{Step}
+use Rattle.protocol.specs.declared.Step.the-variants.{Deliver, Fail}
+use Rattle.protocol.specs.declared.Decoded.{Decoded}
+use Rattle.protocol.specs.declared.Decoded.the-variants.{Taken}
+use Rattle.protocol.specs.Entry.{entryRefusal}
+use Rattle.protocol.specs.Answers.{kindRefusal}
+
+-- ---- states that the paper names together
+
+-- "in error, recovering or recovered"
+abbrev pub Recovers : State → Type 0
+Recovers s = (s ≡ Error) ⊎ ((s ≡ Recovering) ⊎ (s ≡ Recovered))
+
+-- "in checkpointing or checkpointed"
+abbrev pub Saves : State → Type 0
+Saves s = (s ≡ Checkpointing) ⊎ (s ≡ Checkpointed)
+
+-- "in normal or in the three saving states"
+abbrev pub Serves : State → Type 0
+Serves s = (s ≡ Normal) ⊎ ((s ≡ CheckpBegin) ⊎ Saves s)
+
+-- "these two states": those in which a checkp is compared
+abbrev pub Compares : State → Type 0
+Compares s = (s ≡ Normal) ⊎ (s ≡ CheckpBegin)
+
+-- "some working cabinet is in error, recovering or recovered": whoever is in one of these states works
+abbrev pub SomeRecovers : Group → Type 0
+SomeRecovers g = (i : ℕ) × (i < 8) × Recovers (stateOf g i)
+
+-- ---- reach
+
+-- "some working cabinet is not reached from the lowest-numbered working cabinet by stepping from neighbour to neighbour"
+abbrev pub Unreached : Rows → Marks → Type 0
+Unreached links works = (j : ℕ) × (j < 8) × (marked works j ≡ true) × (Path links works (lowest works) j → ⊥)
+
+-- "over links not found faulty"
+abbrev pub soundLinks : Group → Rows
+soundLinks g = rowsOf (g .sound)
+
+-- ---- what a cabinet finds in a packet from neighbour a
+
+-- "two fault places meet": "A fault for the same place is noted; for another place it crashes the group."
+pub data PlacesMeet (c : Cabinet) : Packet → Type 0 where
+  other-place : {p : Place} → Recovers (c .phase .state) → (c .phase .alarm ≡ For p → ⊥) → PlacesMeet c (Fault p)
+
+-- "the finding of a link fault"
+pub data LinkFault (c : Cabinet) (a : ℕ) : Packet → Type 0 where
+  -- "Every checkp is compared when taken in these two states; unequal values mean a link fault."
+  unequal : {v : Check} → Compares (c .phase .state) → (v ≡ getD (c .registers .taken) a startCheck → ⊥) → LinkFault c a (Checkp v)
+  -- "In checkp-begin, normal packets are taken from neighbours whose checkp has not come; one from another neighbour"
+  after-checkp : {p : Payload} → c .phase .state ≡ CheckpBegin → marked (c .noted .come) a ≡ true → LinkFault c a (NormalPacket p)
+  -- "or any normal packet in checkpointing or checkpointed, is a link fault"
+  after-cut : {p : Payload} → Saves (c .phase .state) → LinkFault c a (NormalPacket p)
+  -- "An invalid packet, in normal or in the three saving states, is a link fault between sender and receiver."
+  hit : Serves (c .phase .state) → LinkFault c a Invalid
+
+-- the line from a to b is in use at b: over any other a packet is dropped
+abbrev pub LineInUse : Group → ℕ → ℕ → Type 0
+LineInUse g a b = marked (inUse (cabinet g b)) a ≡ true
+
+-- ---- the sentence
+
+-- "The group crashes when, and only when:" (damage is a case of its own, until the entry dispatches it)
+pub data Cause (g : Group) : Step → Type 0 where
+  -- "a store cabinet fails;"
+  store-fails : {a : ℕ} → cabinet g (a - 1) .store ≡ true → Cause g (Fail a)
+  -- "a cabinet fails, .., while some working cabinet is in error, recovering or recovered;"
+  fails-in-recovery : {a : ℕ} → SomeRecovers g → Cause g (Fail a)
+  -- "two fault places meet;"
+  places-meet : {a b : ℕ} → LineInUse g (a - 1) (b - 1) → PlacesMeet (cabinet g (b - 1)) (oldest (line g (a - 1) (b - 1))) → Cause g (Deliver a b)
+  -- "or at a fail (the failing one left out) .. some working cabinet is not reached"
+  fail-parts : {a : ℕ} → Unreached (soundLinks g) (set (working g) (a - 1) false) → Cause g (Fail a)
+  -- "or at the finding of a link fault (that link left out) some working cabinet is not reached"
+  link-parts : {a b : ℕ} → LineInUse g (a - 1) (b - 1) → LinkFault (cabinet g (b - 1)) (a - 1) (oldest (line g (a - 1) (b - 1)))
+      → Unreached (struck (soundLinks g) (a - 1) (b - 1)) (working g) → Cause g (Deliver a b)
+
+-- the record is a step, no check refuses it, and one of the causes is there
+pub data Crashes (g : Group) : Decoded → Type 0 where
+  crashes : {s : Step} → entryRefusal g s ≡ 0 → kindRefusal g s ≡ 0 → Cause g s → Crashes g (Taken s)

@@ -1,0 +1,205 @@
+-- Document 01, "Which save" and "Words of demand 3": the history of a run, a fold over the file and the records with what the
+-- rules make of them. It reads groups before and after a step and nothing that a program notes of its own.
+use Prim.Native.Nat.{ℕ, zero, suc, _+_, _-_}
+use mathlib.Core.Bool.{Bool, true, false, cond, not, _&&_}
+use mathlib.Core.List.{List, [], _∷_, _++_}
+use mathlib.Core.Option.{Option, none, some}
+use lib.ListN.{length}
+use lib.Dec.{eqb, ltb}
+use Rattle.marks.specs.Marks.{marked}
+use Rattle.line.specs.declared.Payload.{Payload}
+use Rattle.line.specs.declared.Packet.{Packet}
+use Rattle.line.specs.declared.Packet.the-variants.{Empty, Normal as NormalPacket, Checkp, Resume, Recover, Fault, Invalid}
+use Rattle.line.specs.Line.{oldest}
+use Rattle.cabinet.specs.declared.State.{State}
+use Rattle.cabinet.specs.declared.State.the-variants.{Normal, Checkpointing, Checkpointed, Recovering, Recovered}
+use Rattle.cabinet.specs.declared.Image.{Image}
+use Rattle.cabinet.specs.State.{isIn, works}
+use Rattle.cabinet.specs.Cabinet.{inUse, coordinator}
+use Rattle.group.specs.declared.Group.{Group}
+use Rattle.group.specs.declared.Outcome.{Outcome}
+use Rattle.group.specs.Group.{cabinet, stateOf, line}
+use Rattle.protocol.specs.declared.Step.{Step}
+use Rattle.protocol.specs.declared.Step.the-variants.{Send, Note, Begin, Deliver, Write, Saved, Fetch, Restored, WaitOver, Fail}
+use Rattle.protocol.specs.declared.Decoded.{Decoded}
+use Rattle.protocol.specs.declared.Decoded.the-variants.{Malformed, Unused, Taken}
+use Rattle.protocol.specs.Receive.{takesFrom}
+use Rattle.protocol.specs.Entry.{decode, step}
+
+-- a function with one value replaced
+unfoldable pub upd : {A : Type 0} → (ℕ → A) → ℕ → A → ℕ → A
+upd f a v i = cond (eqb i a) v (f i)
+
+-- for each ordered pair of cabinets the packets on the line between them, whole, oldest first
+abbrev pub Log : Type 0
+Log = ℕ → ℕ → List Payload
+
+-- one packet more on the line from a to b
+unfoldable pub logged : Log → ℕ → ℕ → Payload → Log
+logged l a b p = upd l a (upd (l a) b (l a b ++ (p ∷ [])))
+
+-- a cabinet's cut: its image, what it had sent to each other one and taken from each other one
+pub record Cut : Type 0 where
+  pub image : Image
+  pub sent : ℕ → List Payload
+  pub taken : ℕ → List Payload
+
+-- a committed save: its coordinator, the cuts, and whether a cabinet took its resume or was restored from it
+pub record Save : Type 0 where
+  pub by : ℕ
+  pub cut : ℕ → Option Cut
+  pub known : Bool
+
+pub record History : Type 0 where
+  -- since the start or the last recovery's end: the packets of the taken sends, as put, and those added, as they came
+  pub sent : Log
+  pub taken : Log
+  -- the cuts since the last begin
+  pub cuts : ℕ → Option Cut
+  -- the committed saves, newest first, those passed over left out; below them the start
+  pub saves : List Save
+  pub start : Save
+  -- a failed cabinet's image in the save restored after it failed
+  pub lost : ℕ → Option Image
+
+abbrev pub noLog : Log
+noLog a b = []
+
+-- ---- the start
+
+abbrev pub startCut : Group → ℕ → Option Cut
+startCut g i = cond (ltb i (g .n)) (some (record { image = cabinet g i .image; sent = λ j. []; taken = λ j. [] })) none
+
+abbrev pub startSave : Group → Save
+startSave g = record { by = 8; cut = startCut g; known = true }
+
+abbrev pub begun : Group → History
+begun g = record { sent = noLog; taken = noLog; cuts = λ i. none; saves = []; start = startSave g; lost = λ i. none }
+
+-- ---- which save
+
+abbrev pub newest : List Save → Save → Save
+newest [] s = s
+newest (x ∷ xs) s = x
+
+-- "the last one committed before the recovery's end, or the start where there is none"
+abbrev pub latest : History → Save
+latest h = newest (h .saves) (h .start)
+
+abbrev pub markKnown : List Save → List Save
+markKnown [] = []
+markKnown (x ∷ xs) = record { by = x .by; cut = x .cut; known = true } ∷ xs
+
+-- "If its coordinator failed before any working cabinet took that resume or was restored from that save, the one before"
+abbrev pub passOver : ℕ → List Save → List Save
+passOver a [] = []
+passOver a (x ∷ xs) = cond (eqb (x .by) a && not (x .known)) xs (x ∷ xs)
+
+abbrev pub withSent : History → Log → History
+withSent h l = record { sent = l; taken = h .taken; cuts = h .cuts; saves = h .saves; start = h .start; lost = h .lost }
+
+abbrev pub withTaken : History → Log → History
+withTaken h l = record { sent = h .sent; taken = l; cuts = h .cuts; saves = h .saves; start = h .start; lost = h .lost }
+
+abbrev pub withCuts : History → (ℕ → Option Cut) → History
+withCuts h c = record { sent = h .sent; taken = h .taken; cuts = c; saves = h .saves; start = h .start; lost = h .lost }
+
+abbrev pub withSaves : History → List Save → History
+withSaves h s = record { sent = h .sent; taken = h .taken; cuts = h .cuts; saves = s; start = h .start; lost = h .lost }
+
+-- ---- what a taken step adds to the history; cabinets are numbered from 0, g is the group before it and g′ after it
+
+-- cabinet i goes from one state to another in the step
+abbrev pub goes : Group → Group → ℕ → State → State → Bool
+goes g g′ i s t = isIn (stateOf g i) s && isIn (stateOf g′ i) t
+
+-- a normal packet whose amount the receiver adds
+abbrev pub noteTaken : Bool → History → ℕ → ℕ → Packet → History
+noteTaken true h a b Empty = h
+noteTaken true h a b (NormalPacket p) = withTaken h (logged (h .taken) a b p)
+noteTaken true h a b (Checkp v) = h
+noteTaken true h a b Resume = h
+noteTaken true h a b (Recover v) = h
+noteTaken true h a b (Fault p) = h
+noteTaken true h a b Invalid = h
+noteTaken false h a b p = h
+
+abbrev pub noteKnown : Bool → History → History
+noteKnown true h = withSaves h (markKnown (h .saves))
+noteKnown false h = h
+
+-- the commit by coordinator k
+abbrev pub noteCommit : Bool → History → ℕ → History
+noteCommit true h k = withSaves h (record { by = k; cut = h .cuts; known = false } ∷ h .saves)
+noteCommit false h k = h
+
+-- "A failed cabinet's image is its image in the save restored after it failed."
+abbrev pub imageIn : Option Cut → Option Image → Option Image
+imageIn none m = m
+imageIn (some c) m = some (c .image)
+
+abbrev pub lostNow : History → Group → ℕ → Option Image → Option Image
+lostNow h g i (some m) = some m
+lostNow h g i none = cond (works (stateOf g i)) none (imageIn (latest h .cut i) none)
+
+-- the end of a recovery: packets count anew, and the cabinets failed since have their image
+abbrev pub noteEnd : Bool → History → Group → History
+noteEnd true h g = record { sent = noLog; taken = noLog; cuts = h .cuts; saves = h .saves; start = h .start; lost = λ i. lostNow h g i (h .lost i) }
+noteEnd false h g = h
+
+-- "a recovery ends in the step that takes a coordinator from recovered to normal"
+abbrev pub ends : Group → Group → ℕ → Bool
+ends g g′ k = goes g g′ k Recovered Normal && eqb (coordinator (cabinet g k)) k
+
+abbrev pub observe : History → Group → Group → Step → History
+observe h g g′ (Send a b q) = withSent h (logged (h .sent) (a - 1) (b - 1) (record { amount = q }))
+observe h g g′ (Note a p q) = h
+observe h g g′ (Begin a) = withCuts h (λ i. none)
+observe h g g′ (Deliver a b) =
+    noteKnown (goes g g′ (b - 1) Checkpointed Normal)
+    (noteTaken (marked (inUse (cabinet g (b - 1))) (a - 1) && takesFrom (cabinet g (b - 1)) (a - 1)) h (a - 1) (b - 1)
+    (oldest (line g (a - 1) (b - 1))))
+observe h g g′ (Write a) = h
+observe h g g′ (Saved a) =
+    let k = coordinator (cabinet g (cabinet g (a - 1) .home)) in noteCommit (goes g g′ k Checkpointed Normal) h k
+observe h g g′ (Fetch a) = noteKnown (goes g g′ (a - 1) Recovering Recovered) h
+observe h g g′ (Restored a) = noteEnd (ends g g′ (coordinator (cabinet g (a - 1)))) h g′
+observe h g g′ (WaitOver a) = h
+observe h g g′ (Fail a) = withSaves h (passOver (a - 1) (h .saves))
+
+-- "A cut belongs to the last begin taken by then, and its image is the cabinet's as that step leaves it."
+abbrev pub cutIn : History → Group → ℕ → Cut
+cutIn h g i = record { image = cabinet g i .image; sent = h .sent i; taken = λ j. h .taken j i }
+
+abbrev pub noteCuts : History → Group → Group → History
+noteCuts h g g′ =
+    withCuts h (λ i. cond (isIn (stateOf g′ i) Checkpointing && not (isIn (stateOf g i) Checkpointing)) (some (cutIn h g′ i)) (h .cuts i))
+
+-- ---- the run
+
+abbrev pub ifTaken : ℕ → History → History → History
+ifTaken answer h′ h = cond (eqb answer 0) h′ h
+
+-- a refusal adds nothing, and a crash ends the group
+abbrev pub recordDecoded : History → Group → Outcome → Decoded → History
+recordDecoded h g o Malformed = h
+recordDecoded h g o Unused = h
+recordDecoded h g o (Taken s) = ifTaken (o .answer) (noteCuts (observe h g (o .group) s) g (o .group)) h
+
+pub record World : Type 0 where
+  pub group : Group
+  pub history : History
+
+unfoldable pub advance : World → List ℕ → World
+advance w r = record {
+  group = step (w .group) r .group;
+  history = recordDecoded (w .history) (w .group) (step (w .group) r) (decode r);
+}
+
+unfoldable pub run : World → List (List ℕ) → World
+run w [] = w
+run w (r ∷ rs) = run (advance w r) rs
+
+-- the group as loaded, with nothing in its history
+abbrev pub opening : Group → World
+opening g = record { group = g; history = begun g }

@@ -1,0 +1,126 @@
+-- Document 01, "Marked": the cases that are proved together, as one table of what is found and what the paper says.
+-- Texts are quoted here as they are printed, and not made from the words of the listing's definition.
+use Prim.Native.Nat.{ℕ, zero, suc, _+_, _*_, _/_, _%_}
+use Prim.Native.Char.{code}
+use Prim.Native.String.{String, [] as nothing, _∷_ as _then_}
+use mathlib.Core.List.{List, [], _∷_, _++_}
+use lib.ListN.{length, replicate}
+use Rattle.crc.specs.Crc.{crc}
+use Rattle.group.specs.declared.Group.{Group}
+use Rattle.load.specs.Load.{load}
+use Rattle.protocol.specs.Entry.{step}
+use Rattle.protocol.specs.Listing.{Text, listing}
+
+-- a quoted text as the list of its ASCII octets
+abbrev pub ascii : String → Text
+ascii nothing = []
+ascii (_then_ c s) = code c ∷ ascii s
+
+-- ---- group files
+
+-- a two-octet number, high octet first
+abbrev pub twoOctets : ℕ → List ℕ
+twoOctets v = v / 256 ∷ v % 256 ∷ []
+
+-- the header of a file of n cabinets and m links
+abbrev pub header : ℕ → ℕ → List ℕ
+header n m = twoOctets n ++ twoOctets m ++ twoOctets 10 ++ twoOctets (10 + 4 * n) ++ twoOctets (10 + 4 * n + 2 * m)
+
+-- entries of cabinets whose home is 1 and that are no stores
+abbrev pub others : List ℕ → List ℕ
+others [] = []
+others (booking ∷ bookings) = 1 ∷ 0 ∷ twoOctets booking ++ others bookings
+
+-- n links: 1 to 2, 2 to 3, and so on
+abbrev pub rowLinks : ℕ → List ℕ
+rowLinks zero = []
+rowLinks (suc n) = rowLinks n ++ suc n ∷ suc (suc n) ∷ []
+
+-- a row of cabinets with these bookings, of which the first is the store and the home of all
+abbrev pub rowOf : ℕ → List ℕ → List ℕ
+rowOf booking bookings =
+    header (suc (length bookings)) (length bookings) ++ 1 ∷ 1 ∷ twoOctets booking ++ others bookings ++ rowLinks (length bookings)
+
+abbrev pub twoCabinets : ℕ → ℕ → List ℕ
+twoCabinets x y = rowOf x (y ∷ [])
+
+-- ---- step records
+
+abbrev pub recordOf : ℕ → ℕ → ℕ → ℕ → ℕ → List ℕ
+recordOf kind a b p q = kind ∷ a ∷ b ∷ p ∷ twoOctets q
+
+abbrev pub send : ℕ → ℕ → ℕ → List ℕ
+send a b q = recordOf 1 a b 0 q
+
+abbrev pub begin : ℕ → List ℕ
+begin a = recordOf 3 a 0 0 0
+
+abbrev pub deliver : ℕ → ℕ → List ℕ
+deliver a b = recordOf 4 a b 0 0
+
+abbrev pub fetch : ℕ → List ℕ
+fetch a = recordOf 7 a 0 0 0
+
+abbrev pub restored : ℕ → List ℕ
+restored a = recordOf 8 a 0 0 0
+
+abbrev pub fail : ℕ → List ℕ
+fail a = recordOf 10 a 0 0 0
+
+-- the group after steps taken one after the other
+abbrev pub after : Group → List (List ℕ) → Group
+after g [] = g
+after g (r ∷ rs) = after (step g r .group) rs
+
+-- ---- the table
+
+-- what a case asks: the listing of a file and steps, the check of octets, the answer of load, or that of a step after others
+pub data Question : Type 0 where
+  ListingOf : (file steps : List ℕ) → Question
+  CheckOf : (octets : List ℕ) → Question
+  LoadOf : (file : List ℕ) → Question
+  StepOf : (file : List ℕ) (before : List (List ℕ)) (asked : List ℕ) → Question
+
+-- what the definitions say to it: a text, or one number
+unfoldable pub found : Question → List ℕ
+found (ListingOf file steps) = listing file steps
+found (CheckOf octets) = crc octets ∷ []
+found (LoadOf file) = load file .answer ∷ []
+found (StepOf file before asked) = step (after (load file .group) before) asked .answer ∷ []
+
+-- a case: what is asked, and what the paper says
+pub record Case : Type 0 where
+  pub asked : Question
+  pub expected : List ℕ
+
+-- "Two cabinets, 1 the store and home of both, bookings 100 and 50. Steps: send 1 to 2 of 30, deliver, fail 2, fetch 1 four times,
+-- restored 1."
+abbrev pub exampleFile : List ℕ
+exampleFile = twoCabinets 100 50
+
+abbrev pub exampleSteps : List ℕ
+exampleSteps = send 1 2 30 ++ deliver 1 2 ++ fail 2 ++ fetch 1 ++ fetch 1 ++ fetch 1 ++ fetch 1 ++ restored 1
+
+abbrev pub exampleOutput : Text
+exampleOutput = ascii "step 1 0\nstep 2 0\nstep 3 0\nstep 4 0\nstep 5 0\nstep 6 0\nstep 7 0\nstep 8 0\ncab 1 normal 0 100\ncab 2 failed\n"
+
+abbrev pub marked : List Case
+marked =
+    record { asked = ListingOf exampleFile exampleSteps; expected = exampleOutput }
+    -- "check of no octets 0xFFFF; of the ASCII text 123456789 0x29B1"
+    ∷ record { asked = CheckOf []; expected = 0xFFFF ∷ [] }
+    ∷ record { asked = CheckOf (ascii "123456789"); expected = 0x29B1 ∷ [] }
+    -- "n of 8 loads, 9 gives 2"
+    ∷ record { asked = LoadOf (rowOf 0 (replicate 7 0)); expected = 0 ∷ [] }
+    ∷ record { asked = LoadOf (rowOf 0 (replicate 8 0)); expected = 2 ∷ [] }
+    -- "total 65,535 loads, 65,536 gives 7"
+    ∷ record { asked = LoadOf (twoCabinets 65000 535); expected = 0 ∷ [] }
+    ∷ record { asked = LoadOf (twoCabinets 65000 536); expected = 7 ∷ [] }
+    -- "sending 100 of 100 is taken, 101 gives 16"
+    ∷ record { asked = StepOf (twoCabinets 100 50) [] (send 1 2 100); expected = 0 ∷ [] }
+    ∷ record { asked = StepOf (twoCabinets 100 50) [] (send 1 2 101); expected = 16 ∷ [] }
+    -- "a ninth normal packet gives 17"
+    ∷ record { asked = StepOf (twoCabinets 100 50) (replicate 8 (send 1 2 1)) (send 1 2 1); expected = 17 ∷ [] }
+    -- "begin at 2 while 1 works gives 14"
+    ∷ record { asked = StepOf (twoCabinets 100 50) [] (begin 2); expected = 14 ∷ [] }
+    ∷ []

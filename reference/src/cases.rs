@@ -1,0 +1,743 @@
+//! Random cases from a seed: a group file, sound or damaged, and a steps file. The model runs
+//! along while steps are made, so that most of them are steps that would be taken.
+
+use crate::model::{self, Event, Group, Number, Packet, State, CRASHED};
+
+pub type Record = [u8; 6];
+
+#[derive(Clone, PartialEq, Eq, Debug)]
+pub struct Case {
+    pub group: Vec<u8>,
+    pub steps: Vec<u8>,
+}
+
+/// What kind of cases are wanted.
+#[derive(Clone, Copy, Debug)]
+pub struct Wishes {
+    /// Whether a record of kind 11 may occur at all.
+    pub damage: bool,
+    /// Kinds above this one are unknown to the model.
+    pub highest_kind: u8,
+    /// The number of cabinets of a sound group, any from 2 to 8 if none is named.
+    pub cabinets: Option<usize>,
+}
+
+// ---------------------------------------------------------------- dice
+
+/// A small generator of random numbers (splitmix64).
+pub struct Dice(u64);
+
+impl Dice {
+    pub fn new(seed: u64) -> Dice {
+        Dice(seed)
+    }
+
+    fn next(&mut self) -> u64 {
+        self.0 = self.0.wrapping_add(0x9E37_79B9_7F4A_7C15);
+        let mut z = self.0;
+        z = (z ^ (z >> 30)).wrapping_mul(0xBF58_476D_1CE4_E5B9);
+        z = (z ^ (z >> 27)).wrapping_mul(0x94D0_49BB_1331_11EB);
+        z ^ (z >> 31)
+    }
+
+    /// A number from 0 to `bound` less one.
+    fn below(&mut self, bound: usize) -> usize {
+        (self.next() % bound as u64) as usize
+    }
+
+    /// A number from `low` to `high`, both counted in.
+    fn between(&mut self, low: usize, high: usize) -> usize {
+        low + self.below(high - low + 1)
+    }
+
+    fn per_thousand(&mut self, chance: usize) -> bool {
+        self.below(1000) < chance
+    }
+
+    fn pick<T: Copy>(&mut self, choices: &[T]) -> T {
+        choices[self.below(choices.len())]
+    }
+
+    fn pick_any<T: Copy>(&mut self, choices: &[T]) -> Option<T> {
+        (!choices.is_empty()).then(|| self.pick(choices))
+    }
+
+    fn octet(&mut self) -> u8 {
+        self.below(256) as u8
+    }
+}
+
+/// The seed of one case in a row of cases.
+pub fn case_seed(seed: u64, index: u64) -> u64 {
+    let mut dice = Dice::new(seed ^ index.wrapping_mul(0xD6E8_FEB8_6659_FD93));
+    dice.next() ^ index
+}
+
+pub fn make_case(seed: u64, wishes: Wishes) -> Case {
+    let mut dice = Dice::new(seed);
+    let draft = GroupDraft::sound(&mut dice, wishes.cabinets);
+    let damaged = wishes.cabinets.is_none() && dice.per_thousand(60);
+    let (group, length) = if damaged {
+        (damaged_group_file(&mut dice, draft), dice.below(5))
+    } else {
+        (draft.octets(), steps_length(&mut dice, wishes))
+    };
+    let steps = make_steps(&mut dice, &group, wishes, length);
+    Case { group, steps }
+}
+
+/// As many records as a listing reads.
+const LONG: usize = 10_000;
+
+/// Mostly up to 600 records; once in a while more than a listing reads.
+fn steps_length(dice: &mut Dice, wishes: Wishes) -> usize {
+    if wishes.cabinets.is_some() {
+        return 600;
+    }
+    if dice.per_thousand(1) {
+        return LONG + dice.below(5);
+    }
+    dice.below(601).max(dice.below(601))
+}
+
+// ---------------------------------------------------------------- group files
+
+#[derive(Clone)]
+struct CabinetDraft {
+    home: u8,
+    mark: u8,
+    booking: u16,
+}
+
+#[derive(Clone)]
+struct GroupDraft {
+    cabinets: Vec<CabinetDraft>,
+    links: Vec<(u8, u8)>,
+}
+
+impl GroupDraft {
+    fn sound(dice: &mut Dice, cabinets: Option<usize>) -> GroupDraft {
+        let n = cabinets.unwrap_or_else(|| dice.between(2, 8));
+        let marks = store_marks(dice, n);
+        let stores: Vec<u8> = (1..=n as u8).filter(|&c| marks[usize::from(c) - 1]).collect();
+        let bookings = bookings(dice, n);
+        let cabinet = |index: usize| CabinetDraft {
+            home: dice.pick(&stores),
+            mark: u8::from(marks[index]),
+            booking: bookings[index],
+        };
+        let cabinets = (0..n).map(cabinet).collect();
+        let links = connected_links(dice, n as u8);
+        GroupDraft { cabinets, links }
+    }
+
+    fn octets(&self) -> Vec<u8> {
+        let link_table = 10 + 4 * self.cabinets.len();
+        let length = link_table + 2 * self.links.len();
+        let header = [self.cabinets.len(), self.links.len(), 10, link_table, length];
+        let mut file = Vec::new();
+        for number in header {
+            file.extend_from_slice(&(number as u16).to_be_bytes());
+        }
+        for cabinet in &self.cabinets {
+            file.extend_from_slice(&[cabinet.home, cabinet.mark]);
+            file.extend_from_slice(&cabinet.booking.to_be_bytes());
+        }
+        for &(low, high) in &self.links {
+            file.extend_from_slice(&[low, high]);
+        }
+        file
+    }
+}
+
+/// At least one store. Cabinet 1 is mostly none, since a store that fails crashes the group.
+fn store_marks(dice: &mut Dice, n: usize) -> Vec<bool> {
+    let chance = dice.pick(&[100, 250, 500]);
+    let mut marks: Vec<bool> = (0..n).map(|_| dice.per_thousand(chance)).collect();
+    if dice.per_thousand(700) {
+        marks[0] = false;
+    }
+    if !marks.contains(&true) {
+        let lowest = usize::from(dice.per_thousand(700));
+        let store = dice.between(lowest, n - 1);
+        marks[store] = true;
+    }
+    marks
+}
+
+fn bookings(dice: &mut Dice, n: usize) -> Vec<u16> {
+    let total = match dice.below(4) {
+        0 => 65_535,
+        1 => dice.below(500),
+        _ => dice.below(65_536),
+    };
+    let even_share = total / n;
+    let mut left = total;
+    let mut shares: Vec<u16> = (1..n)
+        .map(|_| {
+            let share = dice.below(2 * even_share + 1).min(left);
+            left -= share;
+            share as u16
+        })
+        .collect();
+    shares.insert(dice.below(n), left as u16);
+    shares
+}
+
+/// A random tree, and each further link with a chance from none to all.
+fn connected_links(dice: &mut Dice, n: u8) -> Vec<(u8, u8)> {
+    let mut links = Vec::new();
+    for cabinet in 2..=n {
+        links.push((1 + dice.below(usize::from(cabinet) - 1) as u8, cabinet));
+    }
+    let chance = dice.pick(&[0, 200, 400, 700, 1000]);
+    for low in 1..n {
+        for high in low + 1..=n {
+            if dice.per_thousand(chance) {
+                links.push((low, high));
+            }
+        }
+    }
+    links.sort_unstable();
+    links.dedup();
+    links
+}
+
+// ---------------------------------------------------------------- damaged group files
+
+/// Aims at one of the refusals 1 to 7, now and then at two, or changes any octet.
+fn damaged_group_file(dice: &mut Dice, mut draft: GroupDraft) -> Vec<u8> {
+    let aims = [dice.between(1, 8), dice.between(1, 8)];
+    let aims = &aims[..1 + usize::from(dice.per_thousand(250))];
+    for &aim in aims {
+        match aim {
+            4 => damage_cabinet_entry(dice, &mut draft),
+            5 => damage_link_entry(dice, &mut draft),
+            6 => disconnect(dice, &mut draft),
+            7 => overbook(dice, &mut draft),
+            _ => {}
+        }
+    }
+    let mut file = draft.octets();
+    for &aim in aims {
+        match aim {
+            1 => file.truncate(dice.below(10)),
+            2 => damage_n(dice, &mut file),
+            3 => damage_layout(dice, &mut file),
+            8 => damage_any_octet(dice, &mut file),
+            _ => {}
+        }
+    }
+    file
+}
+
+fn damage_cabinet_entry(dice: &mut Dice, draft: &mut GroupDraft) {
+    let n = draft.cabinets.len();
+    let index = dice.below(n);
+    let homeless = draft.cabinets.iter().position(|cabinet| cabinet.mark == 0);
+    let cabinet = &mut draft.cabinets[index];
+    match (dice.below(3), homeless) {
+        (0, _) => cabinet.mark = dice.pick(&[2, 3, 128, 255]),
+        (1, Some(other)) => cabinet.home = other as u8 + 1,
+        _ => cabinet.home = dice.pick(&[0, n as u8 + 1, 9, 255]),
+    }
+}
+
+fn damage_link_entry(dice: &mut Dice, draft: &mut GroupDraft) {
+    let n = draft.cabinets.len() as u8;
+    let index = dice.below(draft.links.len());
+    let (low, high) = draft.links[index];
+    match dice.below(6) {
+        0 => draft.links[index] = (high, low),
+        1 => draft.links[index] = (low, low),
+        2 => draft.links[index] = (0, high),
+        3 => draft.links[index] = (low, n + 1),
+        4 => draft.links.insert(index, (low, high)),
+        _ => draft.links.rotate_left(1),
+    }
+}
+
+fn disconnect(dice: &mut Dice, draft: &mut GroupDraft) {
+    let lonely = dice.between(1, draft.cabinets.len()) as u8;
+    draft.links.retain(|&(low, high)| low != lonely && high != lonely);
+}
+
+fn overbook(dice: &mut Dice, draft: &mut GroupDraft) {
+    let total: u32 = draft.cabinets.iter().map(|cabinet| u32::from(cabinet.booking)).sum();
+    let index = dice.below(draft.cabinets.len());
+    let booking = u32::from(draft.cabinets[index].booking);
+    let needed = 65_536 - (total - booking);
+    if dice.per_thousand(500) && needed <= 65_535 {
+        draft.cabinets[index].booking = needed as u16;
+    } else {
+        draft.cabinets.iter_mut().for_each(|cabinet| cabinet.booking = 50_000);
+    }
+}
+
+fn damage_n(dice: &mut Dice, file: &mut [u8]) {
+    let n = dice.pick(&[0u16, 1, 9, 10, 256, 258, 65_535]);
+    set_number(file, 0, n);
+}
+
+fn damage_layout(dice: &mut Dice, file: &mut Vec<u8>) {
+    match dice.below(5) {
+        0 => file.push(dice.octet()),
+        1 => file.truncate(file.len().saturating_sub(1)),
+        2 => add_to_number(file, 2, 0x8000), // the length would fit modulo 65,536
+        3 => add_to_number(file, dice.pick(&[2, 4, 6, 8]), 1),
+        _ => add_to_number(file, dice.pick(&[4, 6, 8]), dice.pick(&[0xFFFF, 256, 2])),
+    }
+}
+
+fn damage_any_octet(dice: &mut Dice, file: &mut [u8]) {
+    if !file.is_empty() {
+        let index = dice.below(file.len());
+        file[index] ^= dice.between(1, 255) as u8;
+    }
+}
+
+fn set_number(file: &mut [u8], offset: usize, number: u16) {
+    if let Some(place) = file.get_mut(offset..offset + 2) {
+        place.copy_from_slice(&number.to_be_bytes());
+    }
+}
+
+fn add_to_number(file: &mut [u8], offset: usize, more: u16) {
+    if let Some(&[high, low]) = file.get(offset..offset + 2) {
+        let number = u16::from_be_bytes([high, low]).wrapping_add(more);
+        set_number(file, offset, number);
+    }
+}
+
+// ---------------------------------------------------------------- the temper of a run
+
+/// How a run behaves; drawn anew for each case. Chances are per thousand.
+struct Temper {
+    /// Weight of each kind among sensible steps; entry 0 is not used.
+    weights: [usize; 12],
+    foolish: usize,
+    /// Chance of a step that comes too soon.
+    hasty: usize,
+    /// Chance that a fail or a damage is not kept from crashing the group.
+    bold: usize,
+    /// Chance that the step after a commit strikes at it.
+    strike_after_commit: usize,
+    /// A cabinet to which packets are seldom delivered.
+    slow: Option<Number>,
+    /// A cabinet that sends most of the time, and mostly to its lowest neighbour.
+    talker: Option<Number>,
+}
+
+impl Temper {
+    fn drawn(dice: &mut Dice, group: &Group, damage: bool) -> Temper {
+        let mut weights = [0, 250, 15, 0, 300, 160, 120, 160, 120, 80, 0, 0];
+        for weight in &mut weights {
+            *weight = *weight * dice.pick(&[1, 2, 4]) / 2;
+        }
+        weights[3] = dice.pick(&[3, 8, 20, 60]);
+        weights[10] = dice.pick(&[0, 2, 5, 15]);
+        weights[11] = if damage { dice.pick(&[0, 6, 12, 40]) } else { 0 };
+        Temper {
+            weights,
+            foolish: dice.pick(&[0, 20, 80, 250]),
+            hasty: dice.pick(&[0, 20, 80]),
+            bold: dice.pick(&[0, 0, 20, 150]),
+            strike_after_commit: dice.pick(&[0, 200, 700]),
+            slow: dice.per_thousand(400).then(|| dice.between(1, group.size())),
+            talker: dice.per_thousand(300).then(|| dice.between(1, group.size())),
+        }
+    }
+
+    fn kind(&self, dice: &mut Dice) -> u8 {
+        let mut ticket = dice.below(self.weights.iter().sum());
+        for (kind, &weight) in self.weights.iter().enumerate() {
+            if ticket < weight {
+                return kind as u8;
+            }
+            ticket -= weight;
+        }
+        4
+    }
+}
+
+// ---------------------------------------------------------------- steps
+
+fn record(kind: u8, a: Number, b: Number, p: u8, q: u16) -> Record {
+    let [high, low] = q.to_be_bytes();
+    [kind, a as u8, b as u8, p, high, low]
+}
+
+fn make_steps(dice: &mut Dice, group_file: &[u8], wishes: Wishes, length: usize) -> Vec<u8> {
+    let mut steps = match model::load(group_file) {
+        Ok(group) => {
+            let temper = Temper::drawn(dice, &group, wishes.damage);
+            Run { dice, group, wishes, temper, last_event: Event::Nothing }.make(length)
+        }
+        Err(_) => (0..6 * length).map(|_| dice.below(10) as u8).collect(),
+    };
+    if dice.per_thousand(100) {
+        add_short_record(dice, &mut steps);
+    }
+    steps
+}
+
+fn add_short_record(dice: &mut Dice, steps: &mut Vec<u8>) {
+    let length = dice.between(1, 5);
+    steps.push(dice.between(0, 10) as u8);
+    steps.extend((1..length).map(|_| dice.below(9) as u8));
+}
+
+/// A run of the model, one record after the other.
+struct Run<'a> {
+    dice: &'a mut Dice,
+    group: Group,
+    wishes: Wishes,
+    temper: Temper,
+    last_event: Event,
+}
+
+impl Run<'_> {
+    fn make(&mut self, length: usize) -> Vec<u8> {
+        let mut steps = Vec::new();
+        let mut left = length;
+        while left > 0 {
+            left -= 1;
+            let record = self.next_record();
+            let outcome = self.group.step(&record, self.wishes.highest_kind);
+            self.last_event = outcome.event;
+            steps.extend_from_slice(&record);
+            if length < LONG {
+                left = left.min(self.worth_going_on(outcome.answer));
+            }
+        }
+        steps
+    }
+
+    /// How many steps more are of any use after this answer.
+    fn worth_going_on(&mut self, answer: u8) -> usize {
+        if answer == CRASHED {
+            self.dice.below(8)
+        } else if self.group.working_cabinets().len() == 1 {
+            100
+        } else {
+            LONG
+        }
+    }
+
+    fn next_record(&mut self) -> Record {
+        let foolish = self.temper.foolish;
+        if self.dice.per_thousand(foolish) {
+            return self.foolish_record();
+        }
+        let hasty = self.temper.hasty;
+        if self.dice.per_thousand(hasty) {
+            if let Some(record) = self.hasty_record() {
+                return record;
+            }
+        }
+        let strike = self.temper.strike_after_commit;
+        if self.last_event == Event::Commit && self.dice.per_thousand(strike) {
+            if let Some(record) = self.strike_at_commit() {
+                return record;
+            }
+        }
+        for _ in 0..50 {
+            let kind = self.temper.kind(self.dice);
+            if let Some(record) = self.sensible_record(kind) {
+                return record;
+            }
+        }
+        self.foolish_record()
+    }
+
+    fn any_cabinet(&mut self) -> Number {
+        self.dice.between(1, self.group.size())
+    }
+
+    /// Whether the record would be taken (or taken with a crash).
+    fn taken(&self, record: &Record) -> bool {
+        let step = model::decode(record, self.wishes.highest_kind);
+        step.is_ok_and(|step| self.group.refusal(&step).is_none())
+    }
+
+    /// Right after a commit: its coordinator fails, or one of its resume packets is hurt.
+    fn strike_at_commit(&mut self) -> Option<Record> {
+        let coordinator = *self.group.working_cabinets().first()?;
+        if self.wishes.damage && self.dice.per_thousand(500) {
+            return self.damage_on_lines_from(coordinator);
+        }
+        let safe = self.group.crash_by_failing(coordinator).is_none();
+        safe.then(|| record(10, coordinator, 0, 0, 0))
+    }
+}
+
+// ---------------------------------------------------------------- sensible steps
+
+impl Run<'_> {
+    fn sensible_record(&mut self, kind: u8) -> Option<Record> {
+        match kind {
+            1 => self.sensible_send(),
+            2 => self.sensible_note(),
+            4 => self.sensible_deliver(),
+            10 => self.sensible_fail(),
+            11 if self.dice.per_thousand(150) => self.second_damage(),
+            11 => {
+                let from = self.any_cabinet();
+                self.damage_on_lines_from(from)
+            }
+            _ => self.sensible_single(kind),
+        }
+    }
+
+    /// Kinds that name one cabinet and nothing else.
+    fn sensible_single(&mut self, kind: u8) -> Option<Record> {
+        let all = self.group.numbers().map(|a| record(kind, a, 0, 0, 0));
+        let taken: Vec<Record> = all.filter(|record| self.taken(record)).collect();
+        self.dice.pick_any(&taken)
+    }
+
+    fn sensible_send(&mut self) -> Option<Record> {
+        let (from, to) = self.line_to_send_on()?;
+        let booking = usize::from(self.group.cabinet(from).booking());
+        let amount = match self.dice.below(30) {
+            0 => booking,
+            1 => booking + 1,
+            2..=9 => self.dice.between(0, booking),
+            _ => self.dice.between(1, 1 + booking / 8),
+        };
+        let record = record(1, from, to, 0, amount.min(65_535) as u16);
+        (self.taken(&record) || self.dice.per_thousand(100)).then_some(record)
+    }
+
+    fn line_to_send_on(&mut self) -> Option<(Number, Number)> {
+        if let Some(talker) = self.temper.talker {
+            if self.dice.per_thousand(700) {
+                let lowest = self.group.cabinet(talker).neighbours().first().copied();
+                return lowest.map(|to| (talker, to));
+            }
+        }
+        let from = self.any_cabinet();
+        let to = self.dice.pick_any(&self.group.cabinet(from).neighbours())?;
+        Some((from, to))
+    }
+
+    fn sensible_note(&mut self) -> Option<Record> {
+        let octet = self.dice.between(2, 31) as u8;
+        let value = u16::from(self.dice.octet());
+        let record = record(2, self.any_cabinet(), 0, octet, value);
+        self.taken(&record).then_some(record)
+    }
+
+    fn filled_lines(&self) -> Vec<(Number, Number)> {
+        let mut filled = Vec::new();
+        for from in self.group.numbers() {
+            for to in self.group.numbers() {
+                if !self.group.line(from, to).packets.is_empty() {
+                    filled.push((from, to));
+                }
+            }
+        }
+        filled
+    }
+
+    fn sensible_deliver(&mut self) -> Option<Record> {
+        let filled = self.filled_lines();
+        let mut line = self.dice.pick_any(&filled)?;
+        for _ in 0..4 {
+            if Some(line.1) == self.temper.slow && self.dice.per_thousand(900) {
+                line = self.dice.pick(&filled);
+            }
+        }
+        Some(record(4, line.0, line.1, 0, 0))
+    }
+
+    fn sensible_fail(&mut self) -> Option<Record> {
+        let bold = self.temper.bold;
+        let bold = self.dice.per_thousand(bold);
+        let working = self.group.working_cabinets().into_iter();
+        let allowed = |a: &Number| bold || self.group.crash_by_failing(*a).is_none();
+        let allowed: Vec<Number> = working.filter(allowed).collect();
+        let cabinet = self.dice.pick_any(&allowed)?;
+        Some(record(10, cabinet, 0, 0, 0))
+    }
+
+    fn damage_on_lines_from(&mut self, from: Number) -> Option<Record> {
+        let lines = self.filled_lines();
+        let lines: Vec<_> = lines.into_iter().filter(|line| line.0 == from).collect();
+        let (from, to) = self.dice.pick_any(&lines)?;
+        let bold = self.temper.bold;
+        let dangerous =
+            self.group.recovery_under_way() || self.group.crashes_without_link(from, to);
+        if dangerous && !self.dice.per_thousand(bold) {
+            return None;
+        }
+        let place = self.place_to_hurt(from, to);
+        let pattern = self.pattern();
+        let record = record(11, from, to, place, pattern);
+        (self.taken(&record) || self.dice.per_thousand(300)).then_some(record)
+    }
+
+    /// On a line where a normal packet was hurt already; refused if it aims at a normal one.
+    fn second_damage(&mut self) -> Option<Record> {
+        if self.group.recovery_under_way() {
+            return None;
+        }
+        let hurt = |line: &(Number, Number)| self.group.line(line.0, line.1).hurt;
+        let lines: Vec<_> = self.filled_lines().into_iter().filter(hurt).collect();
+        let (from, to) = self.dice.pick_any(&lines)?;
+        let place = self.dice.below(self.group.line(from, to).packets.len());
+        Some(record(11, from, to, place as u8, self.pattern()))
+    }
+
+    /// Fail-safe packets are hurt as often as normal ones.
+    fn place_to_hurt(&mut self, from: Number, to: Number) -> u8 {
+        let packets = &self.group.line(from, to).packets;
+        let fail_safe = |place: &usize| !matches!(packets[*place], Packet::Normal(_));
+        let special: Vec<usize> = (0..packets.len()).filter(fail_safe).collect();
+        let any = self.dice.below(packets.len());
+        match self.dice.pick_any(&special) {
+            Some(place) if self.dice.per_thousand(500) => place as u8,
+            _ => any as u8,
+        }
+    }
+
+    fn pattern(&mut self) -> u16 {
+        match self.dice.below(10) {
+            0 => 0,
+            1..=4 => 1 << self.dice.below(16),
+            _ => self.dice.between(1, 65_535) as u16,
+        }
+    }
+}
+
+// ---------------------------------------------------------------- foolish steps
+
+impl Run<'_> {
+    /// A cabinet in the state that the kind asks for, whatever the others are in.
+    fn hasty_record(&mut self) -> Option<Record> {
+        let (kind, state) = self.dice.pick(&[
+            (5, State::Checkpointing),
+            (6, State::Checkpointed),
+            (7, State::Recovering),
+            (8, State::Recovered),
+            (9, State::Error),
+            (9, State::Error),
+        ]);
+        let fits = |a: &Number| self.group.cabinet(*a).state == state;
+        let fitting: Vec<Number> = self.group.numbers().filter(fits).collect();
+        let cabinet = self.dice.pick_any(&fitting)?;
+        Some(record(kind, cabinet, 0, 0, 0))
+    }
+
+    /// A well-formed step that asks for nothing, or one that is malformed as well.
+    fn foolish_record(&mut self) -> Record {
+        let record = self.random_record();
+        if self.dice.per_thousand(600) {
+            return record;
+        }
+        match self.dice.below(3) {
+            0 => self.with_unknown_kind(record),
+            1 => self.with_unused_field(record),
+            _ => self.with_strange_cabinet(record),
+        }
+    }
+
+    fn random_record(&mut self) -> Record {
+        let kinds = if self.wishes.damage { 11 } else { 10 };
+        let mut kind = self.dice.between(1, kinds) as u8;
+        if kind == 10 && !self.dice.per_thousand(30) {
+            kind = 9; // a fail is nearly always taken, and then it mostly crashes the group
+        }
+        let (names_b, names_p, names_q) = model::fields_named(kind);
+        let b = if names_b { self.any_cabinet() } else { 0 };
+        let p = if names_p { self.strange_octet_place() } else { 0 };
+        let q = if names_q { self.strange_value() } else { 0 };
+        if kind == 11 && self.group.recovery_under_way() && !self.dice.per_thousand(100) {
+            return record(11, self.any_cabinet(), b, 12, q);
+        }
+        record(kind, self.any_cabinet(), b, p, q)
+    }
+
+    fn strange_octet_place(&mut self) -> u8 {
+        let any = self.dice.octet();
+        let small = self.dice.below(12) as u8;
+        self.dice.pick(&[0, 1, 2, 31, 32, 255, small, small, any])
+    }
+
+    fn strange_value(&mut self) -> u16 {
+        let any = self.dice.below(65_536) as u16;
+        self.dice.pick(&[0, 1, 2, 255, 256, 65_535, any])
+    }
+
+    fn with_unknown_kind(&mut self, mut record: Record) -> Record {
+        let any = self.dice.between(12, 255) as u8;
+        record[0] = self.dice.pick(&[0, 12, 255, any]);
+        record
+    }
+
+    fn with_unused_field(&mut self, mut record: Record) -> Record {
+        let (names_b, names_p, names_q) = model::fields_named(record[0]);
+        let named = [names_b, names_p, names_q, names_q];
+        let unused: Vec<usize> = (2..6).filter(|&field| !named[field - 2]).collect();
+        if let Some(field) = self.dice.pick_any(&unused) {
+            record[field] = self.dice.between(1, 255) as u8;
+        }
+        record
+    }
+
+    fn with_strange_cabinet(&mut self, mut record: Record) -> Record {
+        let beyond = self.group.size() as u8 + 1;
+        let strange = self.dice.pick(&[0, beyond, 9, 255]);
+        let names_b = model::fields_named(record[0]).0;
+        let field = if names_b { self.dice.between(1, 2) } else { 1 };
+        record[field] = strange;
+        record
+    }
+}
+
+// ---------------------------------------------------------------- tests
+
+#[cfg(test)]
+mod tests {
+    use super::*;
+    use crate::listing::{counted_listing, Tally};
+
+    fn wishes(damage: bool) -> Wishes {
+        Wishes { damage, highest_kind: 11, cabinets: None }
+    }
+
+    fn tally_of(cases: u64, wishes: Wishes) -> Tally {
+        let mut tally = Tally::default();
+        for index in 0..cases {
+            let case = make_case(case_seed(7, index), wishes);
+            tally.add(&counted_listing(&case.group, &case.steps, 11).1);
+        }
+        tally
+    }
+
+    #[test]
+    fn a_seed_makes_the_same_case_again() {
+        assert_eq!(make_case(5, wishes(true)), make_case(5, wishes(true)));
+    }
+
+    #[test]
+    fn without_damage_no_record_has_kind_11() {
+        for index in 0..200 {
+            let case = make_case(case_seed(3, index), wishes(false));
+            assert!(case.steps.chunks(6).all(|record| record[0] != 11));
+        }
+    }
+
+    #[test]
+    fn the_cases_reach_every_answer() {
+        let tally = tally_of(600, wishes(true));
+        let answers: Vec<u8> = tally.answers.keys().copied().collect();
+        assert_eq!(answers, [0, 8, 9, 10, 11, 12, 13, 14, 15, 16, 17, 18, 19, 20, 50]);
+        let refusals: Vec<u8> = tally.loads_refused.keys().copied().collect();
+        assert_eq!(refusals, [1, 2, 3, 4, 5, 6, 7]);
+        assert_eq!(tally.kinds_taken.len(), 11);
+        assert_eq!(tally.crashes.len(), 6);
+        assert!(tally.commits > 0 && tally.recoveries_ended > 0);
+        assert!(tally.saves_passed_over > 0 && tally.link_faults > 0);
+    }
+}

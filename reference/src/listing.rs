@@ -1,0 +1,166 @@
+//! The listing: the text a program prints for a group file and a steps file, and counts of
+//! what happened on the way.
+
+use crate::model::{self, Crash, Event, Group, State, Version, RECORD_LENGTH, TAKEN};
+use std::collections::BTreeMap;
+use std::fmt::{Debug, Write};
+
+const RECORDS_READ: usize = 10_000;
+
+/// Counts over one or many listings.
+#[derive(Clone, Default, PartialEq, Eq, Debug)]
+pub struct Tally {
+    pub cases: u64,
+    pub steps: u64,
+    pub loads_refused: BTreeMap<u8, u64>,
+    pub answers: BTreeMap<u8, u64>,
+    pub kinds_taken: BTreeMap<u8, u64>,
+    pub commits: u64,
+    pub recoveries_ended: u64,
+    pub saves_passed_over: u64,
+    pub link_faults: u64,
+    pub crashes: BTreeMap<Crash, u64>,
+}
+
+impl Tally {
+    fn count_step(&mut self, record: &[u8], outcome: model::Outcome) {
+        self.steps += 1;
+        *self.answers.entry(outcome.answer).or_default() += 1;
+        if outcome.answer == TAKEN {
+            *self.kinds_taken.entry(record[0]).or_default() += 1;
+        }
+        match outcome.event {
+            Event::Nothing => {}
+            Event::Commit => self.commits += 1,
+            Event::LinkFault => self.link_faults += 1,
+            Event::Crash(cause) => *self.crashes.entry(cause).or_default() += 1,
+            Event::RecoveryEnd { save_passed_over } => {
+                self.recoveries_ended += 1;
+                self.saves_passed_over += u64::from(save_passed_over);
+            }
+        }
+    }
+
+    pub fn add(&mut self, other: &Tally) {
+        self.cases += other.cases;
+        self.steps += other.steps;
+        self.commits += other.commits;
+        self.recoveries_ended += other.recoveries_ended;
+        self.saves_passed_over += other.saves_passed_over;
+        self.link_faults += other.link_faults;
+        add_counts(&mut self.loads_refused, &other.loads_refused);
+        add_counts(&mut self.answers, &other.answers);
+        add_counts(&mut self.kinds_taken, &other.kinds_taken);
+        add_counts(&mut self.crashes, &other.crashes);
+    }
+
+    pub fn report(&self) -> String {
+        let mut text = format!("{} cases, {} steps\n", self.cases, self.steps);
+        let _ = writeln!(text, "loads refused: {}", counts_text(&self.loads_refused));
+        let _ = writeln!(text, "answers: {}", counts_text(&self.answers));
+        let _ = writeln!(text, "taken by kind: {}", counts_text(&self.kinds_taken));
+        let _ = writeln!(text, "commits: {}", self.commits);
+        let _ = writeln!(text, "recoveries ended: {}", self.recoveries_ended);
+        let _ = writeln!(text, "saves passed over: {}", self.saves_passed_over);
+        let _ = writeln!(text, "link faults found: {}", self.link_faults);
+        let crashes: u64 = self.crashes.values().sum();
+        let _ = writeln!(text, "crashes: {crashes} ({})", counts_text(&self.crashes));
+        text
+    }
+}
+
+fn add_counts<K: Copy + Ord>(sum: &mut BTreeMap<K, u64>, more: &BTreeMap<K, u64>) {
+    for (&key, count) in more {
+        *sum.entry(key).or_default() += count;
+    }
+}
+
+fn counts_text<K: Debug>(counts: &BTreeMap<K, u64>) -> String {
+    let each = |(key, count): (&K, &u64)| format!("{key:?} x {count}");
+    counts.iter().map(each).collect::<Vec<_>>().join(", ")
+}
+
+/// The listing and its counts; kinds above `highest_kind` are unknown.
+pub fn counted_listing(group_file: &[u8], steps_file: &[u8], highest_kind: u8) -> (String, Tally) {
+    let mut tally = Tally { cases: 1, ..Tally::default() };
+    let mut group = match model::load(group_file) {
+        Ok(group) => group,
+        Err(refusal) => {
+            tally.loads_refused.insert(refusal, 1);
+            return (format!("load {refusal}\n"), tally);
+        }
+    };
+    let mut text = String::new();
+    let records = steps_file.chunks(RECORD_LENGTH).take(RECORDS_READ);
+    for (index, record) in records.enumerate() {
+        let outcome = group.step(record, highest_kind);
+        let _ = writeln!(text, "step {} {}", index + 1, outcome.answer);
+        tally.count_step(record, outcome);
+    }
+    list_cabinets(&mut text, &group);
+    (text, tally)
+}
+
+pub fn listing(group_file: &[u8], steps_file: &[u8], highest_kind: u8) -> String {
+    counted_listing(group_file, steps_file, highest_kind).0
+}
+
+fn list_cabinets(text: &mut String, group: &Group) {
+    for number in group.numbers() {
+        let cabinet = group.cabinet(number);
+        let _ = if cabinet.state == State::Failed {
+            writeln!(text, "cab {number} failed")
+        } else {
+            let state = cabinet.state.name();
+            let version = version_text(cabinet.version);
+            writeln!(text, "cab {number} {state} {version} {}", cabinet.booking())
+        };
+    }
+}
+
+fn version_text(version: Version) -> String {
+    match version {
+        Version::Known(version) => version.to_string(),
+        Version::Unknown { .. } => "u".to_string(),
+    }
+}
+
+#[cfg(test)]
+mod tests {
+    use super::*;
+
+    const GROUP: [u8; 20] = [0, 2, 0, 1, 0, 10, 0, 18, 0, 20, 1, 1, 0, 100, 1, 0, 0, 50, 1, 2];
+
+    #[test]
+    fn the_worked_example() {
+        let steps = [
+            [1, 1, 2, 0, 0, 30],
+            [4, 1, 2, 0, 0, 0],
+            [10, 2, 0, 0, 0, 0],
+            [7, 1, 0, 0, 0, 0],
+            [7, 1, 0, 0, 0, 0],
+            [7, 1, 0, 0, 0, 0],
+            [7, 1, 0, 0, 0, 0],
+            [8, 1, 0, 0, 0, 0],
+        ];
+        let expected = "step 1 0\nstep 2 0\nstep 3 0\nstep 4 0\nstep 5 0\nstep 6 0\n\
+                        step 7 0\nstep 8 0\ncab 1 normal 0 100\ncab 2 failed\n";
+        let (text, tally) = counted_listing(&GROUP, &steps.concat(), 11);
+        assert_eq!(text, expected);
+        assert_eq!(tally.recoveries_ended, 1);
+    }
+
+    #[test]
+    fn empty_files_and_short_records() {
+        assert_eq!(listing(&[], &[], 11), "load 1\n");
+        let cabinets = "cab 1 normal 0 100\ncab 2 normal 0 50\n";
+        assert_eq!(listing(&GROUP, &[], 11), cabinets);
+        assert_eq!(listing(&GROUP, &[4, 1, 2], 11), format!("step 1 8\n{cabinets}"));
+    }
+
+    #[test]
+    fn ten_thousand_records_are_read() {
+        let steps = [0; 6 * 10_001];
+        assert_eq!(listing(&GROUP, &steps, 11).lines().count(), 10_002);
+    }
+}

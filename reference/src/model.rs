@@ -1,0 +1,1245 @@
+//! The charger group: cabinets, lines and store, the load of a group file and the eleven
+//! kinds of step. Written from the scope document and the decisions alone; cabinet numbers
+//! are 1 to n here, as they are there.
+
+use std::collections::{BTreeSet, VecDeque};
+
+pub type Number = usize;
+pub type Image = [u8; 32];
+
+pub const TAKEN: u8 = 0;
+pub const CRASHED: u8 = 50;
+pub const RECORD_LENGTH: usize = 6;
+pub const NORMAL_PLACES: usize = 8;
+const LINE_PLACES: usize = 12;
+const PIECES: usize = 4;
+const PIECE_LENGTH: usize = 8;
+const CHECK_START: u16 = 0xFFFF;
+
+// ---------------------------------------------------------------- the check value
+
+/// One octet more under the check: polynomial 0x1021, high bit first.
+fn check_octet(register: u16, octet: u8) -> u16 {
+    let mut value = register ^ (u16::from(octet) << 8);
+    for _ in 0..8 {
+        let carry = value & 0x8000 != 0;
+        value <<= 1;
+        if carry {
+            value ^= 0x1021;
+        }
+    }
+    value
+}
+
+pub fn check_octets(register: u16, octets: &[u8]) -> u16 {
+    octets.iter().fold(register, |r, &o| check_octet(r, o))
+}
+
+/// A normal packet runs through the check as 0x00 and its amount.
+fn check_normal_packet(register: u16, amount: u16) -> u16 {
+    let [high, low] = amount.to_be_bytes();
+    check_octets(register, &[0x00, high, low])
+}
+
+// ---------------------------------------------------------------- parts of a group
+
+#[derive(Clone, Copy, PartialEq, Eq, Debug)]
+pub enum State {
+    Normal,
+    CheckpBegin,
+    Checkpointing,
+    Checkpointed,
+    Error,
+    Recovering,
+    Recovered,
+    Crashed,
+    Failed,
+}
+
+impl State {
+    pub fn name(self) -> &'static str {
+        match self {
+            State::Normal => "normal",
+            State::CheckpBegin => "checkp-begin",
+            State::Checkpointing => "checkpointing",
+            State::Checkpointed => "checkpointed",
+            State::Error => "error",
+            State::Recovering => "recovering",
+            State::Recovered => "recovered",
+            State::Crashed => "crashed",
+            State::Failed => "failed",
+        }
+    }
+
+    fn in_recovery(self) -> bool {
+        matches!(self, State::Error | State::Recovering | State::Recovered)
+    }
+}
+
+#[derive(Clone, Copy, PartialEq, Eq, Debug)]
+pub enum Version {
+    Known(u8),
+    Unknown { old: u8 },
+}
+
+impl Version {
+    /// The version, or the old one while it is unknown.
+    fn number(self) -> u8 {
+        match self {
+            Version::Known(version) => version,
+            Version::Unknown { old } => old,
+        }
+    }
+}
+
+/// The place of a fault; a link has its lower number first.
+#[derive(Clone, Copy, PartialEq, Eq, Debug)]
+pub enum Place {
+    Cabinet(Number),
+    Link(Number, Number),
+}
+
+#[derive(Clone, Copy, PartialEq, Eq, Debug)]
+pub enum Packet {
+    Normal(u16),
+    Checkp(u16),
+    Resume,
+    Recover(u8),
+    Fault(Place),
+    Invalid,
+}
+
+#[derive(Clone, Default)]
+pub struct Line {
+    pub packets: VecDeque<Packet>,
+    /// A normal packet of this line was hurt since the receiver's register restarted.
+    pub hurt: bool,
+}
+
+impl Line {
+    fn normal_packets(&self) -> usize {
+        let normal = |packet: &&Packet| matches!(packet, Packet::Normal(_));
+        self.packets.iter().filter(normal).count()
+    }
+
+    fn put(&mut self, packet: Packet) {
+        if self.packets.len() < LINE_PLACES {
+            self.packets.push_back(packet);
+        }
+    }
+}
+
+/// What a cabinet notes of the last save or recovery.
+#[derive(Clone, Default)]
+struct Noted {
+    checkps_come: BTreeSet<Number>,
+    pieces_done: usize,
+    saved: BTreeSet<Number>,
+    restored: BTreeSet<Number>,
+    faults_heard: BTreeSet<Number>,
+}
+
+/// Why a cabinet entered error, and which cabinet was its coordinator before.
+#[derive(Clone, Copy)]
+struct Trouble {
+    place: Place,
+    coordinator_before: Number,
+}
+
+#[derive(Clone)]
+pub struct Cabinet {
+    pub state: State,
+    pub version: Version,
+    pub image: Image,
+    home: Number,
+    store: bool,
+    cabinets_in_use: BTreeSet<Number>,
+    links_in_use: BTreeSet<Number>,
+    sent_check: Vec<u16>,
+    taken_check: Vec<u16>,
+    noted: Noted,
+    reports_owed: BTreeSet<Number>,
+    trouble: Option<Trouble>,
+}
+
+impl Cabinet {
+    pub fn booking(&self) -> u16 {
+        u16::from_be_bytes([self.image[0], self.image[1]])
+    }
+
+    fn set_booking(&mut self, amperes: u16) {
+        self.image[..2].copy_from_slice(&amperes.to_be_bytes());
+    }
+
+    pub fn working(&self) -> bool {
+        self.state != State::Failed
+    }
+
+    fn coordinator(&self) -> Number {
+        let lowest = self.cabinets_in_use.first();
+        *lowest.expect("a cabinet stays in its own table")
+    }
+
+    fn uses_line_to(&self, other: Number) -> bool {
+        self.links_in_use.contains(&other) && self.cabinets_in_use.contains(&other)
+    }
+
+    /// The neighbours over lines in use, in rising order.
+    pub fn neighbours(&self) -> Vec<Number> {
+        let both = self.links_in_use.intersection(&self.cabinets_in_use);
+        both.copied().collect()
+    }
+
+    fn has_all_neighbours(&self, came: &BTreeSet<Number>) -> bool {
+        self.neighbours().iter().all(|b| came.contains(b))
+    }
+
+    fn strike(&mut self, own: Number, place: Place) {
+        match place {
+            Place::Cabinet(failed) => self.cabinets_in_use.remove(&failed),
+            Place::Link(low, high) if own == low => self.links_in_use.remove(&high),
+            Place::Link(low, high) if own == high => self.links_in_use.remove(&low),
+            Place::Link(..) => false,
+        };
+    }
+
+    fn enter_normal(&mut self) {
+        self.state = State::Normal;
+        self.noted = Noted::default();
+    }
+}
+
+/// For the counts only: the last commit whose resume nobody took and from which nobody was
+/// restored, and whether the recovery under way passes over a save.
+#[derive(Clone, Default)]
+struct History {
+    unseen_commit_by: Option<Number>,
+    passing_over: bool,
+}
+
+#[derive(Clone)]
+pub struct Group {
+    cabinets: Vec<Cabinet>,
+    file_links: BTreeSet<(Number, Number)>,
+    sound_links: BTreeSet<(Number, Number)>,
+    lines: Vec<Vec<Line>>,
+    slots: Vec<[Image; 2]>,
+    history: History,
+}
+
+fn link_between(a: Number, b: Number) -> (Number, Number) {
+    (a.min(b), a.max(b))
+}
+
+/// Whether all members are reached from the lowest one over links between members.
+fn connected(members: &BTreeSet<Number>, links: &BTreeSet<(Number, Number)>) -> bool {
+    let mut reached: BTreeSet<Number> = members.first().copied().into_iter().collect();
+    let mut ahead: Vec<Number> = reached.iter().copied().collect();
+    while let Some(here) = ahead.pop() {
+        for &next in members {
+            if links.contains(&link_between(here, next)) && reached.insert(next) {
+                ahead.push(next);
+            }
+        }
+    }
+    reached.len() == members.len()
+}
+
+// ---------------------------------------------------------------- load
+
+const HEADER_LENGTH: usize = 10;
+const CABINET_ENTRY_LENGTH: usize = 4;
+const LINK_ENTRY_LENGTH: usize = 2;
+
+struct CabinetEntry {
+    home: Number,
+    mark: u8,
+    booking: u16,
+}
+
+fn number_at(octets: &[u8], offset: usize) -> usize {
+    usize::from(u16::from_be_bytes([octets[offset], octets[offset + 1]]))
+}
+
+/// Refusals 1 to 3; answers n.
+fn load_header(file: &[u8]) -> Result<usize, u8> {
+    if file.len() < HEADER_LENGTH {
+        return Err(1);
+    }
+    let n = number_at(file, 0);
+    if !(2..=8).contains(&n) {
+        return Err(2);
+    }
+    let link_table = HEADER_LENGTH + CABINET_ENTRY_LENGTH * n;
+    let length = link_table + LINK_ENTRY_LENGTH * number_at(file, 2);
+    let stated = [4, 6, 8].map(|offset| number_at(file, offset));
+    if stated != [HEADER_LENGTH, link_table, length] || file.len() != length {
+        return Err(3);
+    }
+    Ok(n)
+}
+
+fn cabinet_entries(table: &[u8]) -> Vec<CabinetEntry> {
+    let entry = |octets: &[u8]| CabinetEntry {
+        home: usize::from(octets[0]),
+        mark: octets[1],
+        booking: u16::from_be_bytes([octets[2], octets[3]]),
+    };
+    table.chunks(CABINET_ENTRY_LENGTH).map(entry).collect()
+}
+
+fn cabinet_entries_sound(entries: &[CabinetEntry]) -> bool {
+    entries.iter().all(|entry| {
+        entry.mark <= 1
+            && (1..=entries.len()).contains(&entry.home)
+            && entries[entry.home - 1].mark == 1
+    })
+}
+
+fn link_entries(table: &[u8]) -> Vec<(Number, Number)> {
+    let entry = |octets: &[u8]| (usize::from(octets[0]), usize::from(octets[1]));
+    table.chunks(LINK_ENTRY_LENGTH).map(entry).collect()
+}
+
+fn link_entries_sound(entries: &[(Number, Number)], n: usize) -> bool {
+    let each = entries.iter().all(|&(low, high)| 1 <= low && low < high && high <= n);
+    each && entries.windows(2).all(|pair| pair[0] < pair[1])
+}
+
+/// The group of a group file, or the number of the refusal.
+pub fn load(file: &[u8]) -> Result<Group, u8> {
+    let n = load_header(file)?;
+    let link_table = HEADER_LENGTH + CABINET_ENTRY_LENGTH * n;
+    let entries = cabinet_entries(&file[HEADER_LENGTH..link_table]);
+    if !cabinet_entries_sound(&entries) {
+        return Err(4);
+    }
+    let links = link_entries(&file[link_table..]);
+    if !link_entries_sound(&links, n) {
+        return Err(5);
+    }
+    let links: BTreeSet<_> = links.into_iter().collect();
+    if !connected(&(1..=n).collect(), &links) {
+        return Err(6);
+    }
+    let total: u32 = entries.iter().map(|entry| u32::from(entry.booking)).sum();
+    if total > 65_535 {
+        return Err(7);
+    }
+    Ok(starting_group(&entries, links))
+}
+
+fn starting_group(entries: &[CabinetEntry], links: BTreeSet<(Number, Number)>) -> Group {
+    let n = entries.len();
+    let cabinets: Vec<Cabinet> =
+        (1..=n).map(|number| starting_cabinet(number, n, &entries[number - 1], &links)).collect();
+    Group {
+        slots: cabinets.iter().map(|cabinet| [cabinet.image, [0; 32]]).collect(),
+        cabinets,
+        file_links: links.clone(),
+        sound_links: links,
+        lines: vec![vec![Line::default(); n]; n],
+        history: History::default(),
+    }
+}
+
+fn starting_cabinet(
+    number: Number,
+    n: usize,
+    entry: &CabinetEntry,
+    links: &BTreeSet<(Number, Number)>,
+) -> Cabinet {
+    let linked = |other: &Number| links.contains(&link_between(number, *other));
+    let mut cabinet = Cabinet {
+        state: State::Normal,
+        version: Version::Known(0),
+        image: [0; 32],
+        home: entry.home,
+        store: entry.mark == 1,
+        cabinets_in_use: (1..=n).collect(),
+        links_in_use: (1..=n).filter(linked).collect(),
+        sent_check: vec![CHECK_START; n],
+        taken_check: vec![CHECK_START; n],
+        noted: Noted::default(),
+        reports_owed: BTreeSet::new(),
+        trouble: None,
+    };
+    cabinet.set_booking(entry.booking);
+    cabinet
+}
+
+// ---------------------------------------------------------------- step records
+
+#[derive(Clone, Copy, PartialEq, Eq, Debug)]
+pub enum Step {
+    Send { from: Number, to: Number, amount: u16 },
+    Note { at: Number, octet: u8, value: u16 },
+    Begin(Number),
+    Deliver { from: Number, to: Number },
+    Write(Number),
+    Saved(Number),
+    Fetch(Number),
+    Restored(Number),
+    WaitOver(Number),
+    Fail(Number),
+    Damage { from: Number, to: Number, place: u8, pattern: u16 },
+}
+
+/// Refusals 8 and 9; kinds above `highest_kind` are unknown.
+pub fn decode(record: &[u8], highest_kind: u8) -> Result<Step, u8> {
+    let &[kind, a, b, p, q_high, q_low] = record else {
+        return Err(8);
+    };
+    if kind == 0 || kind > highest_kind {
+        return Err(8);
+    }
+    let q = u16::from_be_bytes([q_high, q_low]);
+    let (names_b, names_p, names_q) = fields_named(kind);
+    if (!names_b && b != 0) || (!names_p && p != 0) || (!names_q && q != 0) {
+        return Err(9);
+    }
+    step_of_fields(kind, usize::from(a), usize::from(b), p, q).ok_or(8)
+}
+
+/// Whether a kind names b, p and q. All kinds name a.
+pub fn fields_named(kind: u8) -> (bool, bool, bool) {
+    match kind {
+        1 => (true, false, true),
+        2 => (false, true, true),
+        4 => (true, false, false),
+        11 => (true, true, true),
+        _ => (false, false, false),
+    }
+}
+
+fn step_of_fields(kind: u8, a: Number, b: Number, p: u8, q: u16) -> Option<Step> {
+    Some(match kind {
+        1 => Step::Send { from: a, to: b, amount: q },
+        2 => Step::Note { at: a, octet: p, value: q },
+        3 => Step::Begin(a),
+        4 => Step::Deliver { from: a, to: b },
+        5 => Step::Write(a),
+        6 => Step::Saved(a),
+        7 => Step::Fetch(a),
+        8 => Step::Restored(a),
+        9 => Step::WaitOver(a),
+        10 => Step::Fail(a),
+        11 => Step::Damage { from: a, to: b, place: p, pattern: q },
+        _ => return None,
+    })
+}
+
+impl Step {
+    fn cabinets(&self) -> Vec<Number> {
+        match *self {
+            Step::Send { from, to, .. }
+            | Step::Deliver { from, to }
+            | Step::Damage { from, to, .. } => vec![from, to],
+            Step::Note { at: a, .. }
+            | Step::Begin(a)
+            | Step::Write(a)
+            | Step::Saved(a)
+            | Step::Fetch(a)
+            | Step::Restored(a)
+            | Step::WaitOver(a)
+            | Step::Fail(a) => vec![a],
+        }
+    }
+
+    /// The cabinet that refusal 12 asks for, if any.
+    fn must_not_have_failed(&self) -> Option<Number> {
+        match *self {
+            Step::Deliver { to, .. } => Some(to),
+            Step::Saved(_) | Step::Damage { .. } => None,
+            _ => self.cabinets().first().copied(),
+        }
+    }
+}
+
+// ---------------------------------------------------------------- answers
+
+/// What a taken step was, for the counts.
+#[derive(Clone, Copy, PartialEq, Eq, Debug)]
+pub enum Event {
+    Nothing,
+    Commit,
+    RecoveryEnd { save_passed_over: bool },
+    LinkFault,
+    Crash(Crash),
+}
+
+#[derive(Clone, Copy, PartialEq, Eq, Debug)]
+pub struct Outcome {
+    pub answer: u8,
+    pub event: Event,
+}
+
+/// Why the group is to crash; nothing has been changed yet.
+#[derive(Clone, Copy, PartialEq, Eq, PartialOrd, Ord, Debug)]
+pub enum Crash {
+    StoreFailed,
+    FailInRecovery,
+    DamageInRecovery,
+    PlacesMet,
+    CutOffByFail,
+    CutOffByLinkFault,
+}
+
+// ---------------------------------------------------------------- looking at a group
+
+impl Group {
+    pub fn size(&self) -> usize {
+        self.cabinets.len()
+    }
+
+    pub fn numbers(&self) -> std::ops::RangeInclusive<Number> {
+        1..=self.size()
+    }
+
+    pub fn cabinet(&self, number: Number) -> &Cabinet {
+        &self.cabinets[number - 1]
+    }
+
+    pub fn line(&self, from: Number, to: Number) -> &Line {
+        &self.lines[from - 1][to - 1]
+    }
+
+    pub fn crashed(&self) -> bool {
+        self.cabinets.iter().any(|c| c.state == State::Crashed)
+    }
+
+    pub fn recovery_under_way(&self) -> bool {
+        self.cabinets.iter().any(|c| c.state.in_recovery())
+    }
+
+    pub fn working_cabinets(&self) -> BTreeSet<Number> {
+        self.numbers().filter(|&c| self.cabinet(c).working()).collect()
+    }
+
+    pub fn link_in_file(&self, a: Number, b: Number) -> bool {
+        self.file_links.contains(&link_between(a, b))
+    }
+
+    /// Why the group would crash if this cabinet failed now, if it would.
+    pub fn crash_by_failing(&self, cabinet: Number) -> Option<Crash> {
+        let mut others = self.working_cabinets();
+        others.remove(&cabinet);
+        if self.cabinet(cabinet).store {
+            Some(Crash::StoreFailed)
+        } else if self.recovery_under_way() {
+            Some(Crash::FailInRecovery)
+        } else {
+            let cut_off = !connected(&others, &self.sound_links);
+            cut_off.then_some(Crash::CutOffByFail)
+        }
+    }
+
+    /// Whether the group would crash if this link were found faulty now.
+    pub fn crashes_without_link(&self, a: Number, b: Number) -> bool {
+        let mut links = self.sound_links.clone();
+        links.remove(&link_between(a, b));
+        !connected(&self.working_cabinets(), &links)
+    }
+
+    fn cabinet_mut(&mut self, number: Number) -> &mut Cabinet {
+        &mut self.cabinets[number - 1]
+    }
+
+    fn line_mut(&mut self, from: Number, to: Number) -> &mut Line {
+        &mut self.lines[from - 1][to - 1]
+    }
+}
+
+// ---------------------------------------------------------------- refusals 10 to 20
+
+impl Group {
+    /// The first refusal of a decoded step, if any.
+    pub fn refusal(&self, step: &Step) -> Option<u8> {
+        if self.crashed() {
+            return Some(10);
+        }
+        if !step.cabinets().iter().all(|c| self.numbers().contains(c)) {
+            return Some(11);
+        }
+        if step.must_not_have_failed().is_some_and(|c| !self.cabinet(c).working()) {
+            return Some(12);
+        }
+        self.refusal_of_kind(step)
+    }
+
+    fn refusal_of_kind(&self, step: &Step) -> Option<u8> {
+        match *step {
+            Step::Send { from, to, amount } => self.send_refusal(from, to, amount),
+            Step::Note { at, octet, value } => self.note_refusal(at, octet, value),
+            Step::Begin(a) => self.begin_refusal(a),
+            Step::Deliver { from, to } => self.deliver_refusal(from, to),
+            Step::Write(a) => self.write_refusal(a),
+            Step::Saved(a) => self.saved_refusal(a),
+            Step::Fetch(a) => self.fetch_refusal(a),
+            Step::Restored(a) => self.restored_refusal(a),
+            Step::WaitOver(a) => self.wait_over_refusal(a),
+            Step::Fail(_) => None,
+            Step::Damage { from, to, place, pattern } => {
+                self.damage_refusal(from, to, place, pattern)
+            }
+        }
+    }
+
+    fn send_refusal(&self, from: Number, to: Number, amount: u16) -> Option<u8> {
+        let sender = self.cabinet(from);
+        first_refusal(&[
+            (13, !sender.uses_line_to(to)),
+            (14, sender.state != State::Normal),
+            (15, amount == 0),
+            (16, amount > sender.booking()),
+            (17, self.line(from, to).normal_packets() >= NORMAL_PLACES),
+        ])
+    }
+
+    fn note_refusal(&self, at: Number, octet: u8, value: u16) -> Option<u8> {
+        first_refusal(&[
+            (14, self.cabinet(at).state != State::Normal),
+            (15, !(2..=31).contains(&octet) || value > 255),
+        ])
+    }
+
+    fn begin_refusal(&self, a: Number) -> Option<u8> {
+        let cabinet = self.cabinet(a);
+        first_refusal(&[(14, cabinet.state != State::Normal || cabinet.coordinator() != a)])
+    }
+
+    fn deliver_refusal(&self, from: Number, to: Number) -> Option<u8> {
+        first_refusal(&[
+            (13, !self.link_in_file(from, to)),
+            (18, self.line(from, to).packets.is_empty()),
+        ])
+    }
+
+    fn write_refusal(&self, a: Number) -> Option<u8> {
+        let cabinet = self.cabinet(a);
+        first_refusal(&[
+            (14, cabinet.state != State::Checkpointing),
+            (19, self.cabinet(cabinet.home).state.in_recovery()),
+        ])
+    }
+
+    fn saved_refusal(&self, a: Number) -> Option<u8> {
+        let home = self.cabinet(self.cabinet(a).home);
+        let coordinator = self.cabinet(home.coordinator()).state;
+        let saving = matches!(coordinator, State::Checkpointing | State::Checkpointed);
+        first_refusal(&[(19, !home.reports_owed.contains(&a) || !saving)])
+    }
+
+    fn fetch_refusal(&self, a: Number) -> Option<u8> {
+        let cabinet = self.cabinet(a);
+        let home = self.cabinet(cabinet.home).state;
+        first_refusal(&[
+            (14, cabinet.state != State::Recovering),
+            (19, !matches!(home, State::Recovering | State::Recovered)),
+        ])
+    }
+
+    fn restored_refusal(&self, a: Number) -> Option<u8> {
+        let cabinet = self.cabinet(a);
+        let coordinator = self.cabinet(cabinet.coordinator());
+        let listening = matches!(coordinator.state, State::Recovering | State::Recovered);
+        first_refusal(&[
+            (14, cabinet.state != State::Recovered),
+            (19, coordinator.noted.restored.contains(&a)),
+            (19, !cabinet.has_all_neighbours(&cabinet.noted.faults_heard)),
+            (19, !listening),
+        ])
+    }
+
+    fn wait_over_refusal(&self, a: Number) -> Option<u8> {
+        let waiting =
+            |c: &Cabinet| c.state == State::Error && matches!(c.version, Version::Unknown { .. });
+        let all_waiting = self.cabinets.iter().filter(|c| c.working()).all(waiting);
+        first_refusal(&[(14, !self.lost_its_coordinator(a)), (19, !all_waiting)])
+    }
+
+    /// In error because of its coordinator, to which a link in use joined it.
+    fn lost_its_coordinator(&self, a: Number) -> bool {
+        let cabinet = self.cabinet(a);
+        let Some(trouble) = cabinet.trouble else {
+            return false;
+        };
+        cabinet.state == State::Error
+            && trouble.place == Place::Cabinet(trouble.coordinator_before)
+            && cabinet.links_in_use.contains(&trouble.coordinator_before)
+    }
+
+    fn damage_refusal(&self, from: Number, to: Number, place: u8, pattern: u16) -> Option<u8> {
+        let line = self.line(from, to);
+        let packet = line.packets.get(usize::from(place));
+        let normal = matches!(packet, Some(Packet::Normal(_)));
+        first_refusal(&[
+            (13, !self.link_in_file(from, to)),
+            (18, packet.is_none()),
+            (15, pattern == 0),
+            (20, normal && line.hurt),
+        ])
+    }
+}
+
+fn first_refusal(checks: &[(u8, bool)]) -> Option<u8> {
+    let found = checks.iter().find(|(_, applies)| *applies);
+    found.map(|&(answer, _)| answer)
+}
+
+// ---------------------------------------------------------------- taking steps
+
+impl Group {
+    /// One step from its record; kinds above `highest_kind` are unknown.
+    pub fn step(&mut self, record: &[u8], highest_kind: u8) -> Outcome {
+        let refused = |answer| Outcome { answer, event: Event::Nothing };
+        let step = match decode(record, highest_kind) {
+            Ok(step) => step,
+            Err(answer) => return refused(answer),
+        };
+        if let Some(answer) = self.refusal(&step) {
+            return refused(answer);
+        }
+        match self.perform(step) {
+            Ok(event) => Outcome { answer: TAKEN, event },
+            Err(cause) => {
+                self.crash();
+                Outcome { answer: CRASHED, event: Event::Crash(cause) }
+            }
+        }
+    }
+
+    fn perform(&mut self, step: Step) -> Result<Event, Crash> {
+        match step {
+            Step::Send { from, to, amount } => self.send(from, to, amount),
+            Step::Note { at, octet, value } => {
+                self.cabinet_mut(at).image[usize::from(octet)] = value as u8;
+            }
+            Step::Begin(a) => self.begin_saving(a),
+            Step::Deliver { from, to } => return self.deliver(from, to),
+            Step::Write(a) => self.write_piece(a),
+            Step::Saved(a) => return Ok(self.report_saved(a)),
+            Step::Fetch(a) => self.fetch_piece(a),
+            Step::Restored(a) => return Ok(self.report_restored(a)),
+            Step::WaitOver(a) => {
+                let old = self.cabinet(a).version.number();
+                self.start_recovering(a, old);
+            }
+            Step::Fail(a) => self.fail(a)?,
+            Step::Damage { from, to, place, pattern } => {
+                self.damage(from, to, usize::from(place), pattern)?;
+            }
+        }
+        Ok(Event::Nothing)
+    }
+
+    fn crash(&mut self) {
+        for cabinet in self.cabinets.iter_mut().filter(|c| c.working()) {
+            cabinet.state = State::Crashed;
+        }
+    }
+
+    fn put_on_all_lines(&mut self, from: Number, packet: Packet) {
+        for to in self.cabinet(from).neighbours() {
+            self.line_mut(from, to).put(packet);
+        }
+    }
+
+    fn send(&mut self, from: Number, to: Number, amount: u16) {
+        let sender = self.cabinet_mut(from);
+        sender.set_booking(sender.booking() - amount);
+        let register = &mut sender.sent_check[to - 1];
+        *register = check_normal_packet(*register, amount);
+        self.line_mut(from, to).put(Packet::Normal(amount));
+    }
+}
+
+// ---------------------------------------------------------------- receiving
+
+impl Group {
+    /// A packet whose delivery crashes the group stays in its line.
+    fn deliver(&mut self, from: Number, to: Number) -> Result<Event, Crash> {
+        let oldest = self.line(from, to).packets.front().copied();
+        let event = match oldest {
+            Some(packet) if self.cabinet(to).uses_line_to(from) => {
+                self.receive(from, to, packet)?
+            }
+            _ => Event::Nothing,
+        };
+        self.line_mut(from, to).packets.pop_front();
+        Ok(event)
+    }
+
+    fn receive(&mut self, from: Number, to: Number, packet: Packet) -> Result<Event, Crash> {
+        if self.cabinet(to).state.in_recovery() {
+            self.receive_in_recovery(from, to, packet)?;
+            Ok(Event::Nothing)
+        } else {
+            self.receive_in_operation(from, to, packet)
+        }
+    }
+
+    /// In normal and the three saving states.
+    fn receive_in_operation(
+        &mut self,
+        from: Number,
+        to: Number,
+        packet: Packet,
+    ) -> Result<Event, Crash> {
+        let state = self.cabinet(to).state;
+        match packet {
+            Packet::Normal(amount) if self.accepts_normal(from, to) => {
+                self.add_amount(from, to, amount);
+            }
+            Packet::Normal(_) | Packet::Invalid => return self.find_link_fault(from, to),
+            Packet::Checkp(value) if matches!(state, State::Normal | State::CheckpBegin) => {
+                return self.receive_checkp(from, to, value);
+            }
+            Packet::Resume if state == State::Checkpointed => self.resume_after_save(from, to),
+            Packet::Fault(place) => {
+                self.enter_error(to, place);
+                self.cabinet_mut(to).noted.faults_heard.insert(from);
+            }
+            Packet::Checkp(_) | Packet::Resume | Packet::Recover(_) => {}
+        }
+        Ok(Event::Nothing)
+    }
+
+    fn accepts_normal(&self, from: Number, to: Number) -> bool {
+        let receiver = self.cabinet(to);
+        match receiver.state {
+            State::Normal => true,
+            State::CheckpBegin => !receiver.noted.checkps_come.contains(&from),
+            _ => false,
+        }
+    }
+
+    fn add_amount(&mut self, from: Number, to: Number, amount: u16) {
+        let receiver = self.cabinet_mut(to);
+        receiver.set_booking(receiver.booking().wrapping_add(amount));
+        let register = &mut receiver.taken_check[from - 1];
+        *register = check_normal_packet(*register, amount);
+    }
+
+    fn receive_in_recovery(
+        &mut self,
+        from: Number,
+        to: Number,
+        packet: Packet,
+    ) -> Result<(), Crash> {
+        let receiver = self.cabinet_mut(to);
+        let heard = receiver.noted.faults_heard.contains(&from);
+        match (packet, receiver.state) {
+            (Packet::Fault(place), _) => {
+                if receiver.trouble.map(|trouble| trouble.place) != Some(place) {
+                    return Err(Crash::PlacesMet);
+                }
+                receiver.noted.faults_heard.insert(from);
+            }
+            (Packet::Recover(version), State::Error) if heard => {
+                self.start_recovering(to, version);
+            }
+            (Packet::Resume, State::Recovered) if heard && receiver.coordinator() != to => {
+                self.resume_after_recovery(to);
+            }
+            _ => {}
+        }
+        Ok(())
+    }
+}
+
+// ---------------------------------------------------------------- saving
+
+impl Group {
+    /// The coordinator begins, or a cabinet in normal joins.
+    fn begin_saving(&mut self, a: Number) {
+        let cabinet = self.cabinet_mut(a);
+        cabinet.state = State::CheckpBegin;
+        cabinet.noted = Noted::default();
+        for to in cabinet.neighbours() {
+            let register = &mut self.cabinet_mut(a).sent_check[to - 1];
+            let value = std::mem::replace(register, CHECK_START);
+            self.line_mut(a, to).put(Packet::Checkp(value));
+        }
+        self.cut_when_all_checkps_came(a);
+    }
+
+    fn receive_checkp(&mut self, from: Number, to: Number, value: u16) -> Result<Event, Crash> {
+        if self.cabinet(to).taken_check[from - 1] != value {
+            return self.find_link_fault(from, to);
+        }
+        self.restart_receiver(from, to);
+        if self.cabinet(to).state == State::Normal {
+            self.begin_saving(to);
+        }
+        self.cabinet_mut(to).noted.checkps_come.insert(from);
+        self.cut_when_all_checkps_came(to);
+        Ok(Event::Nothing)
+    }
+
+    fn restart_receiver(&mut self, from: Number, to: Number) {
+        self.cabinet_mut(to).taken_check[from - 1] = CHECK_START;
+        self.line_mut(from, to).hurt = false;
+    }
+
+    fn cut_when_all_checkps_came(&mut self, a: Number) {
+        let cabinet = self.cabinet_mut(a);
+        if cabinet.has_all_neighbours(&cabinet.noted.checkps_come) {
+            cabinet.state = State::Checkpointing;
+        }
+    }
+
+    fn write_piece(&mut self, a: Number) {
+        let cabinet = self.cabinet_mut(a);
+        let slot = usize::from(1 - cabinet.version.number());
+        let piece = piece_range(cabinet.noted.pieces_done);
+        let image = cabinet.image;
+        cabinet.noted.pieces_done += 1;
+        let complete = cabinet.noted.pieces_done == PIECES;
+        self.slots[a - 1][slot][piece.clone()].copy_from_slice(&image[piece]);
+        if complete {
+            self.finish_writing(a);
+        }
+    }
+
+    fn finish_writing(&mut self, a: Number) {
+        let cabinet = self.cabinet_mut(a);
+        cabinet.state = State::Checkpointed;
+        if cabinet.coordinator() != a {
+            cabinet.version = Version::Unknown { old: cabinet.version.number() };
+        }
+        let home = cabinet.home;
+        self.cabinet_mut(home).reports_owed.insert(a);
+    }
+
+    fn report_saved(&mut self, a: Number) -> Event {
+        let home_number = self.cabinet(a).home;
+        let home = self.cabinet_mut(home_number);
+        home.reports_owed.remove(&a);
+        let coordinator_number = home.coordinator();
+        let coordinator = self.cabinet_mut(coordinator_number);
+        coordinator.noted.saved.insert(a);
+        if !coordinator.noted.saved.is_superset(&coordinator.cabinets_in_use) {
+            return Event::Nothing;
+        }
+        self.commit(coordinator_number);
+        Event::Commit
+    }
+
+    fn commit(&mut self, a: Number) {
+        let cabinet = self.cabinet_mut(a);
+        cabinet.version = Version::Known(1 - cabinet.version.number());
+        cabinet.enter_normal();
+        self.put_on_all_lines(a, Packet::Resume);
+        self.history.unseen_commit_by = Some(a);
+    }
+
+    fn resume_after_save(&mut self, from: Number, to: Number) {
+        let cabinet = self.cabinet_mut(to);
+        if let Version::Unknown { old } = cabinet.version {
+            cabinet.version = Version::Known(1 - old);
+        }
+        cabinet.enter_normal();
+        for other in cabinet.neighbours() {
+            if other != from {
+                self.line_mut(to, other).put(Packet::Resume);
+            }
+        }
+        self.history.unseen_commit_by = None;
+    }
+}
+
+fn piece_range(piece: usize) -> std::ops::Range<usize> {
+    piece * PIECE_LENGTH..(piece + 1) * PIECE_LENGTH
+}
+
+// ---------------------------------------------------------------- failing and recovering
+
+impl Group {
+    fn fail(&mut self, a: Number) -> Result<(), Crash> {
+        if let Some(cause) = self.crash_by_failing(a) {
+            return Err(cause);
+        }
+        self.cabinet_mut(a).state = State::Failed;
+        for other in self.numbers() {
+            self.line_mut(a, other).packets.clear();
+            self.line_mut(other, a).packets.clear();
+        }
+        for other in self.working_cabinets() {
+            if self.cabinet(other).uses_line_to(a) {
+                self.enter_error(other, Place::Cabinet(a));
+            }
+        }
+        if self.history.unseen_commit_by == Some(a) {
+            self.history = History { unseen_commit_by: None, passing_over: true };
+        }
+        Ok(())
+    }
+
+    fn find_link_fault(&mut self, from: Number, to: Number) -> Result<Event, Crash> {
+        if self.crashes_without_link(from, to) {
+            return Err(Crash::CutOffByLinkFault);
+        }
+        let (low, high) = link_between(from, to);
+        self.sound_links.remove(&(low, high));
+        self.enter_error(to, Place::Link(low, high));
+        Ok(Event::LinkFault)
+    }
+
+    fn enter_error(&mut self, a: Number, place: Place) {
+        for other in self.numbers() {
+            self.line_mut(a, other).packets.clear();
+        }
+        let cabinet = self.cabinet_mut(a);
+        let coordinator_before = cabinet.coordinator();
+        cabinet.trouble = Some(Trouble { place, coordinator_before });
+        cabinet.strike(a, place);
+        cabinet.noted = Noted::default();
+        cabinet.reports_owed.clear();
+        cabinet.state = State::Error;
+        let version = cabinet.version;
+        self.put_on_all_lines(a, Packet::Fault(place));
+        if let Version::Known(version) = version {
+            self.start_recovering(a, version);
+        }
+    }
+
+    fn start_recovering(&mut self, a: Number, version: u8) {
+        let cabinet = self.cabinet_mut(a);
+        cabinet.version = Version::Known(version);
+        cabinet.state = State::Recovering;
+        self.put_on_all_lines(a, Packet::Recover(version));
+    }
+
+    fn fetch_piece(&mut self, a: Number) {
+        let home = self.cabinet(self.cabinet(a).home);
+        let slot = self.slots[a - 1][usize::from(home.version.number())];
+        let cabinet = self.cabinet_mut(a);
+        let piece = piece_range(cabinet.noted.pieces_done);
+        cabinet.image[piece.clone()].copy_from_slice(&slot[piece]);
+        cabinet.noted.pieces_done += 1;
+        if cabinet.noted.pieces_done == PIECES {
+            self.enter_recovered(a);
+        }
+    }
+
+    fn enter_recovered(&mut self, a: Number) {
+        let cabinet = self.cabinet_mut(a);
+        cabinet.state = State::Recovered;
+        cabinet.sent_check.fill(CHECK_START);
+        for other in self.numbers() {
+            self.restart_receiver(other, a);
+        }
+        self.history.unseen_commit_by = None;
+    }
+
+    fn report_restored(&mut self, a: Number) -> Event {
+        let coordinator_number = self.cabinet(a).coordinator();
+        let coordinator = self.cabinet_mut(coordinator_number);
+        coordinator.noted.restored.insert(a);
+        let all_in = coordinator.noted.restored.is_superset(&coordinator.cabinets_in_use);
+        if coordinator.state != State::Recovered || !all_in {
+            return Event::Nothing;
+        }
+        self.resume_after_recovery(coordinator_number);
+        let save_passed_over = std::mem::take(&mut self.history.passing_over);
+        Event::RecoveryEnd { save_passed_over }
+    }
+
+    fn resume_after_recovery(&mut self, a: Number) {
+        self.cabinet_mut(a).enter_normal();
+        self.put_on_all_lines(a, Packet::Resume);
+    }
+
+    fn damage(
+        &mut self,
+        from: Number,
+        to: Number,
+        place: usize,
+        pattern: u16,
+    ) -> Result<(), Crash> {
+        if self.recovery_under_way() {
+            return Err(Crash::DamageInRecovery);
+        }
+        let line = self.line_mut(from, to);
+        if let Packet::Normal(amount) = line.packets[place] {
+            line.packets[place] = Packet::Normal(amount ^ pattern);
+            line.hurt = true;
+        } else {
+            line.packets[place] = Packet::Invalid;
+        }
+        Ok(())
+    }
+}
+
+// ---------------------------------------------------------------- tests
+
+#[cfg(test)]
+mod tests {
+    use super::*;
+
+    /// Cabinets in a row, each linked to the next; the last one is the store of all.
+    fn group_file(bookings: &[u16]) -> Vec<u8> {
+        let n = bookings.len();
+        let link_table = 10 + 4 * n;
+        let header = [n, n - 1, 10, link_table, link_table + 2 * (n - 1)];
+        let mut file: Vec<u8> =
+            header.iter().flat_map(|&number| (number as u16).to_be_bytes()).collect();
+        for (index, booking) in bookings.iter().enumerate() {
+            file.extend_from_slice(&[n as u8, u8::from(index + 1 == n)]);
+            file.extend_from_slice(&booking.to_be_bytes());
+        }
+        for low in 1..n as u8 {
+            file.extend_from_slice(&[low, low + 1]);
+        }
+        file
+    }
+
+    fn group(bookings: &[u16]) -> Group {
+        load(&group_file(bookings)).unwrap_or_else(|refusal| panic!("load {refusal}"))
+    }
+
+    fn answers(group: &mut Group, records: &[Record]) -> Vec<u8> {
+        records.iter().map(|record| group.step(record, 11).answer).collect()
+    }
+
+    type Record = [u8; 6];
+
+    fn one(kind: u8, a: u8) -> Record {
+        [kind, a, 0, 0, 0, 0]
+    }
+
+    fn send(a: u8, b: u8, amount: u8) -> Record {
+        [1, a, b, 0, 0, amount]
+    }
+
+    fn deliver(a: u8, b: u8) -> Record {
+        [4, a, b, 0, 0, 0]
+    }
+
+    /// Two cabinets save as far as the commit, whose resume stays in the line.
+    fn commit_of_two(group: &mut Group) {
+        let records = [
+            one(3, 1),
+            deliver(1, 2),
+            deliver(2, 1),
+            one(5, 1),
+            one(5, 1),
+            one(5, 1),
+            one(5, 1),
+            one(5, 2),
+            one(5, 2),
+            one(5, 2),
+            one(5, 2),
+            one(6, 1),
+        ];
+        assert_eq!(answers(group, &records), [0; 12]);
+        assert_eq!(group.step(&one(6, 2), 11).event, Event::Commit);
+    }
+
+    #[test]
+    fn check_values_agree_with_the_published_ones() {
+        assert_eq!(check_octets(CHECK_START, b""), 0xFFFF);
+        assert_eq!(check_octets(CHECK_START, b"123456789"), 0x29B1);
+    }
+
+    #[test]
+    fn eight_cabinets_load_and_nine_do_not() {
+        assert!(load(&group_file(&[1; 8])).is_ok());
+        assert_eq!(load(&group_file(&[1; 9])).err(), Some(2));
+    }
+
+    #[test]
+    fn the_total_may_reach_65535() {
+        assert!(load(&group_file(&[65_000, 535])).is_ok());
+        assert_eq!(load(&group_file(&[65_000, 536])).err(), Some(7));
+    }
+
+    #[test]
+    fn a_load_refuses_by_the_lowest_number() {
+        assert_eq!(load(&[0; 9]).err(), Some(1));
+        let sound = group_file(&[1, 2, 3]);
+        let changed = |offset: usize, value: u8| {
+            let mut file = sound.clone();
+            file[offset] = value;
+            load(&file).err()
+        };
+        assert_eq!(changed(9, 0), Some(3));
+        assert_eq!(changed(2, 0x80), Some(3));
+        assert_eq!(changed(10, 1), Some(4));
+        assert_eq!(changed(11, 2), Some(4));
+        assert_eq!(changed(22, 2), Some(5));
+        assert_eq!(changed(24, 1), None);
+    }
+
+    #[test]
+    fn all_of_a_booking_may_be_sent_and_no_more() {
+        assert_eq!(answers(&mut group(&[100, 50]), &[send(1, 2, 101), send(1, 2, 100)]), [16, 0]);
+    }
+
+    #[test]
+    fn the_ninth_normal_packet_finds_the_line_full() {
+        let mut records = vec![send(1, 2, 1); 9];
+        records.push(deliver(1, 2));
+        records.push(send(1, 2, 1));
+        let expected = [0, 0, 0, 0, 0, 0, 0, 0, 17, 0, 0];
+        assert_eq!(answers(&mut group(&[100, 50]), &records), expected);
+    }
+
+    #[test]
+    fn only_the_coordinator_begins() {
+        assert_eq!(answers(&mut group(&[100, 50]), &[one(3, 2), one(3, 1)]), [14, 0]);
+    }
+
+    #[test]
+    fn malformed_records_are_refused_in_order() {
+        let mut group = group(&[100, 50]);
+        assert_eq!(group.step(&[4, 1, 2], 11).answer, 8);
+        assert_eq!(group.step(&[12, 0, 0, 0, 0, 0], 11).answer, 8);
+        assert_eq!(group.step(&[11, 1, 2, 0, 0, 1], 10).answer, 8);
+        assert_eq!(group.step(&[11, 1, 2, 0, 0, 1], 11).answer, 18);
+        assert_eq!(group.step(&[3, 9, 1, 0, 0, 0], 11).answer, 9);
+        assert_eq!(group.step(&[3, 9, 0, 0, 0, 0], 11).answer, 11);
+    }
+
+    #[test]
+    fn a_failing_store_crashes_the_group() {
+        let mut group = group(&[100, 50]);
+        assert_eq!(answers(&mut group, &[one(10, 2), one(3, 1), one(3, 9)]), [50, 10, 10]);
+        assert_eq!(group.cabinet(1).state, State::Crashed);
+    }
+
+    #[test]
+    fn a_save_without_resume_taken_is_passed_over() {
+        let mut group = group(&[100, 50]);
+        answers(&mut group, &[send(1, 2, 30), deliver(1, 2)]);
+        commit_of_two(&mut group);
+        let records = [one(10, 1), one(9, 2), one(7, 2), one(7, 2), one(7, 2), one(7, 2)];
+        assert_eq!(answers(&mut group, &records), [0; 6]);
+        let end = group.step(&one(8, 2), 11);
+        assert_eq!(end.event, Event::RecoveryEnd { save_passed_over: true });
+        assert_eq!(group.cabinet(2).version, Version::Known(0));
+        assert_eq!(group.cabinet(2).booking(), 50);
+    }
+
+    #[test]
+    fn a_save_with_resume_taken_is_restored() {
+        let mut group = group(&[100, 50]);
+        answers(&mut group, &[send(1, 2, 30), deliver(1, 2)]);
+        commit_of_two(&mut group);
+        let records = [deliver(1, 2), send(2, 1, 9), one(10, 1), one(9, 2), one(7, 2)];
+        assert_eq!(answers(&mut group, &records), [0, 0, 0, 14, 0]);
+        assert_eq!(group.cabinet(2).version, Version::Known(1));
+        assert_eq!(group.cabinet(2).booking(), 80);
+    }
+
+    #[test]
+    fn a_hurt_packet_is_found_by_the_next_save() {
+        let mut group = group(&[100, 50, 25]);
+        let hurt = [11, 1, 2, 0, 0, 1];
+        let records = [send(1, 2, 30), send(1, 2, 2), hurt, hurt, deliver(1, 2), deliver(1, 2)];
+        assert_eq!(answers(&mut group, &records), [0, 0, 0, 20, 0, 0]);
+        assert_eq!(group.cabinet(2).booking(), 50 + 31 + 2);
+        assert_eq!(answers(&mut group, &[one(3, 1), deliver(1, 2)]), [0, 50]);
+    }
+}
