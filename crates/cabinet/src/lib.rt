@@ -224,6 +224,13 @@ pub fn doubted(v: Version) -> Version
     }
 }
 
+// The version once all pieces are saved: it stays known at the coordinator.
+fn known_if(coordinates: bool, v: Version) -> Version
+    ensures { λ r. ⌜ r ≡ cond coordinates v (doubted v) ⌝ }
+{
+    if coordinates { v } else { doubted(v) }
+}
+
 // The coordinator's version once it commits.
 pub fn flipped(v: Version) -> Version
     ensures { λ r. ⌜ r ≡ flipped v ⌝ }
@@ -677,19 +684,6 @@ impl Cabinet {
         }
     }
 
-    // The version of cabinet i once its pieces are saved: all but the coordinator keep it as old.
-    fn version_saved(self, i: u8) -> Version
-        ensures { λ r. ⌜ r ≡ cond (eqb (coordinator self) i) (self .phase .version) (doubted (self .phase .version)) ⌝ }
-    {
-        let phase = self.phase;
-        let version = phase.version;
-        if self.coordinator() == i {
-            version
-        } else {
-            doubted(version)
-        }
-    }
-
     // Cabinet i has written one piece more; with piece 3 it enters checkpointed.
     pub fn wrote(self, i: u8) -> Cabinet
         ensures { λ r. ⌜ r ≡ wrote self i ⌝ }
@@ -699,8 +693,9 @@ impl Cabinet {
             return self.with_pieces(noted.pieces + 1);
         }
         let phase = self.phase;
-        let version = self.version_saved(i);
         let alarm = phase.alarm;
+        let version = phase.version;
+        let version = known_if(self.coordinator() == i, version);
         let phase = Phase {
             state: State::Checkpointed,
             version: version,
@@ -755,10 +750,9 @@ impl Cabinet {
         };
         let table = self.table;
         let table = struck_at(i, place, table);
-        let c = self.with_phase(phase)
-            .with_table(table)
-            .with_noted(nothing_noted());
-        c.with_owed([false; 8])
+        let c = self.with_phase(phase).with_table(table);
+        let forgetful = c.with_owed([false; 8]);
+        forgetful.with_noted(nothing_noted())
     }
 
     // The fault packet of neighbour j has come.
@@ -795,7 +789,8 @@ impl Cabinet {
             return self.with_pieces(noted.pieces + 1).with_image(image);
         }
         let c = self.with_state(State::Recovered).with_pieces(4);
-        c.with_registers(start_registers()).with_image(image)
+        let restarted = c.with_registers(start_registers());
+        restarted.with_image(image)
     }
 
     // The coordinator has the restored report of j.

@@ -64,7 +64,11 @@ fn take_checkp(g: Group, a: u8, b: u8) -> Group
 fn resume_with(g: Group, i: u8, v: Version) -> Group
     ensures { λ r. ⌜ r ≡ resumeWith g i v ⌝ }
 {
-    broadcast(g.with_cabinet(i, g.cabinet(i).resuming(v)), i, Packet::Resume)
+    broadcast(
+        g.with_cabinet(i, g.cabinet(i).resuming(v)),
+        i,
+        Packet::Resume,
+    )
 }
 
 pub fn commit(g: Group, k: u8) -> Group
@@ -84,14 +88,19 @@ fn adopt(g: Group, a: u8, b: u8) -> Group
     let v = phase.version;
     let others = cabinet::set_mark(c.in_use(), a, false);
     let o = g.outgoing(b).put_all(others, Packet::Resume);
-    g.with_cabinet(b, c.resuming(cabinet::adopted(v))).with_outgoing(b, o)
+    g.with_cabinet(b, c.resuming(cabinet::adopted(v)))
+        .with_outgoing(b, o)
 }
 
 // Cabinet i goes on with a known version: it puts recover and enters recovering.
 pub fn recover_with(g: Group, i: u8, v: bool) -> Group
     ensures { λ r. ⌜ r ≡ recoverWith g i v ⌝ }
 {
-    broadcast(g.with_cabinet(i, g.cabinet(i).recovering(v)), i, Packet::Recover(v))
+    broadcast(
+        g.with_cabinet(i, g.cabinet(i).recovering(v)),
+        i,
+        Packet::Recover(v),
+    )
 }
 
 fn recover_if_known(g: Group, i: u8, v: Version) -> Group
@@ -208,7 +217,10 @@ fn takes_from(c: Cabinet, a: u8) -> bool
     let noted = c.noted;
     let come = noted.come;
     let early = !cabinet::marked(come, a);
-    or(cabinet::is_in(s, State::Normal), and(cabinet::is_in(s, State::CheckpBegin), early))
+    or(
+        cabinet::is_in(s, State::Normal),
+        and(cabinet::is_in(s, State::CheckpBegin), early),
+    )
 }
 
 fn receive_normal(before: Group, g: Group, a: u8, b: u8, p: Payload) -> Outcome
@@ -258,7 +270,10 @@ fn resumes_from(c: Cabinet, a: u8, b: u8) -> bool
     let noted = c.noted;
     let heard = noted.heard;
     let other = !(c.coordinator() == b);
-    and(cabinet::is_in(s, State::Recovered), and(cabinet::marked(heard, a), other))
+    and(
+        cabinet::is_in(s, State::Recovered),
+        and(cabinet::marked(heard, a), other),
+    )
 }
 
 fn receive_resume(g: Group, a: u8, b: u8) -> Outcome
@@ -278,9 +293,9 @@ fn receive_resume(g: Group, a: u8, b: u8) -> Outcome
 fn receive_recover(g: Group, a: u8, b: u8, v: bool) -> Outcome
     ensures { λ r. ⌜ r ≡ receiveRecover g a b v ⌝ }
 {
+    let waits = cabinet::is_in(g.state_of(b), State::Error);
     let noted = g.cabinet(b).noted;
     let heard = noted.heard;
-    let waits = cabinet::is_in(g.state_of(b), State::Error);
     if and(waits, cabinet::marked(heard, a)) {
         group::taken(recover_with(g, b, v))
     } else {

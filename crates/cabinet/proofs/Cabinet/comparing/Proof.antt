@@ -11,4 +11,4 @@ comparing-spec = tie.close (tie.spec
     (λ c κs. search needs)
     (λ c κs. search needs)
     (λ c κs. search needs)
-    (λ c. rw (c .with-noted .ensures, c .before .with-registers .ensures, c .before .before .set-mark2 .ensures, c .before .before .before .before .before .set-mark .ensures, c .before .before .before .before .before .before .before .set-check .ensures, c .before .before .before .before .before .before .before .before .start .ensures)))
+    (λ c. simp (c .with-noted .ensures, c .before .with-registers .ensures, c .before .before .set-mark2 .ensures, c .before .before .before .before .before .set-mark .ensures, c .before .before .before .before .before .before .before .set-check .ensures, c .before .before .before .before .before .before .before .before .start .ensures)))

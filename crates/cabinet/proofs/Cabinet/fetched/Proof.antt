@@ -15,4 +15,4 @@ fetched-spec = tie.close (tie.spec
     (λ c κs. search needs)
     (λ c κs. search needs)
     (λ c κs. search needs)
-    (λ c. rw (c .with-image2 .ensures, c .before .with-registers .ensures, c .before .before .start-registers .ensures, c .before .before .before .with-pieces2 .ensures, c .before .before .before .before .with-state .ensures, le-ltb _ _ (c .before .before .before .before .before .if1 .left))))
+    (λ c. simp (c .with-image2 .ensures, c .before .with-registers .ensures, c .before .before .start-registers .ensures, c .before .before .before .with-pieces2 .ensures, c .before .before .before .before .with-state .ensures, le-ltb _ _ (c .before .before .before .before .before .if1 .left))))

@@ -12,4 +12,5 @@ wrote-spec = tie.close (tie.spec
     (λ c κs. search needs)
     (λ c κs. search needs)
     (λ c κs. search needs)
-    (λ c. rw (c .with-pieces2 .ensures, c .before .with-phase .ensures, c .before .before .version-saved .ensures, le-ltb _ _ (c .before .before .before .before .if1 .left))))
+    (λ c κs. search needs)
+    (λ c. rw (c .with-pieces2 .ensures, c .before .with-phase .ensures, c .before .before .known-if .ensures, c .before .before .before .coordinator .ensures, le-ltb _ _ (c .before .before .before .before .before .if1 .left))))
