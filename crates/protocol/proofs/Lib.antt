@@ -12,3 +12,4 @@ pub mod View
 pub mod Sim
 pub mod Methods
 pub mod ViewMoves
+pub mod Runs

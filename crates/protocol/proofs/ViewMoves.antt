@@ -6,6 +6,7 @@ use mathlib.Core.Bool.{Bool, true, false, cond, not, _&&_, _||_}
 use mathlib.Core.List.{List, [], _∷_, _++_}
 use lib.ListN.{length, getD, set, replicate, getD-replicate}
 use lib.Dec.{eqb, ltb}
+use borrow.Author.Tests.{lt-ltb, le-ltb, eq-eqb, ne-eqb}
 use native.Mathlib.Omega.{arith}
 use native.Mathlib.Decide.{ℕ-discrete, decLt}
 use Rattle.marks.specs.Marks.{Marks, marked}
@@ -21,21 +22,21 @@ use Rattle.line.specs.Line.{emptyCell, emptyLine, oldest, rest}
 use Rattle.cabinet.specs.declared.Version.{Version}
 use Rattle.cabinet.specs.declared.Version.the-variants.{Known}
 use Rattle.cabinet.specs.declared.State.{State}
-use Rattle.cabinet.specs.declared.State.the-variants.{Normal, CheckpBegin, Error, Recovering}
+use Rattle.cabinet.specs.declared.State.the-variants.{Failed, Normal, CheckpBegin, Checkpointing, Error, Recovering}
 use Rattle.cabinet.specs.declared.Alarm.{Alarm}
 use Rattle.cabinet.specs.declared.Alarm.the-variants.{Quiet, Fault as At}
 use Rattle.cabinet.specs.declared.Image.{Image}
 use Rattle.cabinet.specs.declared.Cabinet.{Cabinet}
-use Rattle.cabinet.specs.Cabinet.{inUse, booked, withBooked, sending, taking, hurtFrom, beginning, comparing, owing, savedFor, resuming, alarmed, hearing, recovering, restoredFor}
+use Rattle.cabinet.specs.Cabinet.{inUse, booked, withBooked, sending, taking, hurtFrom, beginning, comparing, owing, savedFor, resuming, alarmed, hearing, recovering, restoredFor, withState}
 use Rattle.group.specs.declared.Group.{Group}
 use Rattle.group.specs.Lines.{putAll, putCheckps, checkps, emptyLines, lineTo}
 use Rattle.group.specs.Group.{cabinet, withCabinet, outgoing, withOutgoing, line, withLine}
 use Rattle.protocol.specs.History.{upd}
-use Rattle.protocol.specs.Moves.{broadcast, join, resumeWith, recoverWith, raise, hear}
+use Rattle.protocol.specs.Moves.{broadcast, join, resumeWith, recoverWith, raise, hear, emptiedTo, markFailed}
 use Rattle.protocol.specs.Kinds.{sent}
 use Rattle.protocol.proofs.Fun.{cond-elim, upd-elim, upd-same, upd-other}
 use Rattle.protocol.proofs.View.{View, Own, Side, ownOf, sideOf, used, content, view, setCabinet, setLines, setLine}
-use Rattle.protocol.proofs.Every.{Framed, All, getD-repeated, with-cabinet, with-outgoing, put-checkps, out-of, no-packets}
+use Rattle.protocol.proofs.Every.{Framed, All, getD-repeated, with-cabinet, with-outgoing, put-checkps, out-of, no-packets, ok-emptied}
 use Rattle.protocol.proofs.Shape.{Shaped, Lined, Pictured, shaped}
 use Rattle.protocol.proofs.Methods.{sMarks, sOwed, sRegisters, sCleared, sCompared, sBegun, sAlarmed, side-hurt, side-sending, side-taking, side-comparing, side-owing, side-saved, side-hearing, side-restored, side-beginning, side-resuming, side-alarmed}
 use Rattle.protocol.proofs.Cells.{content-oldest}
@@ -297,3 +298,69 @@ vEmptied n v a = record {
   slots = v .slots;
   sound = v .sound;
 }
+
+and-false-r : (t : Bool) → (t && false) ≡ false
+and-false-r true = refl
+and-false-r false = refl
+
+nothing-in : content (emptyLine .cells) ≡ []
+unfolding content
+nothing-in = refl
+
+ltb-more : (i n : ℕ) → i ≢ n → ltb i (suc n) ≡ ltb i n
+ltb-more i n d = elim (decLt i n)
+    [ yes h ↦ rw (lt-ltb i n h, lt-ltb i (suc n) (omega arith)) | no h ↦ rw (le-ltb i n (omega arith), le-ltb i (suc n) (omega arith)) ]
+
+-- one line more is emptied
+emptied-more : (v : View) (n a i b : ℕ) → upd (vEmptied n v a .lines) n (upd (vEmptied n v a .lines n) a []) i b ≡ vEmptied (suc n) v a .lines i b
+emptied-more v n a i b =
+    upd-elim (λ (f : ℕ → List Packet). f b ≡ vEmptied (suc n) v a .lines i b) (vEmptied n v a .lines) n _ i
+    (λ e. upd-elim (λ (x : List Packet). x ≡ vEmptied (suc n) v a .lines i b) (vEmptied n v a .lines n) a [] b
+      (λ f. rw (e, f, lt-ltb n (suc n) (omega arith), eq-eqb a a refl))
+      (λ f. rw (e, ne-eqb b a f, and-false-r, and-false-r)))
+    (λ d. rw (ltb-more i n d))
+
+pub sim-emptied : (n : ℕ) (g : Group) (a : ℕ) → Fit g → n ≤ 8 → a < 8 → view (emptiedTo n g a) ≡ vEmptied n (view g) a
+sim-emptied zero g a w l la = λ t. record {
+  own = view g .own;
+  side = view g .side;
+  lines = λ i b. none-yet i b t;
+  slots = view g .slots;
+  sound = view g .sound;
+}
+  where
+    none-yet : (i b : ℕ) → view g .lines i b ≡ vEmptied 0 (view g) a .lines i b
+    none-yet i b = rw (le-ltb i 0 (omega arith))
+sim-emptied (suc n) g a w l la =
+    let h = ok-emptied Shaped Lined Pictured shaped n g a w in
+    let e = sim-emptied n g a w (omega arith) la in
+    view-line (emptiedTo n g a) (h .frame) n a emptyLine (omega arith) la
+    ∙ ap (λ (x : List Packet). setLine (view (emptiedTo n g a)) n a x) nothing-in
+    ∙ ap (λ (x : View). setLine x n a []) e
+    ∙ (λ t. record {
+      own = view g .own;
+      side = view g .side;
+      lines = λ i b. emptied-more (view g) n a i b t;
+      slots = view g .slots;
+      sound = view g .sound;
+    })
+
+-- a failed cabinet: its state, and its lines both ways
+abbrev pub vFailed : View → ℕ → View
+vFailed v a = vEmptied 8 (vSilenced (setCabinet v a (oPhase (v .own a) Failed (v .own a .version) (v .own a .alarm)) (v .side a)) a) a
+
+pub sim-failed : (g : Group) → Fit g → (a : ℕ) → a < 8 → view (markFailed g a) ≡ vFailed (view g) a
+unfolding markFailed
+sim-failed g w a la =
+    let one = with-cabinet Shaped Lined Pictured shaped g a (withState (cabinet g a) Failed) (shaped .stated (cabinet g a) Failed (w .cabs a)) w in
+    let two = with-outgoing Shaped Lined Pictured shaped _ a _ (no-packets Shaped Lined Pictured shaped) one in
+    sim-emptied 8 _ a two (omega arith) la
+    ∙ ap (λ (x : View). vEmptied 8 x a)
+      (view-outgoing _ (one .frame) a emptyLines la ∙ ap (setLines _ a) no-content ∙ ap (λ (x : View). vSilenced x a) (view-cabinet g (w .frame) a _ la))
+
+-- the cut
+abbrev pub vCut : View → ℕ → View
+vCut v i = setCabinet v i (oPhase (v .own i) Checkpointing (v .own i .version) (v .own i .alarm)) (v .side i)
+
+pub sim-cut : (g : Group) → Fit g → (i : ℕ) → i < 8 → view (withCabinet g i (withState (cabinet g i) Checkpointing)) ≡ vCut (view g) i
+sim-cut g w i l = view-cabinet g (w .frame) i _ l

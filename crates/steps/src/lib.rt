@@ -1,4 +1,5 @@
 // The kinds of step and the step entry, each promised equal to its definition in protocol.
+// Cabinets are numbered 0 to 7 here; in a record and in a decoded step they are numbered from 1.
 use cabinet::Alarm;
 use cabinet::Cabinet;
 use cabinet::State;
@@ -10,10 +11,14 @@ use line::Place;
 use protocol::Decoded;
 use protocol::Step;
 ghost use mathlib.Core.Path.{_≡_};
-ghost use mathlib.Core.Bool.{_&&_, _||_};
-ghost use Prim.Native.Nat.{_+_, _-_, _*_};
-ghost use Rattle.protocol.specs.Kinds.{need, orRefuse, sendRefusal, sent, sendStep, noteRefusal, noteStep, beginRefusal, beginStep, deliverRefusal, delivered, deliverStep, writeRefusal, writePiece, oweIf, writeStep, savedRefusal, reportSaved, commitIfAll, savedStep, fetchRefusal, fetchPiece, fetchStep, mayReport, restoredRefusal, reportRestored, endIfAll, restoredStep, lostPlace, lostCoordinator, waitOverRefusal, waitOverStep, failCrashes, failStep, hurtAlready, damageRefusal, hurtIf, hurt, damageStep};
-ghost use Rattle.protocol.specs.Entry.{ifZero, aloneOf, fieldsOf, decode, decodedNumber, firstOf, secondOf, actorWorks, isCabinet, entryRefusal, perform, step};
+ghost use mathlib.Core.Bool.{cond, not, _&&_, _||_};
+ghost use Prim.Native.Nat.{_+_, _-_, _*_, _%_};
+ghost use Rattle.marks.specs.Reach.{mark};
+ghost use Rattle.cabinet.specs.State.{works, bitOf};
+ghost use Rattle.group.specs.Group.{stateOf};
+ghost use Rattle.protocol.specs.declared.Decoded.the-variants.{Unused};
+ghost use Rattle.protocol.specs.Kinds.{need, sendRefusal, sent, sendStep, noteRefusal, noteStep, beginRefusal, beginStep, deliverRefusal, delivered, deliverStep, writeRefusal, writePiece, oweIf, writeStep, savedRefusal, reportSaved, commitIfAll, savedStep, fetchRefusal, fetchPiece, fetchStep, mayReport, restoredRefusal, reportRestored, endIfAll, restoredStep, lostPlace, lostCoordinator, waitOverRefusal, waitOverStep, failCrashes, failStep, hurtAlready, damageRefusal, hurtIf, hurt, damageStep};
+ghost use Rattle.protocol.specs.Entry.{aloneOf, fieldsOf, decode, decodedNumber, firstOf, secondOf, actorWorks, isCabinet, entryRefusal, perform, step};
 
 // `and` and `or` are calls, so that they leave no branch in their callers' proofs.
 fn and(a: bool, b: bool) -> bool
@@ -35,14 +40,26 @@ fn need(holds: bool, k: u8, next: u8) -> u8
     if holds { next } else { k }
 }
 
+// The row of cabinet a has a mark for b; none is past the eighth.
+fn is_linked(rows: [[bool; 8]; 8], a: u8, b: u8) -> bool
+    ensures { λ r. ⌜ r ≡ mark rows a b ⌝ }
+{
+    if a < 8 {
+        cabinet::marked(rows[a as usize], b)
+    } else {
+        false
+    }
+}
+
 // ---- 1 send
 
 fn send_refusal(g: Group, a: u8, b: u8, q: u16) -> u8
     ensures { λ r. ⌜ r ≡ sendRefusal g a b q ⌝ }
 {
     let c = g.cabinet(a);
+    let image = c.image;
     let room = need(g.line(a, b).normals() < 8, 17, 0);
-    let covered = need(q <= c.image.booked(), 16, room);
+    let covered = need(q <= image.booked(), 16, room);
     let some = need(0 < q, 15, covered);
     let normal = need(cabinet::is_in(g.state_of(a), State::Normal), 14, some);
     need(cabinet::marked(c.in_use(), b), 13, normal)
@@ -53,7 +70,8 @@ fn sent(g: Group, a: u8, b: u8, q: u16) -> Group
 {
     let p = Payload { amount: q };
     let l = g.line(a, b).put(Packet::Normal(p));
-    g.with_cabinet(a, g.cabinet(a).sending(b, p)).with_line(a, b, l)
+    let c = g.cabinet(a).sending(b, p);
+    g.with_cabinet(a, c).with_line(a, b, l)
 }
 
 pub fn send_step(g: Group, a: u8, b: u8, q: u16) -> Outcome
@@ -73,7 +91,14 @@ fn note_refusal(g: Group, a: u8, p: u8, q: u16) -> u8
     ensures { λ r. ⌜ r ≡ noteRefusal g a p q ⌝ }
 {
     let fits = and(2 <= p, and(p <= 31, q <= 255));
-    need(cabinet::is_in(g.state_of(a), State::Normal), 14, need(fits, 15, 0))
+    let normal = cabinet::is_in(g.state_of(a), State::Normal);
+    need(normal, 14, need(fits, 15, 0))
+}
+
+fn low_octet(q: u16) -> u8
+    ensures { λ r. ⌜ r ≡ q % 256 ⌝ }
+{
+    (q % 256) as u8
 }
 
 pub fn note_step(g: Group, a: u8, p: u8, q: u16) -> Outcome
@@ -82,8 +107,9 @@ pub fn note_step(g: Group, a: u8, p: u8, q: u16) -> Outcome
     let k = note_refusal(g, a, p, q);
     if k == 0 {
         let c = g.cabinet(a);
-        let v = (q % 256) as u8;
-        group::taken(g.with_cabinet(a, c.with_image(c.image.with_octet(p, v))))
+        let image = c.image;
+        let noted = image.with_octet(p, low_octet(q));
+        group::taken(g.with_cabinet(a, c.with_image(noted)))
     } else {
         group::answering(k, g)
     }
@@ -114,17 +140,19 @@ pub fn begin_step(g: Group, a: u8) -> Outcome
 fn deliver_refusal(g: Group, a: u8, b: u8) -> u8
     ensures { λ r. ⌜ r ≡ deliverRefusal g a b ⌝ }
 {
-    let some = !line::is_empty(g.line(a, b).oldest());
-    need(marks::mark(g.link_rows(), a, b), 13, need(some, 18, 0))
+    let some = need(!line::is_empty(g.line(a, b).oldest()), 18, 0);
+    need(is_linked(g.link_rows(), a, b), 13, some)
 }
 
+// Over a link struck at b the packet is dropped.
 fn delivered(g: Group, a: u8, b: u8) -> Outcome
     ensures { λ r. ⌜ r ≡ delivered g a b ⌝ }
 {
     let l = g.line(a, b);
     let h = g.with_line(a, b, l.rest());
+    let p = l.oldest();
     if cabinet::marked(g.cabinet(b).in_use(), a) {
-        moves::receive(g, h, a, b, l.oldest())
+        moves::receive(g, h, a, b, p)
     } else {
         group::taken(h)
     }
@@ -147,20 +175,32 @@ fn write_refusal(g: Group, a: u8) -> u8
     ensures { λ r. ⌜ r ≡ writeRefusal g a ⌝ }
 {
     let c = g.cabinet(a);
-    let ready = !cabinet::in_recovery(g.state_of(c.home));
-    need(cabinet::is_in(g.state_of(a), State::Checkpointing), 14, need(ready, 19, 0))
+    let ready = need(!cabinet::in_recovery(g.state_of(c.home)), 19, 0);
+    need(
+        cabinet::is_in(g.state_of(a), State::Checkpointing),
+        14,
+        ready,
+    )
+}
+
+// The slot that pieces go to: not that of the version.
+fn other_slot(c: Cabinet) -> bool
+    ensures { λ r. ⌜ r ≡ not (bitOf (c .phase .version)) ⌝ }
+{
+    let phase = c.phase;
+    let version = phase.version;
+    !cabinet::bit_of(version)
 }
 
 fn write_piece(g: Group, a: u8) -> Group
     ensures { λ r. ⌜ r ≡ writePiece g a ⌝ }
 {
     let c = g.cabinet(a);
-    let phase = c.phase;
-    let version = phase.version;
-    let other = !cabinet::bit_of(version);
+    let image = c.image;
     let noted = c.noted;
-    let image = g.slot(a, other).with_piece(noted.pieces, c.image);
-    g.with_slot(a, other, image).with_cabinet(a, c.wrote(a))
+    let other = other_slot(c);
+    let written = g.slot(a, other).with_piece(noted.pieces, image);
+    g.with_slot(a, other, written).with_cabinet(a, c.wrote(a))
 }
 
 fn owe_if(asked: bool, g: Group, h: u8, a: u8) -> Group
@@ -180,8 +220,8 @@ pub fn write_step(g: Group, a: u8) -> Outcome
     if k == 0 {
         let c = g.cabinet(a);
         let noted = c.noted;
-        let last = !(noted.pieces < 3);
-        group::taken(owe_if(last, write_piece(g, a), c.home, a))
+        let more = noted.pieces < 3;
+        group::taken(owe_if(!more, write_piece(g, a), c.home, a))
     } else {
         group::answering(k, g)
     }
@@ -192,9 +232,11 @@ pub fn write_step(g: Group, a: u8) -> Outcome
 fn saved_refusal(g: Group, a: u8) -> u8
     ensures { λ r. ⌜ r ≡ savedRefusal g a ⌝ }
 {
-    let home = g.cabinet(g.cabinet(a).home);
+    let c = g.cabinet(a);
+    let home = g.cabinet(c.home);
+    let owed = home.owed;
     let saving = cabinet::in_saving(g.state_of(home.coordinator()));
-    need(and(cabinet::marked(home.owed, a), saving), 19, 0)
+    need(and(cabinet::marked(owed, a), saving), 19, 0)
 }
 
 // The report on a goes from home h to coordinator k.
@@ -210,8 +252,10 @@ fn commit_if_all(g: Group, k: u8) -> Group
 {
     let c = g.cabinet(k);
     let noted = c.noted;
+    let saved = noted.saved;
     let table = c.table;
-    if marks::covers(noted.saved, table.cabinets) {
+    let cabinets = table.cabinets;
+    if marks::covers(saved, cabinets) {
         moves::commit(g, k)
     } else {
         g
@@ -223,9 +267,9 @@ pub fn saved_step(g: Group, a: u8) -> Outcome
 {
     let n = saved_refusal(g, a);
     if n == 0 {
-        let h = g.cabinet(a).home;
-        let k = g.cabinet(h).coordinator();
-        group::taken(commit_if_all(report_saved(g, a, h, k), k))
+        let c = g.cabinet(a);
+        let k = g.cabinet(c.home).coordinator();
+        group::taken(commit_if_all(report_saved(g, a, c.home, k), k))
     } else {
         group::answering(n, g)
     }
@@ -236,19 +280,22 @@ pub fn saved_step(g: Group, a: u8) -> Outcome
 fn fetch_refusal(g: Group, a: u8) -> u8
     ensures { λ r. ⌜ r ≡ fetchRefusal g a ⌝ }
 {
-    let ready = cabinet::in_restoring(g.state_of(g.cabinet(a).home));
-    need(cabinet::is_in(g.state_of(a), State::Recovering), 14, need(ready, 19, 0))
+    let c = g.cabinet(a);
+    let ready = need(cabinet::in_restoring(g.state_of(c.home)), 19, 0);
+    need(cabinet::is_in(g.state_of(a), State::Recovering), 14, ready)
 }
 
 fn fetch_piece(g: Group, a: u8) -> Group
     ensures { λ r. ⌜ r ≡ fetchPiece g a ⌝ }
 {
     let c = g.cabinet(a);
-    let phase = g.cabinet(c.home).phase;
+    let home = g.cabinet(c.home);
+    let phase = home.phase;
     let version = phase.version;
     let noted = c.noted;
-    let image = c.image.with_piece(noted.pieces, g.slot(a, cabinet::bit_of(version)));
-    g.with_cabinet(a, c.fetched(image))
+    let image = c.image;
+    let from = g.slot(a, cabinet::bit_of(version));
+    g.with_cabinet(a, c.fetched(image.with_piece(noted.pieces, from)))
 }
 
 pub fn fetch_step(g: Group, a: u8) -> Outcome
@@ -269,12 +316,15 @@ fn may_report(c: Cabinet, k: Cabinet, a: u8) -> bool
     ensures { λ r. ⌜ r ≡ mayReport c k a ⌝ }
 {
     let own = c.noted;
+    let heard = own.heard;
     let noted = k.noted;
+    let restored = noted.restored;
     let phase = k.phase;
     let state = phase.state;
-    let first = !cabinet::marked(noted.restored, a);
+    let first = !cabinet::marked(restored, a);
+    let in_use = c.in_use();
     let ready = cabinet::in_restoring(state);
-    and(first, and(marks::covers(own.heard, c.in_use()), ready))
+    and(first, and(marks::covers(heard, in_use), ready))
 }
 
 fn restored_refusal(g: Group, a: u8) -> u8
@@ -282,7 +332,11 @@ fn restored_refusal(g: Group, a: u8) -> u8
 {
     let c = g.cabinet(a);
     let may = may_report(c, g.cabinet(c.coordinator()), a);
-    need(cabinet::is_in(g.state_of(a), State::Recovered), 14, need(may, 19, 0))
+    need(
+        cabinet::is_in(g.state_of(a), State::Recovered),
+        14,
+        need(may, 19, 0),
+    )
 }
 
 fn report_restored(g: Group, a: u8, k: u8) -> Group
@@ -296,9 +350,11 @@ fn end_if_all(g: Group, k: u8) -> Group
 {
     let c = g.cabinet(k);
     let noted = c.noted;
+    let restored = noted.restored;
     let table = c.table;
+    let cabinets = table.cabinets;
     let recovered = cabinet::is_in(g.state_of(k), State::Recovered);
-    if and(recovered, marks::covers(noted.restored, table.cabinets)) {
+    if and(recovered, marks::covers(restored, cabinets)) {
         moves::end_recovery(g, k)
     } else {
         g
@@ -320,24 +376,23 @@ pub fn restored_step(g: Group, a: u8) -> Outcome
 // ---- 9 wait over
 
 // The fault is the coordinator as it was before, and a link in use joined the two.
+fn lost_place(place: Place, c: Cabinet) -> bool
+    ensures { λ r. ⌜ r ≡ lostPlace place c ⌝ }
+{
+    let table = c.table;
+    let links = table.links;
+    match place {
+        Place::Cabinet(k) => and(k < c.coordinator(), cabinet::marked(links, k)),
+        Place::Link(_, _) => false,
+    }
+}
+
 fn lost_coordinator(alarm: Alarm, c: Cabinet) -> bool
     ensures { λ r. ⌜ r ≡ lostCoordinator alarm c ⌝ }
 {
     match alarm {
         Alarm::Quiet => false,
         Alarm::Fault(place) => lost_place(place, c),
-    }
-}
-
-fn lost_place(place: Place, c: Cabinet) -> bool
-    ensures { λ r. ⌜ r ≡ lostPlace place c ⌝ }
-{
-    match place {
-        Place::Cabinet(k) => {
-            let table = c.table;
-            and(k < c.coordinator(), cabinet::marked(table.links, k))
-        }
-        Place::Link(_, _) => false,
     }
 }
 
@@ -357,7 +412,8 @@ pub fn wait_over_step(g: Group, a: u8) -> Outcome
 {
     let k = wait_over_refusal(g, a);
     if k == 0 {
-        let phase = g.cabinet(a).phase;
+        let c = g.cabinet(a);
+        let phase = c.phase;
         let version = phase.version;
         group::taken(moves::recover_with(g, a, cabinet::bit_of(version)))
     } else {
@@ -370,9 +426,10 @@ pub fn wait_over_step(g: Group, a: u8) -> Outcome
 fn fail_crashes(g: Group, a: u8) -> bool
     ensures { λ r. ⌜ r ≡ failCrashes g a ⌝ }
 {
+    let c = g.cabinet(a);
     let others = cabinet::set_mark(g.working(), a, false);
     let apart = !marks::connected(g.sound_rows(), others);
-    or(g.cabinet(a).store, or(group::some(g.recovering_ones()), apart))
+    or(c.store, or(group::some(g.recovering_ones()), apart))
 }
 
 pub fn fail_step(g: Group, a: u8) -> Outcome
@@ -385,6 +442,61 @@ pub fn fail_step(g: Group, a: u8) -> Outcome
     }
 }
 
+// ---- 11 damage: no record decodes to it yet
+
+fn hurt_already(g: Group, a: u8, b: u8, p: Packet) -> bool
+    ensures { λ r. ⌜ r ≡ hurtAlready g a b p ⌝ }
+{
+    let c = g.cabinet(b);
+    let registers = c.registers;
+    let hurt = registers.hurt;
+    and(line::is_normal(p), cabinet::marked(hurt, a))
+}
+
+fn damage_refusal(g: Group, a: u8, b: u8, p: u8, q: u16) -> u8
+    ensures { λ r. ⌜ r ≡ damageRefusal g a b p q ⌝ }
+{
+    let hit = g.line(a, b).packet_at(p);
+    let first = need(!hurt_already(g, a, b, hit), 20, 0);
+    let changes = need(0 < q, 15, first);
+    let some = need(!line::is_empty(hit), 18, changes);
+    need(is_linked(g.link_rows(), a, b), 13, some)
+}
+
+fn hurt_if(asked: bool, g: Group, a: u8, b: u8) -> Group
+    ensures { λ r. ⌜ r ≡ hurtIf asked g a b ⌝ }
+{
+    if asked {
+        g.with_cabinet(b, g.cabinet(b).hurt_from(a))
+    } else {
+        g
+    }
+}
+
+fn hurt(g: Group, a: u8, b: u8, p: u8, q: u16) -> Group
+    ensures { λ r. ⌜ r ≡ hurt g a b p q ⌝ }
+{
+    let l = g.line(a, b);
+    let hit = l.packet_at(p);
+    let left = l.replaced(p, line::damaged(hit, q));
+    hurt_if(line::is_normal(hit), g.with_line(a, b, left), a, b)
+}
+
+pub fn damage_step(g: Group, a: u8, b: u8, p: u8, q: u16) -> Outcome
+    ensures { λ r. ⌜ r ≡ damageStep g a b p q ⌝ }
+{
+    let k = damage_refusal(g, a, b, p, q);
+    if k == 0 {
+        if group::some(g.recovering_ones()) {
+            group::crashed(g)
+        } else {
+            group::taken(hurt(g, a, b, p, q))
+        }
+    } else {
+        group::answering(k, g)
+    }
+}
+
 // ---- the record
 
 fn number(high: u8, low: u8) -> u16
@@ -393,10 +505,24 @@ fn number(high: u8, low: u8) -> u16
     (high as u16) * 256 + (low as u16)
 }
 
-fn if_zero(zero: bool, s: Step) -> Decoded
-    ensures { λ r. ⌜ r ≡ cond zero (Decoded.Taken s) Decoded.Unused ⌝ }
+// Sums of fields, wide enough that none wraps.
+fn two_fields(p: u8, q: u16) -> u32
+    ensures { λ r. ⌜ r ≡ p + q ⌝ }
 {
-    if zero { Decoded::Taken(s) } else { Decoded::Unused }
+    (p as u32) + (q as u32)
+}
+
+fn three_fields(b: u8, p: u8, q: u16) -> u32
+    ensures { λ r. ⌜ r ≡ b + p + q ⌝ }
+{
+    (b as u32) + (p as u32) + (q as u32)
+}
+
+// What the record decodes to where the fields that its kind does not use are 0.
+fn if_zero(zero: bool, d: Decoded) -> Decoded
+    ensures { λ r. ⌜ r ≡ cond zero d Unused ⌝ }
+{
+    if zero { d } else { Decoded::Unused }
 }
 
 // The kinds that name a cabinet and nothing else.
@@ -412,5 +538,165 @@ fn alone_of(kind: u8, a: u8) -> Decoded
         9 => Decoded::Taken(Step::WaitOver { a: a }),
         10 => Decoded::Taken(Step::Fail { a: a }),
         _ => Decoded::Malformed,
+    }
+}
+
+fn fields_of(kind: u8, a: u8, b: u8, p: u8, q: u16) -> Decoded
+    ensures { λ r. ⌜ r ≡ fieldsOf kind a b p q ⌝ }
+{
+    if kind == 1 {
+        return if_zero(p == 0, Decoded::Taken(Step::Send { a: a, b: b, q: q }));
+    }
+    if kind == 2 {
+        return if_zero(b == 0, Decoded::Taken(Step::Note { a: a, p: p, q: q }));
+    }
+    if kind == 4 {
+        let unused = two_fields(p, q);
+        return if_zero(unused == 0, Decoded::Taken(Step::Deliver { a: a, b: b }));
+    }
+    if and(1 <= kind, kind <= 10) {
+        let unused = three_fields(b, p, q);
+        return if_zero(unused == 0, alone_of(kind, a));
+    }
+    Decoded::Malformed
+}
+
+// A step record is six octets: kind, a, b, p, and q in two.
+pub fn decode(octets: &[u8]) -> Decoded
+    ensures { λ r. ⌜ r ≡ decode (now (octets .entry)) ⌝ }
+{
+    if octets.len() == 6 {} else {
+        return Decoded::Malformed;
+    }
+    let q = number(octets[4], octets[5]);
+    fields_of(octets[0], octets[1], octets[2], octets[3], q)
+}
+
+// The answer to a record that is no step.
+fn decoded_number(d: Decoded) -> u8
+    ensures { λ r. ⌜ r ≡ decodedNumber d ⌝ }
+{
+    match d {
+        Decoded::Malformed => 8,
+        Decoded::Unused => 9,
+        Decoded::Taken(_) => 0,
+    }
+}
+
+// ---- the entry
+
+// The cabinets that a step names: the second is the first again where it names one only.
+fn first_of(s: Step) -> u8
+    ensures { λ r. ⌜ r ≡ firstOf s ⌝ }
+{
+    match s {
+        Step::Send { a, b: _, q: _ } => a,
+        Step::Note { a, p: _, q: _ } => a,
+        Step::Begin { a } => a,
+        Step::Deliver { a, b: _ } => a,
+        Step::Write { a } => a,
+        Step::Saved { a } => a,
+        Step::Fetch { a } => a,
+        Step::Restored { a } => a,
+        Step::WaitOver { a } => a,
+        Step::Fail { a } => a,
+    }
+}
+
+fn second_of(s: Step) -> u8
+    ensures { λ r. ⌜ r ≡ secondOf s ⌝ }
+{
+    match s {
+        Step::Send { a: _, b, q: _ } => b,
+        Step::Note { a, p: _, q: _ } => a,
+        Step::Begin { a } => a,
+        Step::Deliver { a: _, b } => b,
+        Step::Write { a } => a,
+        Step::Saved { a } => a,
+        Step::Fetch { a } => a,
+        Step::Restored { a } => a,
+        Step::WaitOver { a } => a,
+        Step::Fail { a } => a,
+    }
+}
+
+// A cabinet's number in a record to its number here.
+fn before(a: u8) -> u8
+    ensures { λ r. ⌜ r ≡ a - 1 ⌝ }
+{
+    if 1 <= a { a - 1 } else { 0 }
+}
+
+// Cabinet a, by its number in a record, has not failed.
+fn works_at(g: Group, a: u8) -> bool
+    ensures { λ r. ⌜ r ≡ works (stateOf g (a - 1)) ⌝ }
+{
+    cabinet::works(g.state_of(before(a)))
+}
+
+// Check 12: the cabinet that acts has not failed. In deliver it is the receiver, and saved skips the check.
+fn actor_works(g: Group, s: Step) -> bool
+    ensures { λ r. ⌜ r ≡ actorWorks g s ⌝ }
+{
+    match s {
+        Step::Send { a, b: _, q: _ } => works_at(g, a),
+        Step::Note { a, p: _, q: _ } => works_at(g, a),
+        Step::Begin { a } => works_at(g, a),
+        Step::Deliver { a: _, b } => works_at(g, b),
+        Step::Write { a } => works_at(g, a),
+        Step::Saved { a: _ } => true,
+        Step::Fetch { a } => works_at(g, a),
+        Step::Restored { a } => works_at(g, a),
+        Step::WaitOver { a } => works_at(g, a),
+        Step::Fail { a } => works_at(g, a),
+    }
+}
+
+fn is_cabinet(g: Group, a: u8) -> bool
+    ensures { λ r. ⌜ r ≡ isCabinet g a ⌝ }
+{
+    and(1 <= a, a <= g.n)
+}
+
+// Checks 10 to 12.
+fn entry_refusal(g: Group, s: Step) -> u8
+    ensures { λ r. ⌜ r ≡ entryRefusal g s ⌝ }
+{
+    let first = is_cabinet(g, first_of(s));
+    let named = and(first, is_cabinet(g, second_of(s)));
+    let able = need(actor_works(g, s), 12, 0);
+    need(!g.is_crashed(), 10, need(named, 11, able))
+}
+
+fn perform(g: Group, s: Step) -> Outcome
+    ensures { λ r. ⌜ r ≡ perform g s ⌝ }
+{
+    match s {
+        Step::Send { a, b, q } => send_step(g, before(a), before(b), q),
+        Step::Note { a, p, q } => note_step(g, before(a), p, q),
+        Step::Begin { a } => begin_step(g, before(a)),
+        Step::Deliver { a, b } => deliver_step(g, before(a), before(b)),
+        Step::Write { a } => write_step(g, before(a)),
+        Step::Saved { a } => saved_step(g, before(a)),
+        Step::Fetch { a } => fetch_step(g, before(a)),
+        Step::Restored { a } => restored_step(g, before(a)),
+        Step::WaitOver { a } => wait_over_step(g, before(a)),
+        Step::Fail { a } => fail_step(g, before(a)),
+    }
+}
+
+// The step entry: the record is decoded, checks 10 to 12 are made, and its kind decides the rest.
+pub fn step(g: Group, octets: &[u8]) -> Outcome
+    ensures { λ r. ⌜ r ≡ step g (now (octets .entry)) ⌝ }
+{
+    let d = decode(octets);
+    let Decoded::Taken(s) = d else {
+        return group::answering(decoded_number(d), g);
+    };
+    let k = entry_refusal(g, s);
+    if k == 0 {
+        perform(g, s)
+    } else {
+        group::answering(k, g)
     }
 }
