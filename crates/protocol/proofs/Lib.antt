@@ -13,3 +13,5 @@ pub mod Sim
 pub mod Methods
 pub mod ViewMoves
 pub mod Runs
+pub mod Facts
+pub mod Logs
