@@ -1,7 +1,7 @@
 //! Random cases from a seed: a group file, sound or damaged, and a steps file. The model runs
 //! along while steps are made, so that most of them are steps that would be taken.
 
-use crate::model::{self, Event, Group, Number, Packet, State, CRASHED};
+use crate::model::{self, Crash, Event, Group, Number, Packet, State, CRASHED};
 
 pub type Record = [u8; 6];
 
@@ -322,10 +322,16 @@ struct Temper {
     bold: usize,
     /// Chance that the step after a commit strikes at it.
     strike_after_commit: usize,
-    /// A cabinet to which packets are seldom delivered.
+    /// A cabinet to which packets other than fault are seldom delivered.
     slow: Option<Number>,
+    /// A cabinet that seldom writes and may fail when only its own report is missing.
+    laggard: Option<Number>,
     /// A cabinet that sends most of the time, and mostly to its lowest neighbour.
     talker: Option<Number>,
+}
+
+fn some_cabinet(dice: &mut Dice, group: &Group, chance: usize) -> Option<Number> {
+    dice.per_thousand(chance).then(|| dice.between(1, group.size()))
 }
 
 impl Temper {
@@ -343,8 +349,9 @@ impl Temper {
             hasty: dice.pick(&[0, 20, 80]),
             bold: dice.pick(&[0, 0, 20, 150]),
             strike_after_commit: dice.pick(&[0, 200, 700]),
-            slow: dice.per_thousand(400).then(|| dice.between(1, group.size())),
-            talker: dice.per_thousand(300).then(|| dice.between(1, group.size())),
+            slow: some_cabinet(dice, group, 400),
+            laggard: some_cabinet(dice, group, 300),
+            talker: some_cabinet(dice, group, 300),
         }
     }
 
@@ -371,7 +378,8 @@ fn make_steps(dice: &mut Dice, group_file: &[u8], wishes: Wishes, length: usize)
     let mut steps = match model::load(group_file) {
         Ok(group) => {
             let temper = Temper::drawn(dice, &group, wishes.damage);
-            Run { dice, group, wishes, temper, last_event: Event::Nothing }.make(length)
+            let last_event = Event::Nothing;
+            Run { dice, group, wishes, temper, last_event, reports_first: 0 }.make(length)
         }
         Err(_) => (0..6 * length).map(|_| dice.below(10) as u8).collect(),
     };
@@ -394,6 +402,8 @@ struct Run<'a> {
     wishes: Wishes,
     temper: Temper,
     last_event: Event,
+    /// Tries left in which saved reports are asked for first.
+    reports_first: usize,
 }
 
 impl Run<'_> {
@@ -441,13 +451,27 @@ impl Run<'_> {
                 return record;
             }
         }
-        for _ in 0..50 {
-            let kind = self.temper.kind(self.dice);
+        if let Some(record) = self.fail_before_its_report() {
+            return record;
+        }
+        for _ in 0..12 {
+            let kind = self.next_kind();
             if let Some(record) = self.sensible_record(kind) {
                 return record;
             }
         }
-        self.foolish_record()
+        let rest = [9, 8, 7, 6, 5, 4, 1, 2, 3];
+        let found = rest.into_iter().find_map(|kind| self.sensible_record(kind));
+        found.unwrap_or_else(|| self.foolish_record())
+    }
+
+    /// For some tries after a laggard failed, the reports still owed come first.
+    fn next_kind(&mut self) -> u8 {
+        if self.reports_first > 0 {
+            self.reports_first -= 1;
+            return 6;
+        }
+        self.temper.kind(self.dice)
     }
 
     fn any_cabinet(&mut self) -> Number {
@@ -493,7 +517,24 @@ impl Run<'_> {
     fn sensible_single(&mut self, kind: u8) -> Option<Record> {
         let all = self.group.numbers().map(|a| record(kind, a, 0, 0, 0));
         let taken: Vec<Record> = all.filter(|record| self.taken(record)).collect();
-        self.dice.pick_any(&taken)
+        let chosen = self.dice.pick_any(&taken)?;
+        let lags = kind == 5 && Some(usize::from(chosen[1])) == self.temper.laggard;
+        (!lags || self.dice.per_thousand(30)).then_some(chosen)
+    }
+
+    /// The laggard fails when all others have written and a report is still owed.
+    fn fail_before_its_report(&mut self) -> Option<Record> {
+        let laggard = self.temper.laggard?;
+        let others_done = self.group.working_cabinets().iter().all(|&a| {
+            let state = self.group.cabinet(a).state;
+            state == if a == laggard { State::Checkpointing } else { State::Checkpointed }
+        });
+        let safe = others_done && self.group.crash_by_failing(laggard).is_none();
+        if !safe || !self.dice.per_thousand(300) {
+            return None;
+        }
+        self.reports_first = 6;
+        Some(record(10, laggard, 0, 0, 0))
     }
 
     fn sensible_send(&mut self) -> Option<Record> {
@@ -544,21 +585,40 @@ impl Run<'_> {
         let filled = self.filled_lines();
         let mut line = self.dice.pick_any(&filled)?;
         for _ in 0..4 {
-            if Some(line.1) == self.temper.slow && self.dice.per_thousand(900) {
+            if self.waits_for_slow(line) && self.dice.per_thousand(950) {
                 line = self.dice.pick(&filled);
             }
         }
         Some(record(4, line.0, line.1, 0, 0))
     }
 
+    fn waits_for_slow(&self, (from, to): (Number, Number)) -> bool {
+        let oldest = self.group.line(from, to).packets.front();
+        Some(to) == self.temper.slow && !matches!(oldest, Some(Packet::Fault(_)))
+    }
+
     fn sensible_fail(&mut self) -> Option<Record> {
         let bold = self.temper.bold;
-        let bold = self.dice.per_thousand(bold);
-        let working = self.group.working_cabinets().into_iter();
-        let allowed = |a: &Number| bold || self.group.crash_by_failing(*a).is_none();
-        let allowed: Vec<Number> = working.filter(allowed).collect();
-        let cabinet = self.dice.pick_any(&allowed)?;
+        if self.dice.per_thousand(bold) {
+            return self.crashing_fail();
+        }
+        let cabinet = self.some_failing_with(|crash| crash.is_none())?;
         Some(record(10, cabinet, 0, 0, 0))
+    }
+
+    /// Rather one that cuts off others than one that is a store.
+    fn crashing_fail(&mut self) -> Option<Record> {
+        let cuts_off = self.some_failing_with(|crash| crash == Some(Crash::CutOffByFail));
+        let any = self.some_failing_with(|_| true);
+        let cabinet = if self.dice.per_thousand(700) { cuts_off.or(any) } else { any };
+        Some(record(10, cabinet?, 0, 0, 0))
+    }
+
+    fn some_failing_with(&mut self, allowed: impl Fn(Option<Crash>) -> bool) -> Option<Number> {
+        let working = self.group.working_cabinets().into_iter();
+        let fits = |a: &Number| allowed(self.group.crash_by_failing(*a));
+        let fitting: Vec<Number> = working.filter(fits).collect();
+        self.dice.pick_any(&fitting)
     }
 
     fn damage_on_lines_from(&mut self, from: Number) -> Option<Record> {

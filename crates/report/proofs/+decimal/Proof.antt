@@ -1,0 +1,50 @@
+-- `decimal` writes a number's digits for any number of places that hold it. The measure is the number itself.
+use borrow.Author.Needs.{needs}
+use borrow.Fn.Kinds.{In}
+use borrow.Fn.PlainCycle.{Measures, is, falls, and}
+use Prim.Native.Nat.{ℕ, _+_, _/_, _≤_, _<_}
+use mathlib.Core.Path.{_≡_}
+use native.Mathlib.Omega.{arith}
+use lib.ListN.{length}
+use Rattle.report.proofs.Digits.{at-most, one, more}
+use Rattle.report.proofs.decimal.Reads as decimal
+use Rattle.report.proofs.decimal.Kinds as decimal-kinds
+use Rattle.report.proofs.+decimal.Lts-decimal as decimal-lts
+use Rattle.report.proofs.digit.Reads as digit-reads
+use Rattle.report.proofs.put.Reads as put-reads
+use Rattle.report.proofs.+decimal.{statement}
+use Rattle.report.proofs.+decimal.Tie.{close}
+
+abbrev μ-decimal : Measures 1 decimal-kinds.ps ℕ
+μ-decimal κs a = a .1 .1 .0
+
+abbrev decimal-at : ℕ → In 1 decimal-kinds.ps
+decimal-at t = and 1 decimal-kinds.ps (is 1 decimal-kinds.ps μ-decimal t) decimal.Pre
+
+abbrev decimal-below : ℕ → In 1 decimal-kinds.ps
+decimal-below t = and 1 decimal-kinds.ps (falls 1 decimal-kinds.ps _<_ μ-decimal t) decimal.Pre
+
+pub +decimal-spec : {M : Type 1} → statement M
++decimal-spec = close μ-decimal λ t. decimal-lts.spec (
+  digit-reads.Asked,
+  digit-reads.Learnt,
+  put-reads.Asked,
+  put-reads.Learnt,
+  decimal-below t,
+  decimal.Post,
+)
+    (decimal-at t)
+    decimal.Post
+    (λ c κs. search needs)
+    (λ c κs. search needs)
+    (λ c. search needs)
+    (λ c. λ f l. one (c .before .before .before .before .before .if1 .taken) (c .before .before .before .digit .ensures) (c .before .before .put .ensures) f)
+    (λ c κs. search needs)
+    (λ c κs. search needs)
+    (λ c κs.
+    let w = c .before .before .before .before .decimal .ensures 4 (omega arith) in
+    omega (arith, w .ends, at-most 5 (c .before .before .before .before .before .before .before .before .args .n / 10)))
+    (λ c.
+    let w = c .before .before .before .before .before .before .before .decimal .ensures 4 (omega arith) in search needs)
+    (λ c. more (c .before .before .before .before .before .before .before .before .before .if1 .left) (c .before .before .before .digit2 .ensures) (c .before .before .before .before .before .before .before .decimal .ensures)
+        (c .before .before .put2 .ensures))

@@ -1,0 +1,2 @@
+-- The listing written: what a writing function leaves in its buffer.
+pub mod Written
