@@ -245,6 +245,9 @@ fn damage_cabinet_entry(dice: &mut Dice, draft: &mut GroupDraft) {
 
 fn damage_link_entry(dice: &mut Dice, draft: &mut GroupDraft) {
     let n = draft.cabinets.len() as u8;
+    if draft.links.is_empty() {
+        draft.links.push((1, 2));
+    }
     let index = dice.below(draft.links.len());
     let (low, high) = draft.links[index];
     match dice.below(6) {
@@ -262,13 +265,13 @@ fn disconnect(dice: &mut Dice, draft: &mut GroupDraft) {
     draft.links.retain(|&(low, high)| low != lonely && high != lonely);
 }
 
+/// One ampere too many, or far too many.
 fn overbook(dice: &mut Dice, draft: &mut GroupDraft) {
     let total: u32 = draft.cabinets.iter().map(|cabinet| u32::from(cabinet.booking)).sum();
     let index = dice.below(draft.cabinets.len());
-    let booking = u32::from(draft.cabinets[index].booking);
-    let needed = 65_536 - (total - booking);
-    if dice.per_thousand(500) && needed <= 65_535 {
-        draft.cabinets[index].booking = needed as u16;
+    let others = total - u32::from(draft.cabinets[index].booking);
+    if dice.per_thousand(500) && (1..=65_536).contains(&others) {
+        draft.cabinets[index].booking = (65_536 - others) as u16;
     } else {
         draft.cabinets.iter_mut().for_each(|cabinet| cabinet.booking = 50_000);
     }

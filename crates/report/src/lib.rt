@@ -114,6 +114,13 @@ fn version_octet(v: Version) -> u8
 
 // ---- lines
 
+fn end_line(out: &mut [u8], at: usize) -> usize
+    requires { ⌜ at ≤ 1000000 ⌝ }
+    ensures { λ r. ⌜ Written (10 ∷ []) at (now (out .entry)) r (now (out .exit)) ⌝ }
+{
+    put(out, at, b'\n')
+}
+
 fn load_line(out: &mut [u8], at: usize, k: u8) -> usize
     requires { ⌜ at ≤ 700000 ⌝ }
     ensures { λ r. ⌜ Written (loadLine k) at (now (out .entry)) r (now (out .exit)) ⌝ }
@@ -121,7 +128,7 @@ fn load_line(out: &mut [u8], at: usize, k: u8) -> usize
 {
     let at = word(out, at, b"load");
     let at = number(out, at, k as usize);
-    word(out, at, b"\n")
+    end_line(out, at)
 }
 
 fn step_line(out: &mut [u8], at: usize, k: usize, answer: u8) -> usize
@@ -133,7 +140,7 @@ fn step_line(out: &mut [u8], at: usize, k: usize, answer: u8) -> usize
     let at = word(out, at, b"step");
     let at = number(out, at, k);
     let at = number(out, at, answer as usize);
-    word(out, at, b"\n")
+    end_line(out, at)
 }
 
 // The state and, unless it is failed, version and booking.
@@ -164,7 +171,7 @@ fn cab_line(out: &mut [u8], at: usize, i: u8, c: Cabinet) -> usize
     let at = word(out, at, b"cab");
     let at = number(out, at, i as usize + 1);
     let at = cab_rest(out, at, c);
-    word(out, at, b"\n")
+    end_line(out, at)
 }
 
 fn cab_lines(out: &mut [u8], at: usize, g: Group) -> usize

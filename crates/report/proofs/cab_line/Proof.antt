@@ -14,4 +14,4 @@ cab-line-spec = tie.close (tie.spec
     (λ c κs. search needs)
     (λ c. search needs)
     (λ c.
-    (then (then (then (c .before .before .before .before .before .before .before .before .before .before .before .before .before .before .word .ensures) (c .before .before .before .before .before .before .before .before .before .before .number .ensures .0)) (c .before .before .before .before .before .before .cab-rest .ensures .0)) (c .before .before .word2 .ensures), search needs)))
+    (then (then (then (c .before .before .before .before .before .before .before .before .before .before .before .before .before .before .word .ensures) (c .before .before .before .before .before .before .before .before .before .before .number .ensures .0)) (c .before .before .before .before .before .before .cab-rest .ensures .0)) (c .before .before .end-line .ensures), search needs)))

@@ -11,4 +11,4 @@ load-line-spec = tie.close (tie.spec
     (λ c κs. search needs)
     (λ c κs. search needs)
     (λ c. search needs)
-    (λ c. (then (then (c .before .before .before .before .before .before .before .before .before .before .word .ensures) (c .before .before .before .before .before .before .number .ensures .0)) (c .before .before .word2 .ensures), search needs)))
+    (λ c. (then (then (c .before .before .before .before .before .before .before .before .before .before .word .ensures) (c .before .before .before .before .before .before .number .ensures .0)) (c .before .before .end-line .ensures), search needs)))

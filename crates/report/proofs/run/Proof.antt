@@ -1,20 +1,40 @@
 -- `run` goes through the records in order: the invariant is that the text of those passed is written.
 use borrow.Author.Needs.{needs}
-use Prim.Native.Nat.{_+_, _*_, _/_, _≤_, _-_, min}
-use mathlib.Core.Path.{_≡_, refl}
+use Prim.Native.Nat.{_*_, _≤_, _-_}
 use native.Mathlib.Omega.{arith}
-use lib.ListN.{length}
 use Rattle.protocol.specs.Listing.{records, runFrom}
 use Rattle.report.proofs.Records.{Written-to, start, turn, ended}
 use Rattle.report.proofs.run.Statement.{statement}
 use Rattle.report.proofs.run.Tie as tie
 
 abbrev Inv-loop : tie.InvT-loop
-Inv-loop = ?
+Inv-loop out₀ list count g₀ at₀ passed₀ out g at passed =
+    (passed ≤ 10000) × ((at ≤ 17 * passed) × Written-to list (runFrom 1 g₀ (records 10000 list)) out₀ out g at passed)
 
 abbrev μ-loop : tie.MeasureT-loop
-μ-loop = ?
+μ-loop out₀ list count g₀ at₀ passed₀ out g at passed = count - passed
 
 pub run-spec : {M : Type 1} → statement M
 run-spec = tie.close (tie.spec Inv-loop μ-loop
-)
+    (λ c κs. search needs)
+    (λ c. search needs)
+    (λ c. (search needs, (search needs, start _ _ _)))
+    (λ c. search needs)
+    (λ c. search needs)
+    (λ c κs. search needs)
+    (λ c. search needs)
+    (λ c. search needs)
+    (λ c. search needs)
+    (λ c κs. search needs)
+    (λ c. search needs)
+    (λ c κs. search needs)
+    (λ c. search needs)
+    (λ c. search needs)
+    (λ c.
+    let l = c .before .before .before .before .before .before .before .before .before .loop in
+    (omega arith, (omega (arith, c .before .before .before .step-line .ensures .1), turn (l .inv .1 .1) (omega arith) (omega arith) (c .before .before .before .before .before .before .before .least2 .ensures) (c .before .before .before .before .before .step .ensures) (c .before .before .before .step-line .ensures .0))))
+    (λ c κs. search needs)
+    (λ c. search needs)
+    (λ c.
+    let l = c .before .before .before .before .before .loop in
+    (ended (l .inv .1 .1) (omega arith) (c .before .before .cab-lines .ensures .0), omega (arith, c .before .before .cab-lines .ensures .1))))
