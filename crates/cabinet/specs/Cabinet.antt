@@ -21,7 +21,7 @@ use Rattle.cabinet.specs.declared.Noted.{Noted}
 use Rattle.cabinet.specs.declared.Registers.{Registers}
 use Rattle.cabinet.specs.declared.Image.{Image}
 use Rattle.cabinet.specs.declared.Cabinet.{Cabinet}
-use Rattle.cabinet.specs.State.{works, isIn, flipped, adopted, settled, doubted, bitOf}
+use Rattle.cabinet.specs.State.{works, doubted}
 
 -- ---- images
 

@@ -65,11 +65,6 @@ abbrev pub adopted : Version → Version
 adopted (Known v) = Known v
 adopted (Unknown v) = Known (not v)
 
--- wait over: "version becomes old"
-abbrev pub settled : Version → Version
-settled (Known v) = Known v
-settled (Unknown v) = Known v
-
 -- "A fault for the same place is noted; for another place it crashes the group."
 abbrev pub isFor : Alarm → Place → Bool
 isFor Quiet p = false

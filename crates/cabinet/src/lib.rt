@@ -22,7 +22,6 @@ ghost use Rattle.cabinet.specs.State.{
   doubted,
   flipped,
   adopted,
-  settled,
   isFor,
 };
 ghost use Rattle.cabinet.specs.Cabinet.{
@@ -248,16 +247,6 @@ pub fn adopted(v: Version) -> Version
     match v {
         Version::Known(bit) => Version::Known(bit),
         Version::Unknown(old) => Version::Known(!old),
-    }
-}
-
-// The version once the wait is over.
-pub fn settled(v: Version) -> Version
-    ensures { λ r. ⌜ r ≡ settled v ⌝ }
-{
-    match v {
-        Version::Known(bit) => Version::Known(bit),
-        Version::Unknown(old) => Version::Known(old),
     }
 }
 

@@ -135,12 +135,13 @@ content-set (c ∷ cs) (suc k) p f e h = go (content-set cs k p f e (h .1)) (isE
   where
     go : Replaced cs k p → (t : Bool) → isEmpty (c .packet) ≡ t
         → (packetOf (c .packet) (content (set cs k (record { packet = p }))) ≡ set (packetOf (c .packet) (content cs)) (suc k) p)
-          × (getD (packetOf (c .packet) (content cs)) (suc k) Empty ≡ getD cs k emptyCell .packet)
+        × (getD (packetOf (c .packet) (content cs)) (suc k) Empty ≡ getD cs k emptyCell .packet)
     go ih true t = absurd (nothing-there cs k (h .0 t) e)
-    go ih false t =
-        (rw (full-is (c .packet) (content (set cs k (record { packet = p }))) t, full-is (c .packet) (content cs) t)
-         (ap (λ (r : List Packet). c .packet ∷ r) (ih .0)),
-         rw (full-is (c .packet) (content cs) t) (ih .1))
+    go ih false t = (
+      rw (full-is (c .packet) (content (set cs k (record { packet = p }))) t, full-is (c .packet) (content cs) t)
+          (ap (λ (r : List Packet). c .packet ∷ r) (ih .0)),
+      rw (full-is (c .packet) (content cs) t) (ih .1),
+    )
 
 pub packed-set : (cs : List Cell) (k : ℕ) (p : Packet) → isEmpty p ≡ false → isEmpty (getD cs k emptyCell .packet) ≡ false → Packed cs
     → Packed (set cs k (record { packet = p }))

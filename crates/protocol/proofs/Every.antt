@@ -180,7 +180,10 @@ module _ (C : Cabinet → Type 0) (L : Line → Type 0) (I : Image → Type 0) (
   unfolding cabinet withCabinet outgoing line slot
   with-cabinet g i c hc h = record {
     frame = record { cabinets = length-set (g .cabinets) i c ∙ h .frame .cabinets; outs = h .frame .outs; lines = h .frame .lines; store = h .frame .store };
-    cabs = λ j. getD-set C (g .cabinets) i j c absent hc (h .cabs j); lines = h .lines; slots = h .slots }
+    cabs = λ j. getD-set C (g .cabinets) i j c absent hc (h .cabs j);
+    lines = h .lines;
+    slots = h .slots;
+  }
 
   pub record Out (o : Outgoing) : Type 0 where
     pub eight : length (o .lines) ≡ 8
@@ -224,9 +227,9 @@ module _ (C : Cabinet → Type 0) (L : Line → Type 0) (I : Image → Type 0) (
     cabs = h .cabs;
     lines = h .lines;
     slots = λ j u.
-      let P : Slots → Type 0 = λ s. I (cond u (s .one) (s .zero)) in
-      getD-set P (g .store) i j _ blankSlots
-      (cond-elim P v (λ _. pick-slot _ u (h .slots i false) hm) (λ _. pick-slot _ u hm (h .slots i true))) (h .slots j u);
+        let P : Slots → Type 0 = λ s. I (cond u (s .one) (s .zero)) in
+        getD-set P (g .store) i j _ blankSlots
+        (cond-elim P v (λ _. pick-slot _ u (h .slots i false) hm) (λ _. pick-slot _ u hm (h .slots i true))) (h .slots j u);
   }
 
   -- ---- packets on several lines
@@ -266,7 +269,7 @@ module _ (C : Cabinet → Type 0) (L : Line → Type 0) (I : Image → Type 0) (
   pub ok-join : (g : Group) (i : ℕ) → Ok g → Ok (join g i)
   unfolding join
   ok-join g i h =
-      with-cabinet _ i _ (k .beginning _ (h .cabs i)) 
+      with-cabinet _ i _ (k .beginning _ (h .cabs i))
       (with-outgoing g i _ (put-checkps (inUse (cabinet g i)) (cabinet g i .registers .sent) (outgoing g i) (out-of g i h)) h)
 
   cut-one : (c : Cabinet) → C c → C (cutting c)
@@ -347,10 +350,23 @@ module _ (C : Cabinet → Type 0) (L : Line → Type 0) (I : Image → Type 0) (
   ok-crashed g h = record {
     frame = record { cabinets = refl; outs = h .frame .outs; lines = h .frame .lines; store = h .frame .store };
     cabs = λ i.
-      getD-each C (crashed g .group .cabinets) i absent
-      (crash-one _ (h .cabs 0), (crash-one _ (h .cabs 1), (crash-one _ (h .cabs 2), (crash-one _ (h .cabs 3), (crash-one _ (h .cabs 4),
-      (crash-one _ (h .cabs 5), (crash-one _ (h .cabs 6), (crash-one _ (h .cabs 7), tt))))))))
-      (k .gone);
+        getD-each C (crashed g .group .cabinets) i absent (
+          crash-one _ (h .cabs 0),
+          (
+            crash-one _ (h .cabs 1),
+            (
+              crash-one _ (h .cabs 2),
+              (
+                crash-one _ (h .cabs 3),
+                (
+                  crash-one _ (h .cabs 4),
+                  (crash-one _ (h .cabs 5), (crash-one _ (h .cabs 6), (crash-one _ (h .cabs 7), tt))),
+                ),
+              ),
+            ),
+          ),
+        )
+        (k .gone);
     lines = h .lines;
     slots = h .slots;
   }
@@ -503,7 +519,7 @@ module _ (C : Cabinet → Type 0) (L : Line → Type 0) (I : Image → Type 0) (
   module _ (g : Group) (h : Ok g) (a : ℕ) where
     pub ok-write : OkOf (writeStep g a)
     unfolding writeStep
-    ok-write = or-refuse (writeRefusal g a) g _ 
+    ok-write = or-refuse (writeRefusal g a) g _
         (λ _. ok-oweIf (not (ltb (cabinet g a .noted .pieces) 3)) _ (cabinet g a .home) a (ok-writePiece g h a)) h
 
     pub ok-saved : OkOf (savedStep g a)

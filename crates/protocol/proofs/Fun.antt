@@ -55,10 +55,11 @@ sum-cong f g (suc n) h =
 pub sum-at : (f g : ℕ → ℕ) (a n : ℕ) → a < n → ((i : ℕ) → i ≢ a → g i ≡ f i) → sum g n + f a ≡ sum f n + g a
 unfolding sum
 sum-at f g a zero l h = omega arith
-sum-at f g a (suc n) l h = elim (ℕ-discrete n a)
-    [ yes e ↦ let r : sum g n ≡ sum f n = sum-cong g f n (λ i k. h i (omega arith)) in
-              rw e (omega (arith, rw e at r))
-    | no d ↦ omega (arith, sum-at f g a n (omega arith) h, h n d) ]
+sum-at f g a (suc n) l h = elim (ℕ-discrete n a) [
+  | yes e ↦ let r : sum g n ≡ sum f n = sum-cong g f n (λ i k. h i (omega arith)) in
+      rw e (omega (arith, rw e at r))
+  | no d ↦ omega (arith, sum-at f g a n (omega arith) h, h n d)
+]
 
 pub sum-ge : (f : ℕ → ℕ) (a n : ℕ) → a < n → f a ≤ sum f n
 unfolding sum

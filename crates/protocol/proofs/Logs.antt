@@ -69,8 +69,8 @@ unfolding checkOf amountsOctets
 check-snoc l p =
     ap (λ (n : ℕ). record { crc = n })
     (ap (λ (x : List ℕ). crcFrom start (amountsOctets x)) (map-snoc l p)
-     ∙ ap (crcFrom start) (amounts-append (map (λ (x : Payload). x .amount) l) (p .amount ∷ []))
-     ∙ from-append (amountsOctets (map (λ (x : Payload). x .amount) l)) (amountsOctets (p .amount ∷ [])) start)
+    ∙ ap (crcFrom start) (amounts-append (map (λ (x : Payload). x .amount) l) (p .amount ∷ []))
+    ∙ from-append (amountsOctets (map (λ (x : Payload). x .amount) l)) (amountsOctets (p .amount ∷ [])) start)
 
 pub check-none : checkOf [] ≡ startCheck
 unfolding checkOf amountsOctets crcFrom

@@ -77,8 +77,11 @@ module _ (c : Cabinet) (w : Shaped c) (j : ℕ) (l : j < 8) where
   pub side-comparing : sideOf (comparing c j) ≡ upd (sideOf c) j (sCompared (sideOf c j))
   side-comparing =
       one-place (sideOf (comparing c j)) _
-      (rw (getD-set-same (c .noted .come) j true false (omega (arith, w .come)), getD-set-same (c .registers .taken) j startCheck startCheck (omega (arith, w .taken)),
-      getD-set-same (c .registers .hurt) j false false (omega (arith, w .hurt))))
+      (rw (
+        getD-set-same (c .noted .come) j true false (omega (arith, w .come)),
+        getD-set-same (c .registers .taken) j startCheck startCheck (omega (arith, w .taken)),
+        getD-set-same (c .registers .hurt) j false false (omega (arith, w .hurt)),
+      ))
       (λ b n. rw (getD-set-other (c .noted .come) j b true false n, getD-set-other (c .registers .taken) j b startCheck startCheck n, getD-set-other (c .registers .hurt) j b false false n))
 
   pub side-owing : (o : Bool) → sideOf (owing c j o) ≡ upd (sideOf c) j (sOwed (sideOf c j) o)
@@ -128,6 +131,7 @@ module _ (m : Marks) (rs : List Check) where
       here : (t : Bool) → getD (restartIf t (restartTo n m rs) n) n startCheck ≡ cond t startCheck (getD rs n startCheck)
       here true = set-default (restartTo n m rs) n startCheck
       here false = restart-past n n (omega arith)
+
       there : (t : Bool) → b ≢ n → getD (restartTo n m rs) b startCheck ≡ cond (marked m b) startCheck (getD rs b startCheck)
           → getD (restartIf t (restartTo n m rs) n) b startCheck ≡ cond (marked m b) startCheck (getD rs b startCheck)
       there true d e = getD-set-other (restartTo n m rs) n b startCheck startCheck d ∙ e
@@ -138,11 +142,12 @@ sBegun s = sCleared (sRegisters s (cond (used s) startCheck (s .put)) (s .took) 
 
 module _ (c : Cabinet) (w : Shaped c) where
   restarted : (b : ℕ) → getD (restartTo 8 (inUse c) (c .registers .sent)) b startCheck ≡ cond (used (sideOf c b)) startCheck (sideOf c b .put)
-  restarted b = elim (decLt b 8)
-      [ yes l ↦ restart-at (inUse c) (c .registers .sent) 8 b l
-                ∙ ap (λ (t : Bool). cond t startCheck (sideOf c b .put)) (in-use c w b)
-      | no n ↦ restart-past (inUse c) (c .registers .sent) 8 b (omega arith)
-               ∙ sym (rw (← in-use c w b, past-use c b (omega arith))) ]
+  restarted b = elim (decLt b 8) [
+    | yes l ↦ restart-at (inUse c) (c .registers .sent) 8 b l
+        ∙ ap (λ (t : Bool). cond t startCheck (sideOf c b .put)) (in-use c w b)
+    | no n ↦ restart-past (inUse c) (c .registers .sent) 8 b (omega arith)
+        ∙ sym (rw (← in-use c w b, past-use c b (omega arith)))
+  ]
 
   pub side-beginning : (b : ℕ) → sideOf (beginning c) b ≡ sBegun (sideOf c b)
   side-beginning b = rw (restarted b, no-marks b)

@@ -41,9 +41,10 @@ abbrev Eight : Marks → Type 0
 Eight m = length m ≡ 8
 
 linked-eight : (rs : Rows) (a b : ℕ) → ((i : ℕ) → Eight (getD rs i noMarks)) → (i : ℕ) → Eight (getD (linked rs a b) i noMarks)
-linked-eight rs a b h i = elim (decLt a (length rs))
-    [ yes l ↦ getD-set Eight rs a i _ noMarks (length-set (getD rs a []) b true ∙ ap length (getD-in rs a [] noMarks l) ∙ h a) (h i)
-    | no n ↦ rw (set-out rs a (set (getD rs a []) b true) (omega arith)) (h i) ]
+linked-eight rs a b h i = elim (decLt a (length rs)) [
+  | yes l ↦ getD-set Eight rs a i _ noMarks (length-set (getD rs a []) b true ∙ ap length (getD-in rs a [] noMarks l) ∙ h a) (h i)
+  | no n ↦ rw (set-out rs a (set (getD rs a []) b true) (omega arith)) (h i)
+]
 
 rows-eight : (k : ℕ) (f : List ℕ) (i : ℕ) → Eight (getD (linkRows k f) i noMarks)
 rows-eight zero f i = getD-repeated Eight 8 i noMarks noMarks refl refl
@@ -67,7 +68,16 @@ module _ (f : List ℕ) (o : (i : ℕ) → getD f i 0 < 256) where
   starts-shaped rows h i =
       cond-elim Shaped (ltb i (cabinetCount f))
       (λ _. record {
-        cabs = refl; links = h i; come = refl; saved = refl; restored = refl; heard = refl; sent = refl; taken = refl; hurt = refl; owed = refl;
+        cabs = refl;
+        links = h i;
+        come = refl;
+        saved = refl;
+        restored = refl;
+        heard = refl;
+        sent = refl;
+        taken = refl;
+        hurt = refl;
+        owed = refl;
         image = pictured i;
       })
       (λ _. shaped .gone)
@@ -97,13 +107,13 @@ module _ (f : List ℕ) (o : (i : ℕ) → getD f i 0 < 256) where
   fit-group = record {
     frame = record { cabinets = refl; outs = refl; lines = lines-eight; store = refl };
     cabs = λ i.
-      let s = starts-shaped (rowsIn f) (rows-eight (linkCount f) f) in
-      getD-each Shaped (cabinetsOf f (rowsIn f)) i absent (s 0, (s 1, (s 2, (s 3, (s 4, (s 5, (s 6, (s 7, tt)))))))) (shaped .gone);
+        let s = starts-shaped (rowsIn f) (rows-eight (linkCount f) f) in
+        getD-each Shaped (cabinetsOf f (rowsIn f)) i absent (s 0, (s 1, (s 2, (s 3, (s 4, (s 5, (s 6, (s 7, tt)))))))) (shaped .gone);
     lines = all-empty;
     slots = λ i v.
-      let s = slots-pictured in
-      pick (getD (storeOf f) i blankSlots) v
-      (getD-each Both (storeOf f) i blankSlots (s 0, (s 1, (s 2, (s 3, (s 4, (s 5, (s 6, (s 7, tt)))))))) (blank-pictured, blank-pictured));
+        let s = slots-pictured in
+        pick (getD (storeOf f) i blankSlots) v
+        (getD-each Both (storeOf f) i blankSlots (s 0, (s 1, (s 2, (s 3, (s 4, (s 5, (s 6, (s 7, tt)))))))) (blank-pictured, blank-pictured));
   }
 
   fit-none : Fit noGroup
@@ -113,8 +123,8 @@ module _ (f : List ℕ) (o : (i : ℕ) → getD f i 0 < 256) where
     cabs = λ i. getD-repeated Shaped 8 i absent absent (shaped .gone) (shaped .gone);
     lines = all-empty;
     slots = λ i v.
-      pick (getD (replicate 8 blankSlots) i blankSlots) v
-      (getD-repeated Both 8 i blankSlots blankSlots (blank-pictured, blank-pictured) (blank-pictured, blank-pictured));
+        pick (getD (replicate 8 blankSlots) i blankSlots) v
+        (getD-repeated Both 8 i blankSlots blankSlots (blank-pictured, blank-pictured) (blank-pictured, blank-pictured));
   }
 
   pub loaded-fit : Fit (load f .group)

@@ -79,10 +79,11 @@ length-restart (suc n) m rs = length-restartIf (marked m n) _ n ∙ length-resta
 length-struck : (i : ℕ) (p : Place) (c : Cabinet) → Shaped c
     → (length (struckAt i p (c .table) .cabinets) ≡ 8) × (length (struckAt i p (c .table) .links) ≡ 8)
 length-struck i (AtCabinet a) c h = (length-set (c .table .cabinets) a false ∙ h .cabs, h .links)
-length-struck i (AtLink a b) c h =
-    (h .cabs,
-     cond-elim (λ (x : Marks). length x ≡ 8) (eqb i a) (λ _. length-set (c .table .links) b false ∙ h .links)
-     (λ _. cond-elim (λ (x : Marks). length x ≡ 8) (eqb i b) (λ _. length-set (c .table .links) a false ∙ h .links) (λ _. h .links)))
+length-struck i (AtLink a b) c h = (
+  h .cabs,
+  cond-elim (λ (x : Marks). length x ≡ 8) (eqb i a) (λ _. length-set (c .table .links) b false ∙ h .links)
+      (λ _. cond-elim (λ (x : Marks). length x ≡ 8) (eqb i b) (λ _. length-set (c .table .links) a false ∙ h .links) (λ _. h .links)),
+)
 
 shaped-wrote : (c : Cabinet) (i : ℕ) → Shaped c → Shaped (wrote c i)
 shaped-wrote c i h = cond-elim Shaped (ltb (c .noted .pieces) 3) (λ _. search) (λ _. search)
@@ -229,9 +230,34 @@ nothing-lined : Lined emptyLine
 unfolding Packed content
 nothing-lined = record {
   twelve = refl;
-  packed =
-    ((λ _. refl), ((λ _. refl), ((λ _. refl), ((λ _. refl), ((λ _. refl), ((λ _. refl), ((λ _. refl), ((λ _. refl), ((λ _. refl),
-    ((λ _. refl), ((λ _. refl), ((λ _. refl), tt))))))))))));
+  packed = (
+    (λ _. refl),
+    (
+      (λ _. refl),
+      (
+        (λ _. refl),
+        (
+          (λ _. refl),
+          (
+            (λ _. refl),
+            (
+              (λ _. refl),
+              (
+                (λ _. refl),
+                (
+                  (λ _. refl),
+                  (
+                    (λ _. refl),
+                    ((λ _. refl), ((λ _. refl), ((λ _. refl), tt))),
+                  ),
+                ),
+              ),
+            ),
+          ),
+        ),
+      ),
+    ),
+  );
   few = omega arith;
   fits = λ k. getD-repeated FitsCell 12 k emptyCell emptyCell tt tt;
 }
@@ -239,11 +265,20 @@ nothing-lined = record {
 pub shaped : Closed Shaped Lined Pictured
 shaped = record {
   gone = record {
-    cabs = refl; links = refl; come = refl; saved = refl; restored = refl; heard = refl; sent = refl; taken = refl; hurt = refl; owed = refl;
+    cabs = refl;
+    links = refl;
+    come = refl;
+    saved = refl;
+    restored = refl;
+    heard = refl;
+    sent = refl;
+    taken = refl;
+    hurt = refl;
+    owed = refl;
     image = record { octets = refl; small = λ i. getD-repeated Small 32 i 0 0 (omega arith) (omega arith) };
   };
   sending = λ c j p l h.
-    let m = pictured-booked (c .image) (booked (c .image) - p .amount) (omega (arith, booked-lt (c .image) (h .image))) (h .image) in search length-set;
+      let m = pictured-booked (c .image) (booked (c .image) - p .amount) (omega (arith, booked-lt (c .image) (h .image))) (h .image) in search length-set;
   noting = λ c k q l h. let m = pictured-set (c .image) k q l (h .image) in search length-set;
   taking = λ c j p h. let m = pictured-booked (c .image) ((booked (c .image) + p .amount) % 65536) (omega arith) (h .image) in search length-set;
   hurtFrom = λ c j h. search length-set;

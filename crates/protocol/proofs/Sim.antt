@@ -82,7 +82,7 @@ unfolding outgoing line withLine lineTo withLineTo
 view-line g w a b l ha hb =
     view-outgoing g w a (withLineTo (outgoing g a) b l) ha
     ∙ ap (setLines (view g) a)
-      (getD-upd (λ x. content (x .cells)) (outgoing g a .lines) b l emptyLine (omega (arith, w .lines a)))
+    (getD-upd (λ x. content (x .cells)) (outgoing g a .lines) b l emptyLine (omega (arith, w .lines a)))
 
 abbrev slotsWith : Slots → Bool → Image → Slots
 slotsWith s v m = cond v (record { zero = s .zero; one = m }) (record { zero = m; one = s .one })
@@ -153,6 +153,7 @@ module _ (m : Marks) (ps : List Cell) (o : Outgoing) where
           getD-set-same (putRowTo n m ps o .lines) n _ emptyLine (omega (arith, length-row n))
           ∙ ap (λ (x : Line). put x (getD ps n emptyCell .packet)) (row-past n n (omega arith))
       here false = row-past n n (omega arith)
+
       there : (t : Bool) → b ≢ n → lineTo (putRowTo n m ps o) b ≡ PutAt b
           → lineTo (putIf t (putRowTo n m ps o) n (getD ps n emptyCell .packet)) b ≡ PutAt b
       there true d e = getD-set-other (putRowTo n m ps o .lines) n b _ emptyLine d ∙ e
@@ -171,10 +172,11 @@ pub past-use : (c : Cabinet) (b : ℕ) → 8 ≤ b → marked (inUse c) b ≡ fa
 past-use c b h = past-both (c .table .links) (c .table .cabinets) b h
 
 pub in-use : (c : Cabinet) → Shaped c → (b : ℕ) → marked (inUse c) b ≡ used (sideOf c b)
-in-use c w b = elim (decLt b 8)
-    [ yes l ↦ marked-both (c .table .links) (c .table .cabinets) b l
-    | no n ↦ past-both (c .table .links) (c .table .cabinets) b (omega arith)
-             ∙ sym (rw (past-row (c .table .links) false b (w .links) (omega arith))) ]
+in-use c w b = elim (decLt b 8) [
+  | yes l ↦ marked-both (c .table .links) (c .table .cabinets) b l
+  | no n ↦ past-both (c .table .links) (c .table .cabinets) b (omega arith)
+      ∙ sym (rw (past-row (c .table .links) false b (w .links) (omega arith)))
+]
 
 -- what a row of packets leaves on the lines, where those marked have room
 module _ (g : Group) (w : Fit g) (i : ℕ) (m : Marks) (ps : List Cell) (mark-past : (b : ℕ) → 8 ≤ b → marked m b ≡ false)
@@ -185,7 +187,7 @@ module _ (g : Group) (w : Fit g) (i : ℕ) (m : Marks) (ps : List Cell) (mark-pa
 
   row-one : (b : ℕ) → b < 8 → (t : Bool) → marked m b ≡ t
       → content (cond t (put (lineTo (outgoing g i) b) (getD ps b emptyCell .packet)) (lineTo (outgoing g i) b) .cells)
-        ≡ cond t (view g .lines i b ++ (getD ps b emptyCell .packet ∷ [])) (view g .lines i b)
+      ≡ cond t (view g .lines i b ++ (getD ps b emptyCell .packet ∷ [])) (view g .lines i b)
   unfolding line
   row-one b l true e = put-content (line g i b) (w .lines i b) (getD ps b emptyCell .packet) (full b l) (room b e)
   row-one b l false e = refl
@@ -193,8 +195,9 @@ module _ (g : Group) (w : Fit g) (i : ℕ) (m : Marks) (ps : List Cell) (mark-pa
   pub row-content : contents (putRowTo 8 m ps (outgoing g i)) ≡ After
   unfolding line
   row-content =
-      fun-ext (λ b. elim (decLt b 8)
-      [ yes l ↦ ap (λ (x : Line). content (x .cells)) (row-at m ps (outgoing g i) 8 b l (omega (arith, w .frame .lines i)))
-                ∙ row-one b l (marked m b) refl
-      | no n ↦ ap (λ (x : Line). content (x .cells)) (row-past m ps (outgoing g i) 8 b (omega arith))
-               ∙ sym (rw (mark-past b (omega arith))) ])
+      fun-ext (λ b. elim (decLt b 8) [
+        | yes l ↦ ap (λ (x : Line). content (x .cells)) (row-at m ps (outgoing g i) 8 b l (omega (arith, w .frame .lines i)))
+            ∙ row-one b l (marked m b) refl
+        | no n ↦ ap (λ (x : Line). content (x .cells)) (row-past m ps (outgoing g i) 8 b (omega arith))
+            ∙ sym (rw (mark-past b (omega arith)))
+      ])

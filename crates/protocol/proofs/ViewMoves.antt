@@ -58,9 +58,10 @@ module _ (g : Group) (w : Fit g) (i : ℕ) (l : i < 8) (room : Room (view g) i) 
 
   after-put : (ps : List Cell) (f : ℕ → Packet) → ((b : ℕ) → b < 8 → getD ps b emptyCell .packet ≡ f b)
       → (b : ℕ) → cond (marked (inUse (cabinet g i)) b) (view g .lines i b ++ (getD ps b emptyCell .packet ∷ [])) (view g .lines i b) ≡ vPut (view g) i f b
-  after-put ps f same b = elim (decLt b 8)
-      [ yes h ↦ rw (in-use (cabinet g i) (w .cabs i) b, same b h)
-      | no n ↦ let no-use = past-use (cabinet g i) b (omega arith) in rw (no-use, ← in-use (cabinet g i) (w .cabs i) b, no-use) ]
+  after-put ps f same b = elim (decLt b 8) [
+    | yes h ↦ rw (in-use (cabinet g i) (w .cabs i) b, same b h)
+    | no n ↦ let no-use = past-use (cabinet g i) b (omega arith) in rw (no-use, ← in-use (cabinet g i) (w .cabs i) b, no-use)
+  ]
 
   pub sim-broadcast : (p : Packet) → isEmpty p ≡ false → view (broadcast g i p) ≡ vBroadcast (view g) i p
   unfolding broadcast putAll
@@ -69,7 +70,7 @@ module _ (g : Group) (w : Fit g) (i : ℕ) (l : i < 8) (room : Room (view g) i) 
       let at : (b : ℕ) → b < 8 → getD ps b emptyCell .packet ≡ p = λ b h. ap (λ (x : Cell). x .packet) (getD-replicate 8 b (record { packet = p }) emptyCell h) in
       view-outgoing g (w .frame) i _ l
       ∙ ap (setLines (view g) i)
-        (row-content g w i (inUse (cabinet g i)) ps (past-use (cabinet g i)) (λ b h. rw (at b h) f) room-marked ∙ fun-ext (after-put ps (λ b. p) at))
+      (row-content g w i (inUse (cabinet g i)) ps (past-use (cabinet g i)) (λ b h. rw (at b h) f) room-marked ∙ fun-ext (after-put ps (λ b. p) at))
 
 -- ---- a change of one cabinet and of its side towards another
 
@@ -244,8 +245,8 @@ module _ (g : Group) (w : Fit g) (i : ℕ) (l : i < 8) (room : Room (view g) i) 
   view-checkps =
       view-outgoing g (w .frame) i _ l
       ∙ ap (setLines (view g) i)
-        (row-content g w i (inUse (cabinet g i)) (checkps regs) (past-use (cabinet g i)) (λ b h. rw (checkp-at regs b h)) (room-marked g w i l room)
-         ∙ fun-ext (after-put g w i l room (checkps regs) (λ b. Checkp (getD regs b startCheck)) (checkp-at regs)))
+      (row-content g w i (inUse (cabinet g i)) (checkps regs) (past-use (cabinet g i)) (λ b h. rw (checkp-at regs b h)) (room-marked g w i l room)
+      ∙ fun-ext (after-put g w i l room (checkps regs) (λ b. Checkp (getD regs b startCheck)) (checkp-at regs)))
 
   checkps-put : Fit (withOutgoing g i (putCheckps (inUse (cabinet g i)) regs (outgoing g i)))
   checkps-put =
@@ -257,7 +258,7 @@ module _ (g : Group) (w : Fit g) (i : ℕ) (l : i < 8) (room : Room (view g) i) 
   sim-join =
       view-cabinet _ (checkps-put .frame) i _ l
       ∙ ap (setCabinet (view (withOutgoing g i (putCheckps (inUse (cabinet g i)) regs (outgoing g i)))) i (ownOf (beginning (cabinet g i))))
-        (fun-ext (λ b. side-beginning (cabinet g i) (w .cabs i) b))
+      (fun-ext (λ b. side-beginning (cabinet g i) (w .cabs i) b))
       ∙ ap (λ (x : View). setCabinet x i (ownOf (beginning (cabinet g i))) (λ b. sBegun (view g .side i b))) view-checkps
 
 -- ---- lines
@@ -286,8 +287,8 @@ sim-sent g w a b q lq la lb room =
     view-line _ (paid .frame) a b _ la lb
     ∙ ap (setLine (view (withCabinet g a (sending (cabinet g a) b p))) a b) (put-content (line g a b) (w .lines a b) (NormalPacket p) refl room)
     ∙ ap (λ (x : View). setLine x a b (view g .lines a b ++ (NormalPacket p ∷ [])))
-      (view-cabinet g (w .frame) a _ la
-       ∙ ap (setCabinet (view g) a (ownOf (sending (cabinet g a) b p))) (side-sending (cabinet g a) (w .cabs a) b lb p))
+    (view-cabinet g (w .frame) a _ la
+    ∙ ap (setCabinet (view g) a (ownOf (sending (cabinet g a) b p))) (side-sending (cabinet g a) (w .cabs a) b lb p))
 
 -- the lines to a failed cabinet are emptied
 abbrev pub vEmptied : ℕ → View → ℕ → View
@@ -316,8 +317,8 @@ emptied-more : (v : View) (n a i b : ℕ) → upd (vEmptied n v a .lines) n (upd
 emptied-more v n a i b =
     upd-elim (λ (f : ℕ → List Packet). f b ≡ vEmptied (suc n) v a .lines i b) (vEmptied n v a .lines) n _ i
     (λ e. upd-elim (λ (x : List Packet). x ≡ vEmptied (suc n) v a .lines i b) (vEmptied n v a .lines n) a [] b
-      (λ f. rw (e, f, lt-ltb n (suc n) (omega arith), eq-eqb a a refl))
-      (λ f. rw (e, ne-eqb b a f, and-false-r, and-false-r)))
+    (λ f. rw (e, f, lt-ltb n (suc n) (omega arith), eq-eqb a a refl))
+    (λ f. rw (e, ne-eqb b a f, and-false-r, and-false-r)))
     (λ d. rw (ltb-more i n d))
 
 pub sim-emptied : (n : ℕ) (g : Group) (a : ℕ) → Fit g → n ≤ 8 → a < 8 → view (emptiedTo n g a) ≡ vEmptied n (view g) a
@@ -356,7 +357,7 @@ sim-failed g w a la =
     let two = with-outgoing Shaped Lined Pictured shaped _ a _ (no-packets Shaped Lined Pictured shaped) one in
     sim-emptied 8 _ a two (omega arith) la
     ∙ ap (λ (x : View). vEmptied 8 x a)
-      (view-outgoing _ (one .frame) a emptyLines la ∙ ap (setLines _ a) no-content ∙ ap (λ (x : View). vSilenced x a) (view-cabinet g (w .frame) a _ la))
+    (view-outgoing _ (one .frame) a emptyLines la ∙ ap (setLines _ a) no-content ∙ ap (λ (x : View). vSilenced x a) (view-cabinet g (w .frame) a _ la))
 
 -- the cut
 abbrev pub vCut : View → ℕ → View

@@ -47,4 +47,4 @@ pub +decimal-spec : {M : Type 1} → statement M
     (λ c.
     let w = c .before .before .before .before .before .before .before .decimal .ensures 4 (omega arith) in search needs)
     (λ c. more (c .before .before .before .before .before .before .before .before .before .if1 .left) (c .before .before .before .digit2 .ensures) (c .before .before .before .before .before .before .before .decimal .ensures)
-        (c .before .before .put2 .ensures))
+    (c .before .before .put2 .ensures))

@@ -21,10 +21,11 @@ cab-rest-spec = tie.close (tie.spec
     (λ c.
     let start = c .before .before .before .before .before .before .before .before .before .before .before .before .before .before .before .before .before .before .before .before .before .before .before .before .before .before in
     let v = rw (c .before .before .before .before .before .before .before .before .version-octet .ensures) at (c .before .before .before .before .before .before .before .put3 .ensures) in
-    let booking = rw (c .before .before .before .booked .ensures) at (c .before .before .number .ensures .0) in
-    (all-fields (start .args .c) (c .before .before .before .before .before .before .before .before .before .before .before .before .before .before .before .works .ensures) (c .before .before .before .before .before .before .before .before .before .before .before .before .before .before .if1 .taken)
-        (then (c .before .before .before .before .before .before .before .before .before .before .before .before .before .before .before .before .before .before .before .before .before .before .put .ensures) (then (then (c .before .before .before .before .before .before .before .before .before .before .before .before .before .before .before .before .before .before .state-word .ensures .0) (then (c .before .before .before .before .before .before .before .before .before .before .before .before .put2 .ensures) v)) booking)),
-    omega (arith, c .before .before .before .before .before .before .before .before .before .before .before .before .before .before .before .before .before .before .before .before .before .before .put .ensures .ends, c .before .before .before .before .before .before .before .before .before .before .before .before .before .before .before .before .before .before .state-word .ensures .1, c .before .before .before .before .before .before .before .before .before .before .before .before .put2 .ensures .ends, c .before .before .before .before .before .before .before .put3 .ensures .ends, c .before .before .number .ensures .1)))
+    let booking = rw (c .before .before .before .booked .ensures) at (c .before .before .number .ensures .0) in (
+      all-fields (start .args .c) (c .before .before .before .before .before .before .before .before .before .before .before .before .before .before .before .works .ensures) (c .before .before .before .before .before .before .before .before .before .before .before .before .before .before .if1 .taken)
+          (then (c .before .before .before .before .before .before .before .before .before .before .before .before .before .before .before .before .before .before .before .before .before .before .put .ensures) (then (then (c .before .before .before .before .before .before .before .before .before .before .before .before .before .before .before .before .before .before .state-word .ensures .0) (then (c .before .before .before .before .before .before .before .before .before .before .before .before .put2 .ensures) v)) booking)),
+      omega (arith, c .before .before .before .before .before .before .before .before .before .before .before .before .before .before .before .before .before .before .before .before .before .before .put .ensures .ends, c .before .before .before .before .before .before .before .before .before .before .before .before .before .before .before .before .before .before .state-word .ensures .1, c .before .before .before .before .before .before .before .before .before .before .before .before .put2 .ensures .ends, c .before .before .before .before .before .before .before .put3 .ensures .ends, c .before .before .number .ensures .1),
+    ))
     (λ c. search needs)
     (λ c.
     let start = c .before .before .before .before .before .before .before .before .before .before .before .before in
