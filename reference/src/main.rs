@@ -1,13 +1,8 @@
 //! The commands: list, compare, make, vectors and bench.
 
-mod cases;
-mod compare;
-mod listing;
-mod model;
-mod shrink;
-
-use cases::{case_seed, make_case, Case, Wishes};
-use listing::listing;
+use reference::cases::{case_seed, make_case, Case, Wishes};
+use reference::compare;
+use reference::listing::{self, listing};
 use std::io::{self, Write};
 use std::path::{Path, PathBuf};
 use std::process::ExitCode;

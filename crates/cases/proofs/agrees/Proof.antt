@@ -1,0 +1,54 @@
+-- `cases::agrees` meets its contract: the library stores the whole listing at the start of a buffer that has room for it.
+use Prim.Native.Nat.{ℕ, _≤_}
+use mathlib.Core.Path.{_≡_, _∙_, sym, ap}
+use mathlib.Core.Bool.{Bool}
+use mathlib.Core.List.{List}
+use lib.ListN.{length, take}
+use lib.Seq.{sets, sets-eq, take-append-seam}
+use native.Mathlib.Nat.{zero-add}
+use native.Mathlib.Omega.{arith}
+use borrow.Author.Needs.{needs}
+use Rattle.protocol.specs.Listing.{listing}
+use Rattle.cases.specs.Tests.{Decides, Held}
+use Rattle.cases.proofs.agrees.Statement.{statement}
+use Rattle.cases.proofs.agrees.Tie as tie
+
+stored : (whole before : List ℕ) → length whole ≤ length before → take (length whole) (sets before 0 whole) ≡ whole
+stored whole before h = rw (sets-eq whole before 0 (omega arith)) (take-append-seam whole _)
+
+decided : (r : Bool) (whole text before after : List ℕ) (end : ℕ) → end ≡ length whole → after ≡ sets before 0 whole → end ≤ length before
+    → Decides r (Held after end text) → Decides r (text ≡ whole)
+decided r whole text before after end l s room d =
+    let all : take end after ≡ whole = rw (l, s) (stored whole before (omega arith)) in
+    record {
+      sound = λ t. sym (d .sound t .start) ∙ all;
+      complete = λ e. d .complete (record { ends = rw e l; start = all ∙ sym e });
+    }
+
+slice-aggregate-write-listing : tie.Need-slice-aggregate-write-listing
+slice-aggregate-write-listing c = search needs
+
+write-listing-requires : tie.Need-write-listing-requires
+write-listing-requires c κs = search needs
+
+slice-aggregate-holds : tie.Need-slice-aggregate-holds
+slice-aggregate-holds c = search needs
+
+holds-requires : tie.Need-holds-requires
+holds-requires c κs = search needs
+
+returns : tie.Need-returns
+returns c =
+    let wrote = c .before .before .before .write-listing .ensures in
+    let room = slice-aggregate-write-listing (c .before .before .before .before) in
+    decided _ _ _ _ _ _ (wrote .0) (wrote .1 .0) (omega (arith, wrote .1 .1, room)) (c .holds .ensures)
+
+pub agrees-spec : {M : Type 1} → statement M
+agrees-spec =
+    tie.close
+    (tie.spec
+    slice-aggregate-write-listing
+    write-listing-requires
+    slice-aggregate-holds
+    holds-requires
+    returns)
