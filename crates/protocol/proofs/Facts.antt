@@ -160,18 +160,19 @@ pub data Differ : Bool → List Payload → List Payload → Type 0 where
 pub record Stream (waiting hurt : Bool) (put took : Check) (w : Wire) (l : List Packet) : Type 0 where
   pub equal : take (w .ver) (w .sent) ≡ take (w .ver) (w .taken)
   pub within : w .ver ≤ length (w .taken)
+  pub withinSent : w .ver ≤ length (w .sent)
   pub differ : Differ hurt (drop (w .ver) (w .sent)) (drop (w .ver) (w .taken) ++ amountsIn l)
   pub reads : took ≡ checkOf (drop (w .ver) (w .taken))
   pub writes : put ≡ cond waiting startCheck (checkOf (drop (w .ver) (w .sent)))
   pub carries : (v : Check) (k : List Packet) → l ≡ k ++ (Checkp v ∷ []) → v ≡ checkOf (drop (w .ver) (w .sent))
 
 -- G1: the line out of an aware cabinet: its fault and its recover, or what is left of them
-pub record Alarms (o : Own) (q : Place) (l : List Packet) : Type 0 where
+pub record Alarms (x : Version) (q : Place) (l : List Packet) : Type 0 where
   pub faults : Bool
   pub recovers : Bool
   pub value : Bool
   pub is : l ≡ cond faults (Fault q ∷ []) [] ++ cond recovers (Recover value ∷ []) []
-  pub knows : recovers ≡ true → o .version ≡ Known value
+  pub knows : recovers ≡ true → x ≡ Known value
 
 -- ---- facts about an ordered pair, from c to d
 
@@ -180,6 +181,8 @@ pub record Pair (b : Big) (c d : ℕ) (o : Own) (m : Mind) (p : Own) (n : Mind) 
   pub table : unaware b o ≡ true → (s .cab ≡ n .tab) × (s .link ≡ w .lk)
   pub struck : aware b o ≡ true → (q : Place) → o .alarm ≡ At q
       → (s .cab ≡ (n .tab && not (hitsCabinet q d))) × (s .link ≡ (w .lk && not (hitsLink q c d)))
+  -- whoever is not aware of a fault has no failed neighbour in use
+  pub meets : unaware b o ≡ true → used s ≡ true → works (p .state) ≡ true
   -- D2
   pub closedJoined : linked m n w ≡ true → closed b p n t ≡ true → m .joined ≡ true
   pub closedEqual : linked m n w ≡ true → closed b p n t ≡ true → b .alive ≡ true → w .sent ≡ w .taken
@@ -193,7 +196,7 @@ pub record Pair (b : Big) (c d : ℕ) (o : Own) (m : Mind) (p : Own) (n : Mind) 
   -- G0
   pub silent : (works (o .state) && (works (p .state) && used s)) ≡ false → l ≡ []
   -- G1
-  pub alarms : aware b o ≡ true → (q : Place) → o .alarm ≡ At q → Alarms o q l
+  pub alarms : aware b o ≡ true → (q : Place) → o .alarm ≡ At q → Alarms (o .version) q l
   pub unheard : aware b o ≡ true → (used s && used t) ≡ true → works (p .state) ≡ true → (aware b p && t .heard) ≡ false
       → (q : Place) → o .alarm ≡ At q → (k : List Packet) × (l ≡ Fault q ∷ k)
   pub heard : (aware b p && t .heard) ≡ true → count isFault l ≡ 0

@@ -15,3 +15,6 @@ pub mod ViewMoves
 pub mod Runs
 pub mod Facts
 pub mod Logs
+pub mod Frame
+pub mod PairSend
+pub mod PairTake
