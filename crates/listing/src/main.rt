@@ -16,11 +16,11 @@ fn read_start(path: &[u8], buf: &mut [u8]) -> usize
     n
 }
 
-// No accepted group file has more than 10 + 4 * 8 + 2 * 65,535 = 131,112 octets, since its header
-// counts at most 8 cabinets and 65,535 links. A longer file is refused with 2 or 3, and its first
-// 131,113 octets are refused with the same. Of steps.dat the first 10,000 records count.
+// The length in a group file's header is a two-octet number, so a file of more than 65,535 octets is
+// refused, and its first 65,536 octets are refused with the same number. Of steps.dat the first
+// 10,000 records count. That this much is enough is proved in `report`, proofs/Prefix.antt.
 fn main() {
-    let mut file = [0u8; 131113];
+    let mut file = [0u8; 65536];
     let file_length = read_start(b"group.dat", &mut file);
     let mut list = [0u8; 60000];
     let list_length = read_start(b"steps.dat", &mut list);

@@ -1,5 +1,7 @@
 -- The listing: the whole text that the program prints for a group file and a file of step records.
 use Prim.Native.Nat.{ℕ, zero, suc, _+_, _*_, _/_, _%_}
+use Prim.Native.Char.{code}
+use Prim.Native.String.{String, [] as nothing, _∷_ as _then_}
 use mathlib.Core.Bool.{Bool, true, false, cond}
 use mathlib.Core.List.{List, [], _∷_, _++_}
 use lib.ListN.{length, take, drop}
@@ -20,6 +22,11 @@ use Rattle.protocol.specs.Entry.{step}
 abbrev pub Text : Type 0
 Text = List ℕ
 
+-- a quoted text as that list
+abbrev pub ascii : String → Text
+ascii nothing = []
+ascii (_then_ c s) = code c ∷ ascii s
+
 -- ---- words
 
 abbrev space : ℕ
@@ -29,25 +36,25 @@ abbrev newline : ℕ
 newline = 10
 
 abbrev pub loadWord : Text
-loadWord = 108 ∷ 111 ∷ 97 ∷ 100 ∷ []
+loadWord = ascii "load"
 
 abbrev pub stepWord : Text
-stepWord = 115 ∷ 116 ∷ 101 ∷ 112 ∷ []
+stepWord = ascii "step"
 
 abbrev pub cabWord : Text
-cabWord = 99 ∷ 97 ∷ 98 ∷ []
+cabWord = ascii "cab"
 
 -- the names of the states in 004 III-D, and failed
 abbrev pub stateWord : State → Text
-stateWord Failed = 102 ∷ 97 ∷ 105 ∷ 108 ∷ 101 ∷ 100 ∷ []
-stateWord Normal = 110 ∷ 111 ∷ 114 ∷ 109 ∷ 97 ∷ 108 ∷ []
-stateWord CheckpBegin = 99 ∷ 104 ∷ 101 ∷ 99 ∷ 107 ∷ 112 ∷ 45 ∷ 98 ∷ 101 ∷ 103 ∷ 105 ∷ 110 ∷ []
-stateWord Checkpointing = 99 ∷ 104 ∷ 101 ∷ 99 ∷ 107 ∷ 112 ∷ 111 ∷ 105 ∷ 110 ∷ 116 ∷ 105 ∷ 110 ∷ 103 ∷ []
-stateWord Checkpointed = 99 ∷ 104 ∷ 101 ∷ 99 ∷ 107 ∷ 112 ∷ 111 ∷ 105 ∷ 110 ∷ 116 ∷ 101 ∷ 100 ∷ []
-stateWord Error = 101 ∷ 114 ∷ 114 ∷ 111 ∷ 114 ∷ []
-stateWord Recovering = 114 ∷ 101 ∷ 99 ∷ 111 ∷ 118 ∷ 101 ∷ 114 ∷ 105 ∷ 110 ∷ 103 ∷ []
-stateWord Recovered = 114 ∷ 101 ∷ 99 ∷ 111 ∷ 118 ∷ 101 ∷ 114 ∷ 101 ∷ 100 ∷ []
-stateWord Crashed = 99 ∷ 114 ∷ 97 ∷ 115 ∷ 104 ∷ 101 ∷ 100 ∷ []
+stateWord Failed = ascii "failed"
+stateWord Normal = ascii "normal"
+stateWord CheckpBegin = ascii "checkp-begin"
+stateWord Checkpointing = ascii "checkpointing"
+stateWord Checkpointed = ascii "checkpointed"
+stateWord Error = ascii "error"
+stateWord Recovering = ascii "recovering"
+stateWord Recovered = ascii "recovered"
+stateWord Crashed = ascii "crashed"
 
 -- "version u for unknown"
 abbrev pub versionWord : Version → Text

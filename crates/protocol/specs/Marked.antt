@@ -1,20 +1,13 @@
 -- Document 01, "Marked": the cases that are proved together, as one table of what is found and what the paper says.
 -- Texts are quoted here as they are printed, and not made from the words of the listing's definition.
 use Prim.Native.Nat.{ℕ, zero, suc, _+_, _*_, _/_, _%_}
-use Prim.Native.Char.{code}
-use Prim.Native.String.{String, [] as nothing, _∷_ as _then_}
 use mathlib.Core.List.{List, [], _∷_, _++_}
 use lib.ListN.{length, replicate}
 use Rattle.crc.specs.Crc.{crc}
 use Rattle.group.specs.declared.Group.{Group}
 use Rattle.load.specs.Load.{load}
 use Rattle.protocol.specs.Entry.{step}
-use Rattle.protocol.specs.Listing.{Text, listing}
-
--- a quoted text as the list of its ASCII octets
-abbrev pub ascii : String → Text
-ascii nothing = []
-ascii (_then_ c s) = code c ∷ ascii s
+use Rattle.protocol.specs.Listing.{Text, ascii, listing}
 
 -- ---- group files
 

@@ -1,6 +1,6 @@
 -- The end of a cabinet's line, by whether the cabinet works.
 use Prim.Native.Nat.{ℕ}
-use mathlib.Core.Path.{_≡_, refl, sym, ap, _∙_}
+use mathlib.Core.Path.{_≡_, refl}
 use mathlib.Core.Bool.{Bool, true, false, cond}
 use mathlib.Core.List.{List, _∷_, _++_}
 use Rattle.cabinet.specs.declared.State.{State}

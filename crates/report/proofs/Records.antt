@@ -16,14 +16,16 @@ use Rattle.report.proofs.Texts.{then, nothing}
 
 -- ---- the records, one after the other: past the first j of them comes octet 6 * j
 
+pub some-record : (n : ℕ) (l : List ℕ) → 0 < length l → records (suc n) l ≡ take 6 l ∷ records n (drop 6 l)
+unfolding records
+some-record n l h = rw (ne-eqb (length l) 0 (λ z. omega arith))
+
 next-record : (j : ℕ) (l : List ℕ) → j < 10000 → j * 6 < length l
     → records (10000 - j) (drop (j * 6) l) ≡ take 6 (drop (j * 6) l) ∷ records (10000 - suc j) (drop (suc j * 6) l)
-unfolding records
 next-record j l h m =
     let e : 10000 - j ≡ suc (10000 - suc j) = omega arith in
     let n : suc j * 6 ≡ j * 6 + 6 = omega arith in
-    let some : length (drop (j * 6) l) ≡ 0 → ⊥ = λ z. omega (arith, length-drop (j * 6) l) in
-    rw (e, n, ne-eqb (length (drop (j * 6) l)) 0 some, drop-drop 6 (j * 6) l)
+    rw (e, n, some-record (10000 - suc j) (drop (j * 6) l) (omega (arith, length-drop (j * 6) l)), drop-drop 6 (j * 6) l)
 
 -- its octets, as the code takes them: up to six, or up to the end
 part : (from to : ℕ) (l : List ℕ) → from < length l → to ≡ min (from + 6) (length l) → take (to - from) (drop from l) ≡ take 6 (drop from l)

@@ -8,7 +8,7 @@ use lib.Seq.{sets}
 use borrow.Author.Tests.{eq-eqb, ne-eqb}
 use Rattle.group.specs.declared.Outcome.{Outcome}
 use Rattle.load.specs.Load.{load}
-use Rattle.protocol.specs.Listing.{Text, loadLine, records, runFrom, listing}
+use Rattle.protocol.specs.Listing.{loadLine, records, runFrom, listing}
 use Rattle.report.specs.Written.{Written}
 
 module _ (file list : List ℕ) {o : Outcome} (e : o ≡ load file) where

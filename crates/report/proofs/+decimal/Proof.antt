@@ -2,10 +2,8 @@
 use borrow.Author.Needs.{needs}
 use borrow.Fn.Kinds.{In}
 use borrow.Fn.PlainCycle.{Measures, is, falls, and}
-use Prim.Native.Nat.{ℕ, _+_, _/_, _≤_, _<_}
-use mathlib.Core.Path.{_≡_}
+use Prim.Native.Nat.{ℕ, _/_, _<_}
 use native.Mathlib.Omega.{arith}
-use lib.ListN.{length}
 use Rattle.report.proofs.Digits.{at-most, one, more}
 use Rattle.report.proofs.decimal.Reads as decimal
 use Rattle.report.proofs.decimal.Kinds as decimal-kinds
@@ -38,13 +36,17 @@ pub +decimal-spec : {M : Type 1} → statement M
     (λ c κs. search needs)
     (λ c κs. search needs)
     (λ c. search needs)
-    (λ c. λ f l. one (c .before .before .before .before .before .if1 .taken) (c .before .before .before .digit .ensures) (c .before .before .put .ensures) f)
+    (λ c.
+    let last = c .before .before in
+    λ f l. one (last .before .before .before .if1 .taken) (last .before .digit .ensures) (last .put .ensures) f)
     (λ c κs. search needs)
     (λ c κs. search needs)
     (λ c κs.
-    let w = c .before .before .before .before .decimal .ensures 4 (omega arith) in
-    omega (arith, w .ends, at-most 5 (c .before .before .before .before .before .before .before .before .args .n / 10)))
+    let tenth = c .before .before .before .before in
+    let w = tenth .decimal .ensures 4 (omega arith) in
+    omega (arith, w .ends, at-most 5 (tenth .before .before .before .before .args .n / 10)))
+    (λ c. let w = c .before .before .before .before .before .before .before .decimal .ensures 4 (omega arith) in search needs)
     (λ c.
-    let w = c .before .before .before .before .before .before .before .decimal .ensures 4 (omega arith) in search needs)
-    (λ c. more (c .before .before .before .before .before .before .before .before .before .if1 .left) (c .before .before .before .digit2 .ensures) (c .before .before .before .before .before .before .before .decimal .ensures)
-    (c .before .before .put2 .ensures))
+    let last = c .before .before in
+    let tenth = last .before .before .before .before .before in
+    more (tenth .before .before .if1 .left) (last .before .digit2 .ensures) (tenth .decimal .ensures) (last .put2 .ensures))

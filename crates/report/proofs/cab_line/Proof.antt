@@ -14,4 +14,8 @@ cab-line-spec = tie.close (tie.spec
     (λ c κs. search needs)
     (λ c. search needs)
     (λ c.
-    (then (then (then (c .before .before .before .before .before .before .before .before .before .before .before .before .before .before .word .ensures) (c .before .before .before .before .before .before .before .before .before .before .number .ensures .0)) (c .before .before .before .before .before .before .cab-rest .ensures .0)) (c .before .before .end-line .ensures), search needs)))
+    let end = c .before .before in
+    let rest = end .before .before .before .before in
+    let i = rest .before .before .before .before in
+    let head = i .before .before .before .before in
+    (then (then (then (head .word .ensures) (i .number .ensures .0)) (rest .cab-rest .ensures .0)) (end .end-line .ensures), search needs)))

@@ -19,14 +19,20 @@ cab-rest-spec = tie.close (tie.spec
     (λ c κs. search needs)
     (λ c. search needs)
     (λ c.
-    let start = c .before .before .before .before .before .before .before .before .before .before .before .before .before .before .before .before .before .before .before .before .before .before .before .before .before .before in
-    let v = rw (c .before .before .before .before .before .before .before .before .version-octet .ensures) at (c .before .before .before .before .before .before .before .put3 .ensures) in
-    let booking = rw (c .before .before .before .booked .ensures) at (c .before .before .number .ensures .0) in (
-      all-fields (start .args .c) (c .before .before .before .before .before .before .before .before .before .before .before .before .before .before .before .works .ensures) (c .before .before .before .before .before .before .before .before .before .before .before .before .before .before .if1 .taken)
-          (then (c .before .before .before .before .before .before .before .before .before .before .before .before .before .before .before .before .before .before .before .before .before .before .put .ensures) (then (then (c .before .before .before .before .before .before .before .before .before .before .before .before .before .before .before .before .before .before .state-word .ensures .0) (then (c .before .before .before .before .before .before .before .before .before .before .before .before .put2 .ensures) v)) booking)),
-      omega (arith, c .before .before .before .before .before .before .before .before .before .before .before .before .before .before .before .before .before .before .before .before .before .before .put .ensures .ends, c .before .before .before .before .before .before .before .before .before .before .before .before .before .before .before .before .before .before .state-word .ensures .1, c .before .before .before .before .before .before .before .before .before .before .before .before .put2 .ensures .ends, c .before .before .before .before .before .before .before .put3 .ensures .ends, c .before .before .number .ensures .1),
+    let booking = c .before .before in
+    let octet = booking .before .before .before .before .before in
+    let space = octet .before .before .before .before .before in
+    let test = space .before .before in
+    let state = test .before .before .before .before in
+    let start = state .before .before .before .before in
+    let whole = rw (booking .before .booked .ensures) at (booking .number .ensures .0) in
+    let version = rw (octet .before .version-octet .ensures) at (octet .put3 .ensures) in (
+      all-fields (start .before .before .before .before .args .c) (test .before .works .ensures) (test .if1 .taken)
+          (then (start .put .ensures) (then (then (state .state-word .ensures .0) (then (space .put2 .ensures) version)) whole)),
+      omega (arith, start .put .ensures .ends, state .state-word .ensures .1, space .put2 .ensures .ends, octet .put3 .ensures .ends, booking .number .ensures .1),
     ))
     (λ c. search needs)
     (λ c.
-    let start = c .before .before .before .before .before .before .before .before .before .before .before .before in
-    (state-only (start .args .c) (c .before .works .ensures) (c .if1 .left) (then (c .before .before .before .before .before .before .before .before .put .ensures) (c .before .before .before .before .state-word .ensures .0)), search needs)))
+    let state = c .before .before .before .before in
+    let start = state .before .before .before .before in
+    (state-only (start .before .before .before .before .args .c) (c .before .works .ensures) (c .if1 .left) (then (start .put .ensures) (state .state-word .ensures .0)), search needs)))

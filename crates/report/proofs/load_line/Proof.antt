@@ -11,4 +11,8 @@ load-line-spec = tie.close (tie.spec
     (λ c κs. search needs)
     (λ c κs. search needs)
     (λ c. search needs)
-    (λ c. (then (then (c .before .before .before .before .before .before .before .before .before .before .word .ensures) (c .before .before .before .before .before .before .number .ensures .0)) (c .before .before .end-line .ensures), search needs)))
+    (λ c.
+    let end = c .before .before in
+    let k = end .before .before .before .before in
+    let head = k .before .before .before .before in
+    (then (then (head .word .ensures) (k .number .ensures .0)) (end .end-line .ensures), search needs)))

@@ -12,5 +12,7 @@ number-spec = tie.close (tie.spec
     (λ c κs. search needs)
     (λ c. let w = c .before .before .decimal .ensures 4 (search needs) in search needs)
     (λ c.
-    let w = c .before .before .decimal .ensures 4 (search needs) in
-    (then (c .before .before .before .before .before .before .put .ensures) w, omega (arith, w .ends, at-most 5 (c .before .before .before .before .before .before .before .before .before .args .n)))))
+    let digits = c .before .before in
+    let space = digits .before .before .before .before in
+    let w = digits .decimal .ensures 4 (search needs) in
+    (then (space .put .ensures) w, omega (arith, w .ends, at-most 5 (space .before .before .before .args .n)))))

@@ -31,10 +31,19 @@ run-spec = tie.close (tie.spec Inv-loop μ-loop
     (λ c. search needs)
     (λ c. search needs)
     (λ c.
-    let l = c .before .before .before .before .before .before .before .before .before .loop in
-    (omega arith, (omega (arith, c .before .before .before .step-line .ensures .1), turn (l .inv .1 .1) (omega arith) (omega arith) (c .before .before .before .before .before .before .before .least2 .ensures) (c .before .before .before .before .before .step .ensures) (c .before .before .before .step-line .ensures .0))))
+    let line = c .before .before .before in
+    let step = line .before .before in
+    let to = step .before .before in
+    let l = to .before .before .loop in (
+      omega arith,
+      (
+        omega (arith, line .step-line .ensures .1),
+        turn (l .inv .1 .1) (omega arith) (omega arith) (to .least2 .ensures) (step .step .ensures) (line .step-line .ensures .0),
+      ),
+    ))
     (λ c κs. search needs)
     (λ c. search needs)
     (λ c.
-    let l = c .before .before .before .before .before .loop in
-    (ended (l .inv .1 .1) (omega arith) (c .before .before .cab-lines .ensures .0), omega (arith, c .before .before .cab-lines .ensures .1))))
+    let cabs = c .before .before in
+    let l = cabs .before .before .before .loop in
+    (ended (l .inv .1 .1) (omega arith) (cabs .cab-lines .ensures .0), omega (arith, cabs .cab-lines .ensures .1))))

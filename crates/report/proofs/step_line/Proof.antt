@@ -13,4 +13,8 @@ step-line-spec = tie.close (tie.spec
     (λ c κs. search needs)
     (λ c. search needs)
     (λ c.
-    (then (then (then (c .before .before .before .before .before .before .before .before .before .before .before .before .before .before .word .ensures) (c .before .before .before .before .before .before .before .before .before .before .number .ensures .0)) (c .before .before .before .before .before .before .number2 .ensures .0)) (c .before .before .end-line .ensures), search needs)))
+    let end = c .before .before in
+    let answer = end .before .before .before .before in
+    let k = answer .before .before .before .before in
+    let head = k .before .before .before .before in
+    (then (then (then (head .word .ensures) (k .number .ensures .0)) (answer .number2 .ensures .0)) (end .end-line .ensures), search needs)))

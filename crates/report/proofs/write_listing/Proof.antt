@@ -13,8 +13,10 @@ write-listing-spec = tie.close (tie.spec
     (λ c. search needs)
     (λ c.
     let w = c .before .before .run .ensures in
-    exactly (accepted _ _ (c .before .before .before .before .before .before .load .ensures) (c .before .before .before .before .if1 .taken)) (w .0) (w .1))
+    let test = c .before .before .before .before in
+    exactly (accepted _ _ (test .before .before .load .ensures) (test .if1 .taken)) (w .0) (w .1))
     (λ c. search needs)
     (λ c.
     let w = c .before .before .load-line .ensures in
-    exactly (refused _ _ (c .before .before .before .before .before .before .load .ensures) (c .before .before .before .before .if1 .left)) (w .0) (omega (arith, w .1))))
+    let test = c .before .before .before .before in
+    exactly (refused _ _ (test .before .before .load .ensures) (test .if1 .left)) (w .0) (omega (arith, w .1))))
