@@ -58,11 +58,12 @@ fn send_refusal(g: Group, a: u8, b: u8, q: u16) -> u8
 {
     let c = g.cabinet(a);
     let image = c.image;
+    let linked = cabinet::marked(c.in_use(), b);
+    let normal = cabinet::is_in(g.state_of(a), State::Normal);
     let room = need(g.line(a, b).normals() < 8, 17, 0);
     let covered = need(q <= image.booked(), 16, room);
     let some = need(0 < q, 15, covered);
-    let normal = need(cabinet::is_in(g.state_of(a), State::Normal), 14, some);
-    need(cabinet::marked(c.in_use(), b), 13, normal)
+    need(linked, 13, need(normal, 14, some))
 }
 
 fn sent(g: Group, a: u8, b: u8, q: u16) -> Group
@@ -403,7 +404,9 @@ fn wait_over_refusal(g: Group, a: u8) -> u8
     let phase = c.phase;
     let alarm = phase.alarm;
     let waits = cabinet::is_in(g.state_of(a), State::Error);
-    let all = need(marks::covers(g.unsure(), g.working()), 19, 0);
+    let unsure = g.unsure();
+    let working = g.working();
+    let all = need(marks::covers(unsure, working), 19, 0);
     need(and(waits, lost_coordinator(alarm, c)), 14, all)
 }
 
