@@ -1,5 +1,5 @@
 // The steps of a group, and what a step record decodes to.
-// The protocol itself is in specs/: this crate's functions and theorems are about those definitions.
+// The protocol itself is in specs/, and the theorems about it are in proofs/.
 
 // A step with the fields that its kind uses. Cabinets are numbered from 1, as in the record.
 pub enum Step {
@@ -20,8 +20,4 @@ pub enum Decoded {
     Malformed,
     Unused,
     Taken(Step),
-}
-
-pub fn nothing() -> u8 {
-    0
 }
