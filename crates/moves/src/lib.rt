@@ -57,7 +57,8 @@ pub fn cut_if_all(g: Group, i: u8) -> Group
 fn take_checkp(g: Group, a: u8, b: u8) -> Group
     ensures { λ r. ⌜ r ≡ takeCheckp g a b ⌝ }
 {
-    cut_if_all(g.with_cabinet(b, g.cabinet(b).comparing(a)), b)
+    let c = g.cabinet(b).comparing(a);
+    g.with_cabinet(b, c.cutting())
 }
 
 // Cabinet i enters normal with a version and puts resume on all lines in use.
@@ -227,10 +228,12 @@ fn receive_normal(before: Group, g: Group, a: u8, b: u8, p: Payload) -> Outcome
     ensures { λ r. ⌜ r ≡ receiveNormal before g a b p ⌝ }
 {
     let c = g.cabinet(b);
+    let phase = c.phase;
+    let s = phase.state;
     if takes_from(c, a) {
         group::taken(g.with_cabinet(b, c.taking(a, p)))
     } else {
-        if serving(g.state_of(b)) {
+        if serving(s) {
             find_link_fault(before, g, a, b)
         } else {
             group::taken(g)
@@ -247,10 +250,12 @@ fn join_if(asked: bool, g: Group, b: u8) -> Group
 fn receive_checkp(before: Group, g: Group, a: u8, b: u8, v: Check) -> Outcome
     ensures { λ r. ⌜ r ≡ receiveCheckp before g a b v ⌝ }
 {
-    let s = g.state_of(b);
+    let c = g.cabinet(b);
+    let phase = c.phase;
+    let s = phase.state;
     let normal = cabinet::is_in(s, State::Normal);
     if or(normal, cabinet::is_in(s, State::CheckpBegin)) {
-        let registers = g.cabinet(b).registers;
+        let registers = c.registers;
         let taken = registers.taken;
         if v.same(cabinet::check_at(taken, a)) {
             group::taken(take_checkp(join_if(normal, g, b), a, b))
@@ -279,10 +284,13 @@ fn resumes_from(c: Cabinet, a: u8, b: u8) -> bool
 fn receive_resume(g: Group, a: u8, b: u8) -> Outcome
     ensures { λ r. ⌜ r ≡ receiveResume g a b ⌝ }
 {
-    if cabinet::is_in(g.state_of(b), State::Checkpointed) {
+    let c = g.cabinet(b);
+    let phase = c.phase;
+    let s = phase.state;
+    if cabinet::is_in(s, State::Checkpointed) {
         group::taken(adopt(g, a, b))
     } else {
-        if resumes_from(g.cabinet(b), a, b) {
+        if resumes_from(c, a, b) {
             group::taken(end_recovery(g, b))
         } else {
             group::taken(g)
@@ -293,8 +301,11 @@ fn receive_resume(g: Group, a: u8, b: u8) -> Outcome
 fn receive_recover(g: Group, a: u8, b: u8, v: bool) -> Outcome
     ensures { λ r. ⌜ r ≡ receiveRecover g a b v ⌝ }
 {
-    let waits = cabinet::is_in(g.state_of(b), State::Error);
-    let noted = g.cabinet(b).noted;
+    let c = g.cabinet(b);
+    let phase = c.phase;
+    let s = phase.state;
+    let noted = c.noted;
+    let waits = cabinet::is_in(s, State::Error);
     let heard = noted.heard;
     if and(waits, cabinet::marked(heard, a)) {
         group::taken(recover_with(g, b, v))

@@ -5,6 +5,8 @@ use cabinet::Cabinet;
 use cabinet::State;
 use group::Group;
 use group::Outcome;
+use group::Outgoing;
+use line::Line;
 use line::Packet;
 use line::Payload;
 use line::Place;
@@ -13,12 +15,20 @@ use protocol::Step;
 ghost use mathlib.Core.Path.{_≡_};
 ghost use mathlib.Core.Bool.{cond, not, _&&_, _||_};
 ghost use Prim.Native.Nat.{_+_, _-_, _*_, _%_};
+ghost use lib.Dec.{ltb, leb};
+ghost use Rattle.marks.specs.Marks.{marked};
 ghost use Rattle.marks.specs.Reach.{mark};
-ghost use Rattle.cabinet.specs.State.{works, bitOf};
-ghost use Rattle.group.specs.Group.{stateOf};
+ghost use Rattle.line.specs.Packet.{isEmpty};
+ghost use Rattle.line.specs.Line.{oldest, normals};
+ghost use Rattle.cabinet.specs.declared.State.the-variants.{Normal, Checkpointing};
+ghost use Rattle.cabinet.specs.State.{works, isIn, inRecovery, bitOf};
+ghost use Rattle.cabinet.specs.Cabinet.{inUse, booked};
+ghost use Rattle.group.specs.declared.Group.{Group};
+ghost use Rattle.group.specs.Group.{cabinet, stateOf, outgoing, taken};
 ghost use Rattle.protocol.specs.declared.Decoded.the-variants.{Unused};
-ghost use Rattle.protocol.specs.Kinds.{need, sendRefusal, sent, sendStep, noteRefusal, noteStep, beginRefusal, beginStep, deliverRefusal, delivered, deliverStep, writeRefusal, writePiece, oweIf, writeStep, savedRefusal, reportSaved, commitIfAll, savedStep, fetchRefusal, fetchPiece, fetchStep, mayReport, restoredRefusal, reportRestored, endIfAll, restoredStep, lostPlace, lostCoordinator, waitOverRefusal, waitOverStep, failCrashes, failStep, hurtAlready, damageRefusal, hurtIf, hurt, damageStep};
-ghost use Rattle.protocol.specs.Entry.{aloneOf, fieldsOf, decode, decodedNumber, firstOf, secondOf, actorWorks, isCabinet, entryRefusal, perform, step};
+ghost use Rattle.protocol.specs.Receive.{receive};
+ghost use Rattle.protocol.specs.Kinds.{need, sent, sendStep, noteStep, beginRefusal, beginStep, deliverStep, writePiece, oweIf, writeStep, savedRefusal, reportSaved, commitIfAll, savedStep, fetchRefusal, fetchPiece, fetchStep, mayReport, restoredRefusal, reportRestored, endIfAll, restoredStep, lostPlace, lostCoordinator, waitOverRefusal, waitOverStep, failCrashes, failStep, hurtAlready, damageRefusal, hurtIf, hurt, damageStep};
+ghost use Rattle.protocol.specs.Entry.{aloneOf, fieldsOf, decode, decodedNumber, firstOf, secondOf, actorWorks, entryRefusal, perform, step};
 
 // `and` and `or` are calls, so that they leave no branch in their callers' proofs.
 fn and(a: bool, b: bool) -> bool
@@ -53,34 +63,42 @@ fn is_linked(rows: [[bool; 8]; 8], a: u8, b: u8) -> bool
 
 // ---- 1 send
 
-fn send_refusal(g: Group, a: u8, b: u8, q: u16) -> u8
-    ensures { λ r. ⌜ r ≡ sendRefusal g a b q ⌝ }
+fn send_refusal(c: Cabinet, l: Line, b: u8, q: u16) -> u8
+    ensures { λ r. ⌜ r ≡ need (marked (inUse c) b) 13
+        (need (isIn (c .phase .state) Normal) 14
+        (need (ltb 0 q) 15
+        (need (leb q (booked (c .image))) 16
+        (need (ltb (normals l) 8) 17 0)))) ⌝ }
 {
-    let c = g.cabinet(a);
+    let phase = c.phase;
+    let state = phase.state;
     let image = c.image;
     let linked = cabinet::marked(c.in_use(), b);
-    let normal = cabinet::is_in(g.state_of(a), State::Normal);
-    let room = need(g.line(a, b).normals() < 8, 17, 0);
+    let normal = cabinet::is_in(state, State::Normal);
+    let room = need(l.normals() < 8, 17, 0);
     let covered = need(q <= image.booked(), 16, room);
     let some = need(0 < q, 15, covered);
     need(linked, 13, need(normal, 14, some))
 }
 
-fn sent(g: Group, a: u8, b: u8, q: u16) -> Group
-    ensures { λ r. ⌜ r ≡ sent g a b q ⌝ }
+// The sender is c, its lines are o.
+fn sent(g: Group, a: u8, b: u8, q: u16, c: Cabinet, o: Outgoing) -> Group
+    ensures { λ r. ⌜ (c ≡ cabinet g a → o ≡ outgoing g a → r ≡ sent g a b q) ⌝ }
 {
     let p = Payload { amount: q };
-    let l = g.line(a, b).put(Packet::Normal(p));
-    let c = g.cabinet(a).sending(b, p);
-    g.with_cabinet(a, c).with_line(a, b, l)
+    let l = o.line_to(b).put(Packet::Normal(p));
+    let h = g.with_cabinet(a, c.sending(b, p));
+    h.with_outgoing(a, o.with_line_to(b, l))
 }
 
 pub fn send_step(g: Group, a: u8, b: u8, q: u16) -> Outcome
     ensures { λ r. ⌜ r ≡ sendStep g a b q ⌝ }
 {
-    let k = send_refusal(g, a, b, q);
+    let c = g.cabinet(a);
+    let o = g.outgoing(a);
+    let k = send_refusal(c, o.line_to(b), b, q);
     if k == 0 {
-        group::taken(sent(g, a, b, q))
+        group::taken(sent(g, a, b, q, c, o))
     } else {
         group::answering(k, g)
     }
@@ -88,11 +106,11 @@ pub fn send_step(g: Group, a: u8, b: u8, q: u16) -> Outcome
 
 // ---- 2 note
 
-fn note_refusal(g: Group, a: u8, p: u8, q: u16) -> u8
-    ensures { λ r. ⌜ r ≡ noteRefusal g a p q ⌝ }
+fn note_refusal(s: State, p: u8, q: u16) -> u8
+    ensures { λ r. ⌜ r ≡ need (isIn s Normal) 14 (need (leb 2 p && (leb p 31 && leb q 255)) 15 0) ⌝ }
 {
     let fits = and(2 <= p, and(p <= 31, q <= 255));
-    let normal = cabinet::is_in(g.state_of(a), State::Normal);
+    let normal = cabinet::is_in(s, State::Normal);
     need(normal, 14, need(fits, 15, 0))
 }
 
@@ -105,9 +123,11 @@ fn low_octet(q: u16) -> u8
 pub fn note_step(g: Group, a: u8, p: u8, q: u16) -> Outcome
     ensures { λ r. ⌜ r ≡ noteStep g a p q ⌝ }
 {
-    let k = note_refusal(g, a, p, q);
+    let c = g.cabinet(a);
+    let phase = c.phase;
+    let state = phase.state;
+    let k = note_refusal(state, p, q);
     if k == 0 {
-        let c = g.cabinet(a);
         let image = c.image;
         let noted = image.with_octet(p, low_octet(q));
         group::taken(g.with_cabinet(a, c.with_image(noted)))
@@ -121,8 +141,11 @@ pub fn note_step(g: Group, a: u8, p: u8, q: u16) -> Outcome
 fn begin_refusal(g: Group, a: u8) -> u8
     ensures { λ r. ⌜ r ≡ beginRefusal g a ⌝ }
 {
-    let normal = cabinet::is_in(g.state_of(a), State::Normal);
-    need(and(normal, g.cabinet(a).coordinator() == a), 14, 0)
+    let c = g.cabinet(a);
+    let phase = c.phase;
+    let state = phase.state;
+    let normal = cabinet::is_in(state, State::Normal);
+    need(and(normal, c.coordinator() == a), 14, 0)
 }
 
 pub fn begin_step(g: Group, a: u8) -> Outcome
@@ -138,20 +161,17 @@ pub fn begin_step(g: Group, a: u8) -> Outcome
 
 // ---- 4 deliver
 
-fn deliver_refusal(g: Group, a: u8, b: u8) -> u8
-    ensures { λ r. ⌜ r ≡ deliverRefusal g a b ⌝ }
+fn deliver_refusal(linked: bool, l: Line) -> u8
+    ensures { λ r. ⌜ r ≡ need linked 13 (need (not (isEmpty (oldest l))) 18 0) ⌝ }
 {
-    let some = need(!line::is_empty(g.line(a, b).oldest()), 18, 0);
-    need(is_linked(g.link_rows(), a, b), 13, some)
+    let some = need(!line::is_empty(l.oldest()), 18, 0);
+    need(linked, 13, some)
 }
 
-// Over a link struck at b the packet is dropped.
-fn delivered(g: Group, a: u8, b: u8) -> Outcome
-    ensures { λ r. ⌜ r ≡ delivered g a b ⌝ }
+// The packet p is off the line in h. Over a link struck at b it is dropped.
+fn delivered(g: Group, h: Group, a: u8, b: u8, p: Packet) -> Outcome
+    ensures { λ r. ⌜ r ≡ cond (marked (inUse (cabinet g b)) a) (receive g h a b p) (taken h) ⌝ }
 {
-    let l = g.line(a, b);
-    let h = g.with_line(a, b, l.rest());
-    let p = l.oldest();
     if cabinet::marked(g.cabinet(b).in_use(), a) {
         moves::receive(g, h, a, b, p)
     } else {
@@ -162,9 +182,12 @@ fn delivered(g: Group, a: u8, b: u8) -> Outcome
 pub fn deliver_step(g: Group, a: u8, b: u8) -> Outcome
     ensures { λ r. ⌜ r ≡ deliverStep g a b ⌝ }
 {
-    let k = deliver_refusal(g, a, b);
+    let o = g.outgoing(a);
+    let l = o.line_to(b);
+    let k = deliver_refusal(is_linked(g.link_rows(), a, b), l);
     if k == 0 {
-        delivered(g, a, b)
+        let h = g.with_outgoing(a, o.with_line_to(b, l.rest()));
+        delivered(g, h, a, b, l.oldest())
     } else {
         group::answering(k, g)
     }
@@ -172,16 +195,11 @@ pub fn deliver_step(g: Group, a: u8, b: u8) -> Outcome
 
 // ---- 5 write
 
-fn write_refusal(g: Group, a: u8) -> u8
-    ensures { λ r. ⌜ r ≡ writeRefusal g a ⌝ }
+fn write_refusal(s: State, home: State) -> u8
+    ensures { λ r. ⌜ r ≡ need (isIn s Checkpointing) 14 (need (not (inRecovery home)) 19 0) ⌝ }
 {
-    let c = g.cabinet(a);
-    let ready = need(!cabinet::in_recovery(g.state_of(c.home)), 19, 0);
-    need(
-        cabinet::is_in(g.state_of(a), State::Checkpointing),
-        14,
-        ready,
-    )
+    let ready = need(!cabinet::in_recovery(home), 19, 0);
+    need(cabinet::is_in(s, State::Checkpointing), 14, ready)
 }
 
 // The slot that pieces go to: not that of the version.
@@ -193,10 +211,9 @@ fn other_slot(c: Cabinet) -> bool
     !cabinet::bit_of(version)
 }
 
-fn write_piece(g: Group, a: u8) -> Group
-    ensures { λ r. ⌜ r ≡ writePiece g a ⌝ }
+fn write_piece(g: Group, a: u8, c: Cabinet) -> Group
+    ensures { λ r. ⌜ (c ≡ cabinet g a → r ≡ writePiece g a) ⌝ }
 {
-    let c = g.cabinet(a);
     let image = c.image;
     let noted = c.noted;
     let other = other_slot(c);
@@ -217,12 +234,14 @@ fn owe_if(asked: bool, g: Group, h: u8, a: u8) -> Group
 pub fn write_step(g: Group, a: u8) -> Outcome
     ensures { λ r. ⌜ r ≡ writeStep g a ⌝ }
 {
-    let k = write_refusal(g, a);
+    let c = g.cabinet(a);
+    let phase = c.phase;
+    let state = phase.state;
+    let noted = c.noted;
+    let k = write_refusal(state, g.state_of(c.home));
     if k == 0 {
-        let c = g.cabinet(a);
-        let noted = c.noted;
         let more = noted.pieces < 3;
-        group::taken(owe_if(!more, write_piece(g, a), c.home, a))
+        group::taken(owe_if(!more, write_piece(g, a, c), c.home, a))
     } else {
         group::answering(k, g)
     }
@@ -630,44 +649,53 @@ fn before(a: u8) -> u8
     if 1 <= a { a - 1 } else { 0 }
 }
 
-// Cabinet a, by its number in a record, has not failed.
-fn works_at(g: Group, a: u8) -> bool
-    ensures { λ r. ⌜ r ≡ works (stateOf g (a - 1)) ⌝ }
+// Cabinet c, with number i, has not failed; past the eighth none works.
+fn works_at(i: u8, c: Cabinet) -> bool
+    ensures { λ r. ⌜ r ≡ ltb i 8 && works (c .phase .state) ⌝ }
 {
-    cabinet::works(g.state_of(before(a)))
+    let phase = c.phase;
+    let state = phase.state;
+    and(i < 8, cabinet::works(state))
 }
 
-// Check 12: the cabinet that acts has not failed. In deliver it is the receiver, and saved skips the check.
-fn actor_works(g: Group, s: Step) -> bool
-    ensures { λ r. ⌜ r ≡ actorWorks g s ⌝ }
+// Check 12, by whether the cabinets that the step names have not failed: the one that acts has not.
+// In deliver it is the receiver, and saved skips the check.
+fn actor_works(s: Step, first: bool, second: bool) -> bool
+    ensures { λ r. ⌜ ((g : Group) → first ≡ works (stateOf g (firstOf s - 1))
+        → second ≡ works (stateOf g (secondOf s - 1)) → r ≡ actorWorks g s) ⌝ }
 {
     match s {
-        Step::Send { a, b: _, q: _ } => works_at(g, a),
-        Step::Note { a, p: _, q: _ } => works_at(g, a),
-        Step::Begin { a } => works_at(g, a),
-        Step::Deliver { a: _, b } => works_at(g, b),
-        Step::Write { a } => works_at(g, a),
+        Step::Send { a: _, b: _, q: _ } => first,
+        Step::Note { a: _, p: _, q: _ } => first,
+        Step::Begin { a: _ } => first,
+        Step::Deliver { a: _, b: _ } => second,
+        Step::Write { a: _ } => first,
         Step::Saved { a: _ } => true,
-        Step::Fetch { a } => works_at(g, a),
-        Step::Restored { a } => works_at(g, a),
-        Step::WaitOver { a } => works_at(g, a),
-        Step::Fail { a } => works_at(g, a),
+        Step::Fetch { a: _ } => first,
+        Step::Restored { a: _ } => first,
+        Step::WaitOver { a: _ } => first,
+        Step::Fail { a: _ } => first,
     }
 }
 
-fn is_cabinet(g: Group, a: u8) -> bool
-    ensures { λ r. ⌜ r ≡ isCabinet g a ⌝ }
+fn is_cabinet(n: u8, a: u8) -> bool
+    ensures { λ r. ⌜ r ≡ leb 1 a && leb a n ⌝ }
 {
-    and(1 <= a, a <= g.n)
+    and(1 <= a, a <= n)
 }
 
-// Checks 10 to 12.
+// Checks 10 to 12. The two cabinets are read in place: a call would copy the group.
 fn entry_refusal(g: Group, s: Step) -> u8
     ensures { λ r. ⌜ r ≡ entryRefusal g s ⌝ }
 {
-    let first = is_cabinet(g, first_of(s));
-    let named = and(first, is_cabinet(g, second_of(s)));
-    let able = need(actor_works(g, s), 12, 0);
+    let a = first_of(s);
+    let b = second_of(s);
+    let i = before(a);
+    let j = before(b);
+    let c = g.cabinets[(i % 8) as usize];
+    let d = g.cabinets[(j % 8) as usize];
+    let able = need(actor_works(s, works_at(i, c), works_at(j, d)), 12, 0);
+    let named = and(is_cabinet(g.n, a), is_cabinet(g.n, b));
     need(!g.is_crashed(), 10, need(named, 11, able))
 }
 

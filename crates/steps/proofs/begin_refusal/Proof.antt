@@ -10,5 +10,4 @@ begin-refusal-spec = tie.close (tie.spec
     (λ c κs. search needs)
     (λ c κs. search needs)
     (λ c κs. search needs)
-    (λ c κs. search needs)
-    (λ c. rw (c .need .ensures, c .before .and .ensures, c .before .before .coordinator .ensures, c .before .before .before .cabinet .ensures, c .before .before .before .before .is-in .ensures, c .before .before .before .before .before .state-of .ensures)))
+    (λ c. rw (c .need .ensures, c .before .and .ensures, c .before .before .coordinator .ensures, c .before .before .before .is-in .ensures, c .before .before .before .before .before .cabinet .ensures)))

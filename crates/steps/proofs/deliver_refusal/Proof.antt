@@ -9,7 +9,4 @@ deliver-refusal-spec = tie.close (tie.spec
     (λ c κs. search needs)
     (λ c κs. search needs)
     (λ c κs. search needs)
-    (λ c κs. search needs)
-    (λ c κs. search needs)
-    (λ c κs. search needs)
-    (λ c. rw (c .need2 .ensures, c .before .is-linked .ensures, c .before .before .link-rows .ensures, c .before .before .before .need .ensures, c .before .before .before .before .is-empty .ensures, c .before .before .before .before .before .oldest .ensures, c .before .before .before .before .before .before .line .ensures)))
+    (λ c. rw (c .need2 .ensures, c .before .need .ensures, c .before .before .is-empty .ensures, c .before .before .before .oldest .ensures)))

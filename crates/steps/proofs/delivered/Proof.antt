@@ -1,23 +1,16 @@
 -- `delivered`, by whether the receiver has the link in use.
 use borrow.Author.Needs.{needs}
-use Rattle.protocol.specs.Kinds.{delivered}
 use Rattle.steps.proofs.delivered.Statement.{statement}
 use Rattle.steps.proofs.delivered.Tie as tie
 
 returns : tie.Need-returns
-unfolding delivered
-returns c = rw (c .receive .ensures, ← c .before .before .before .before .before .before .before .before .line .ensures, ← c .before .before .before .before .before .before .before .rest .ensures, ← c .before .before .before .before .before .before .with-line .ensures, ← c .before .before .before .before .before .oldest .ensures, ← c .before .before .before .before .cabinet .ensures, ← c .before .before .before .in-use .ensures, ← c .before .before .marked .ensures, c .before .if1 .taken)
+returns c = rw (c .receive .ensures, ← c .before .before .before .before .cabinet .ensures, ← c .before .before .before .in-use .ensures, ← c .before .before .marked .ensures, c .before .if1 .taken)
 
 returns-2 : tie.Need-returns-2
-unfolding delivered
-returns-2 c = rw (c .taken .ensures, ← c .before .before .before .before .before .before .before .before .line .ensures, ← c .before .before .before .before .before .before .before .rest .ensures, ← c .before .before .before .before .before .before .with-line .ensures, ← c .before .before .before .before .before .oldest .ensures, ← c .before .before .before .before .cabinet .ensures, ← c .before .before .before .in-use .ensures, ← c .before .before .marked .ensures, c .before .if1 .left)
+returns-2 c = rw (c .taken .ensures, ← c .before .before .before .before .cabinet .ensures, ← c .before .before .before .in-use .ensures, ← c .before .before .marked .ensures, c .before .if1 .left)
 
 pub delivered-spec : {M : Type 1} → statement M
 delivered-spec = tie.close (tie.spec
-    (λ c κs. search needs)
-    (λ c κs. search needs)
-    (λ c κs. search needs)
-    (λ c κs. search needs)
     (λ c κs. search needs)
     (λ c κs. search needs)
     (λ c κs. search needs)

@@ -10,5 +10,4 @@ note-refusal-spec = tie.close (tie.spec
     (λ c κs. search needs)
     (λ c κs. search needs)
     (λ c κs. search needs)
-    (λ c κs. search needs)
-    (λ c. rw (c .need2 .ensures, c .before .need .ensures, c .before .before .is-in .ensures, c .before .before .before .state-of .ensures, c .before .before .before .before .and2 .ensures, c .before .before .before .before .before .and .ensures)))
+    (λ c. rw (c .need2 .ensures, c .before .need .ensures, c .before .before .is-in .ensures, c .before .before .before .and2 .ensures, c .before .before .before .before .and .ensures)))

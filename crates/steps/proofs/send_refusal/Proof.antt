@@ -15,7 +15,4 @@ send-refusal-spec = tie.close (tie.spec
     (λ c κs. search needs)
     (λ c κs. search needs)
     (λ c κs. search needs)
-    (λ c κs. search needs)
-    (λ c κs. search needs)
-    (λ c κs. search needs)
-    (λ c. rw (c .need5 .ensures, c .before .need4 .ensures, c .before .before .need3 .ensures, c .before .before .before .need2 .ensures, c .before .before .before .before .booked .ensures, c .before .before .before .before .before .need .ensures, c .before .before .before .before .before .before .normals .ensures, c .before .before .before .before .before .before .before .line .ensures, c .before .before .before .before .before .before .before .before .is-in .ensures, c .before .before .before .before .before .before .before .before .before .state-of .ensures, c .before .before .before .before .before .before .before .before .before .before .marked .ensures, c .before .before .before .before .before .before .before .before .before .before .before .in-use .ensures, c .before .before .before .before .before .before .before .before .before .before .before .before .before .cabinet .ensures)))
+    (λ c. rw (c .need5 .ensures, c .before .need4 .ensures, c .before .before .need3 .ensures, c .before .before .before .need2 .ensures, c .before .before .before .before .booked .ensures, c .before .before .before .before .before .need .ensures, c .before .before .before .before .before .before .normals .ensures, c .before .before .before .before .before .before .before .is-in .ensures, c .before .before .before .before .before .before .before .before .marked .ensures, c .before .before .before .before .before .before .before .before .before .in-use .ensures)))

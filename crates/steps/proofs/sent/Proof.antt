@@ -1,12 +1,13 @@
--- `sent` changes the sender and then its line.
+-- `sent` changes the sender and then its lines.
 use borrow.Author.Needs.{needs}
+use Rattle.group.specs.Group.{withCabinet, outgoing, line, withLine}
 use Rattle.protocol.specs.Kinds.{sent}
 use Rattle.steps.proofs.sent.Statement.{statement}
 use Rattle.steps.proofs.sent.Tie as tie
 
 returns : tie.Need-returns
-unfolding sent
-returns c = rw (c .with-line .ensures, c .before .with-cabinet .ensures, c .before .before .sending .ensures, c .before .before .before .cabinet .ensures, c .before .before .before .before .put .ensures, c .before .before .before .before .before .line .ensures)
+unfolding sent withLine line outgoing withCabinet
+returns c = λ e f. rw (c .with-outgoing .ensures, c .before .with-line-to .ensures, c .before .before .with-cabinet .ensures, c .before .before .before .sending .ensures, c .before .before .before .before .put .ensures, c .before .before .before .before .before .line-to .ensures, e, f)
 
 pub sent-spec : {M : Type 1} → statement M
 sent-spec = tie.close (tie.spec

@@ -1,4 +1,4 @@
--- `works_at` asks the state of the cabinet with that number less one.
+-- `works_at` asks the state of a cabinet whose number is below 8.
 use borrow.Author.Needs.{needs}
 use Rattle.steps.proofs.works_at.Statement.{statement}
 use Rattle.steps.proofs.works_at.Tie as tie
@@ -7,5 +7,4 @@ pub works-at-spec : {M : Type 1} → statement M
 works-at-spec = tie.close (tie.spec
     (λ c κs. search needs)
     (λ c κs. search needs)
-    (λ c κs. search needs)
-    (λ c. rw (c .works .ensures, c .before .state-of .ensures, c .before .before .before2 .ensures)))
+    (λ c. rw (c .and .ensures, c .before .works .ensures)))
