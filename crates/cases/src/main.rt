@@ -203,5 +203,6 @@ fn container(name: &[u8], path: &[u8]) {
 
 fn main() {
     container(b"plain", b"plain.cases");
+    container(b"damage", b"damage.cases");
     container(b"made", b"made.cases");
 }

@@ -2,7 +2,7 @@
 use Prim.Native.Nat.{ℕ, _-_}
 use mathlib.Core.Path.{_≡_, refl}
 use mathlib.Core.Bool.{Bool, true, false, not, _||_}
-use mathlib.Core.List.{List, [], _∷_}
+use mathlib.Core.List.{List, _∷_}
 use mathlib.Core.Logic.{_↔_, _⊎_, inl, inr}
 use lib.ListN.{set}
 use Rattle.marks.specs.Marks.{marked}
@@ -13,14 +13,14 @@ use Rattle.group.specs.declared.Outcome.{Outcome}
 use Rattle.cabinet.specs.Cabinet.{inUse}
 use Rattle.group.specs.Group.{cabinet, line, some, working, recoveringOnes, taken, crashAll}
 use Rattle.protocol.specs.declared.Step.{Step}
-use Rattle.protocol.specs.declared.Step.the-variants.{Send, Note, Begin, Deliver, Write, Saved, Fetch, Restored, WaitOver, Fail}
+use Rattle.protocol.specs.declared.Step.the-variants.{Send, Note, Begin, Deliver, Write, Saved, Fetch, Restored, WaitOver, Fail, Damage}
 use Rattle.protocol.specs.declared.Decoded.{Decoded}
 use Rattle.protocol.specs.declared.Decoded.the-variants.{Malformed, Unused, Taken}
 use Rattle.protocol.specs.Kinds.{need, orRefuse, sendStep, noteStep, beginStep, deliverRefusal, delivered, deliverStep, writeStep, savedStep, fetchStep, restoredStep, waitOverStep, failCrashes, failStep, damageRefusal, damageStep}
 use Rattle.protocol.specs.Entry.{decode, actorWorks, entryRefusal, perform, stepDecoded, step}
 use Rattle.protocol.specs.Answers.{among, workNumbers, kindNumbers, refusalNumbers, kindRefusal}
 use Rattle.protocol.specs.Crash.{SomeRecovers, Unreached, soundLinks, LineInUse, Cause, Crashes}
-use Rattle.protocol.specs.Crash.Cause.{store-fails, fails-in-recovery, places-meet, fail-parts, link-parts}
+use Rattle.protocol.specs.Crash.Cause.{store-fails, fails-in-recovery, damage-in-recovery, places-meet, fail-parts, link-parts}
 use Rattle.protocol.specs.Crash.Crashes.{crashes}
 use Rattle.protocol.proofs.Tests.{Reflects, itself, or-reflects, some-recovers, not-reached}
 use Rattle.protocol.proofs.Answer.{Listed, checks, Answer, recast, refusing, guarded, only-if, crash-if, keeps, listed, crashes-all, exactly}
@@ -42,6 +42,7 @@ kind-listed g (Fetch a) = search (checks, nothing)
 kind-listed g (Restored a) = search (checks, nothing)
 kind-listed g (WaitOver a) = search (checks, nothing)
 kind-listed g (Fail a) = nothing
+kind-listed g (Damage a b p q) = search (checks, nothing)
 
 -- what a step that passed checks 8 to 12 answers
 abbrev Answers : Group → Step → Outcome → Type 0
@@ -86,6 +87,17 @@ fail-answers : (g : Group) (a : ℕ) → Answers g (Fail a) (failStep g (a - 1))
 unfolding failStep
 fail-answers g a = recast (λ c. (refl, c), λ p. p .1) (crash-if (failCrashes g (a - 1)) _ (fail-causes g a))
 
+-- ---- damage
+
+damage-answers : (g : Group) (a b p q : ℕ) → Answers g (Damage a b p q) (damageStep g (a - 1) (b - 1) p q)
+unfolding damageStep
+damage-answers g a b p q =
+    guarded (damageRefusal g (a - 1) (b - 1) p q) (kind-listed g (Damage a b p q))
+    (recast (λ r. damage-in-recovery r, from) (crash-if (some (recoveringOnes g)) _ (some-recovers g)))
+  where
+    from : Cause g (Damage a b p q) → SomeRecovers g
+    from (damage-in-recovery r) = r
+
 -- ---- deliver
 
 deliver-answers : (g : Group) (a b : ℕ) → Answers g (Deliver a b) (deliverStep g (a - 1) (b - 1))
@@ -118,6 +130,7 @@ performs g (Fetch a) = harmless g (Fetch a) _ (λ c. elim c [ ])
 performs g (Restored a) = harmless g (Restored a) _ (λ c. elim c [ ])
 performs g (WaitOver a) = harmless g (WaitOver a) _ (λ c. elim c [ ])
 performs g (Fail a) = fail-answers g a
+performs g (Damage a b p q) = damage-answers g a b p q
 
 -- ---- checks 8 to 12
 
@@ -132,6 +145,7 @@ work-listed g (Fetch a) = search (checks, nothing)
 work-listed g (Restored a) = search (checks, nothing)
 work-listed g (WaitOver a) = search (checks, nothing)
 work-listed g (Fail a) = search (checks, nothing)
+work-listed g (Damage a b p q) = nothing
 
 entry-listed : (g : Group) (s : Step) → Listed (10 ∷ 11 ∷ workNumbers s) (entryRefusal g s)
 entry-listed g s = search (checks, work-listed)
@@ -161,6 +175,7 @@ not-fifty (Taken (Fetch a)) = refl
 not-fifty (Taken (Restored a)) = refl
 not-fifty (Taken (WaitOver a)) = refl
 not-fifty (Taken (Fail a)) = refl
+not-fifty (Taken (Damage a b p q)) = refl
 
 -- ---- the theorems
 
@@ -184,22 +199,3 @@ module _ (g : Group) (r : List ℕ) where
   -- "The group crashes when, and only when"
   pub crash-exactly : (step g r .answer ≡ 50) ↔ Crashes g (decode r)
   crash-exactly = exactly (not-fifty (decode r)) step-answers
-
--- ---- damage, which the entry does not dispatch yet
-
-module _ (g : Group) (a b p q : ℕ) where
-  damage-answers : Answer g (13 ∷ 18 ∷ 15 ∷ 20 ∷ []) ((damageRefusal g a b p q ≡ 0) × SomeRecovers g) (damageStep g a b p q)
-  unfolding damageStep
-  damage-answers =
-      let l : Listed (13 ∷ 18 ∷ 15 ∷ 20 ∷ []) (damageRefusal g a b p q) = search (checks, nothing) in
-      guarded (damageRefusal g a b p q) l (crash-if (some (recoveringOnes g)) _ (some-recovers g))
-
-  pub damage-keeps : (damageStep g a b p q .answer ≡ 0 → ⊥) → (damageStep g a b p q .answer ≡ 50 → ⊥) → damageStep g a b p q .group ≡ g
-  damage-keeps = keeps damage-answers
-
-  pub damage-stops : damageStep g a b p q .answer ≡ 50 → damageStep g a b p q .group ≡ crashAll g
-  damage-stops = crashes-all refl damage-answers
-
-  -- ".. or damage is done, while some working cabinet is in error, recovering or recovered"
-  pub damage-exactly : (damageStep g a b p q .answer ≡ 50) ↔ ((damageRefusal g a b p q ≡ 0) × SomeRecovers g)
-  damage-exactly = exactly refl damage-answers

@@ -35,7 +35,7 @@ use Rattle.group.specs.declared.Outcome.{Outcome}
 use Rattle.group.specs.Lines.{emptyLines, lineTo, withLineTo, putIf, putRowTo, putAll, checkps, putCheckps}
 use Rattle.group.specs.Group.{cabinet, withCabinet, stateOf, outgoing, withOutgoing, line, withLine, blankSlots, slot, withSlot, rowsOf, withSound, working, some, recoveringOnes, answering, taken, crashAll, crashed, withSlots}
 use Rattle.protocol.specs.declared.Step.{Step}
-use Rattle.protocol.specs.declared.Step.the-variants.{Send, Note, Begin, Deliver, Write, Saved, Fetch, Restored, WaitOver, Fail}
+use Rattle.protocol.specs.declared.Step.the-variants.{Send, Note, Begin, Deliver, Write, Saved, Fetch, Restored, WaitOver, Fail, Damage}
 use Rattle.protocol.specs.declared.Decoded.{Decoded}
 use Rattle.protocol.specs.declared.Decoded.the-variants.{Malformed, Unused, Taken}
 use Rattle.protocol.specs.Moves.{broadcast, join, cutIfAll, takeCheckp, resumeWith, commit, adopt, recoverWith, recoverIfKnown, raise, enterError, hear, findLinkFault, emptiedTo, markFailed, neighbours, enterErrorIf, alarmTo, endRecovery}
@@ -88,7 +88,7 @@ fifth t u v w x e =
     let e3 = passed v 14 (need w 16 (need x 17 0)) e2 .1 in
     passed x 16 0 (passed w 15 (need x 17 0) e3 .1) .0
 
--- ---- what a record of octets decodes to: the amount of a send has two octets
+-- ---- what a record of octets decodes to: the amount of a send and the pattern of damage have two octets
 
 abbrev pub Fits : Step → Type 0
 Fits (Send a b q) = q < 65536
@@ -101,6 +101,7 @@ Fits (Fetch a) = Unit {0}
 Fits (Restored a) = Unit {0}
 Fits (WaitOver a) = Unit {0}
 Fits (Fail a) = Unit {0}
+Fits (Damage a b p q) = q < 65536
 
 abbrev pub FitsIn : Decoded → Type 0
 FitsIn Malformed = Unit {0}
@@ -121,10 +122,11 @@ fields-fit kind a b p q l =
     cond-elim FitsIn (eqb kind 1) (λ _. cond-elim FitsIn (eqb p 0) (λ _. l) (λ _. tt))
     (λ _. cond-elim FitsIn (eqb kind 2) (λ _. cond-elim FitsIn (eqb b 0) (λ _. tt) (λ _. tt))
     (λ _. cond-elim FitsIn (eqb kind 4) (λ _. cond-elim FitsIn (eqb (p + q) 0) (λ _. tt) (λ _. tt))
+    (λ _. cond-elim FitsIn (eqb kind 11) (λ _. l)
     (λ _. cond-elim FitsIn (leb 1 kind && leb kind 10)
-    (λ _. cond-elim FitsIn (eqb (b + p + q) 0) (λ _. alone-fits kind a) (λ _. tt)) (λ _. tt))))
+    (λ _. cond-elim FitsIn (eqb (b + p + q) 0) (λ _. alone-fits kind a) (λ _. tt)) (λ _. tt)))))
 
-decode-fits : (r : List ℕ) → ((i : ℕ) → getD r i 0 < 256) → FitsIn (decode r)
+pub decode-fits : (r : List ℕ) → ((i : ℕ) → getD r i 0 < 256) → FitsIn (decode r)
 decode-fits r o =
     cond-elim FitsIn (eqb (length r) 6)
     (λ _. fields-fit (getD r 0 0) (getD r 1 0) (getD r 2 0) (getD r 3 0) (getD r 4 0 * 256 + getD r 5 0) (omega (arith, o 4, o 5))) (λ _. tt)
@@ -567,6 +569,7 @@ module _ (C : Cabinet → Type 0) (L : Line → Type 0) (I : Image → Type 0) (
   ok-perform g h (Restored a) f = ok-restored g h (a - 1)
   ok-perform g h (WaitOver a) f = ok-waitOver g h (a - 1)
   ok-perform g h (Fail a) f = ok-fail g h (a - 1)
+  ok-perform g h (Damage a b p q) f = ok-damage g h (a - 1) (b - 1) p q f
 
   pub ok-decoded : (g : Group) → Ok g → (d : Decoded) → FitsIn d → OkOf (stepDecoded g d)
   ok-decoded g h Malformed f = h

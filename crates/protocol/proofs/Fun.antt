@@ -2,12 +2,23 @@
 use Prim.Native.Nat.{ℕ, zero, suc, _+_, _<_, _≤_}
 use mathlib.Core.Path.{_≡_, refl, sym, ap, _∙_}
 use mathlib.Core.Logic.{_≢_}
-use mathlib.Core.Bool.{Bool, true, false, cond, not, _&&_, _||_, false≢true}
+use mathlib.Core.Bool.{Bool, true, false, cond, not, _&&_, _||_, false≢true, true≢false}
 use lib.Dec.{eqb}
 use borrow.Author.Tests.{eqb-true, eqb-false, eq-eqb, ne-eqb}
 use native.Mathlib.Omega.{arith}
 use native.Mathlib.Decide.{ℕ-discrete}
 use Rattle.protocol.specs.History.{upd}
+
+pub never : {t : Bool} → t ≡ true → t ≡ false → ⊥
+never e f = true≢false (sym e ∙ f)
+
+pub is-true : (t : Bool) → (t ≡ false → ⊥) → t ≡ true
+is-true true n = refl
+is-true false n = absurd (n refl)
+
+pub is-false : (t : Bool) → (t ≡ true → ⊥) → t ≡ false
+is-false true n = absurd (n refl)
+is-false false n = refl
 
 pub and-true : {s t : Bool} → (s && t) ≡ true → (s ≡ true) × (t ≡ true)
 and-true {s = true} {t} e = (refl, e)

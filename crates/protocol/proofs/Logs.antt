@@ -16,7 +16,7 @@ use Rattle.line.specs.declared.Packet.{Packet}
 use Rattle.line.specs.declared.Packet.the-variants.{Empty, Normal as NormalPacket, Checkp, Resume, Recover, Fault, Invalid}
 use Rattle.line.specs.Packet.{startCheck, stepCheck}
 use Rattle.protocol.proofs.Fun.{cond-elim}
-use Rattle.protocol.proofs.Facts.{amountOf, amountsIn, isFault, isCheckp, count, checkpLast, resumes, resumeFirst, checkOf, Differ, same, here, later}
+use Rattle.protocol.proofs.Facts.{amountOf, amountsIn, isFault, isCheckp, count, checkpLast, resumes, resumeFirst, checkOf, Amounts, Differ, same, here, later}
 
 -- ---- one packet more
 
@@ -77,11 +77,6 @@ unfolding checkOf amountsOctets crcFrom
 check-none = refl
 
 -- ---- what an equal comparison shows
-
--- every amount has two octets
-unfoldable pub Amounts : List Payload → Type 0
-Amounts [] = Unit {0}
-Amounts (p ∷ l) = (p .amount < 65536) × Amounts l
 
 abbrev amounts : List Payload → List ℕ
 amounts l = map (λ (x : Payload). x .amount) l

@@ -29,9 +29,10 @@ use Rattle.group.proofs.Lists.{getD-in}
 use Rattle.load.specs.Load.{load, loadWith, loadRefusal, groupOf, noGroup, cabinetCount, cabinetOf, cabinetsOf, startingCabinet, imageOf, slotsOf, storeOf, linked, linkRows, linkCount, rowsIn, lowerOf, higherOf}
 use Rattle.protocol.specs.Entry.{step}
 use Rattle.protocol.specs.History.{World, advance, run, opening}
+use Rattle.protocol.specs.Restored.{Octets, Records}
 use Rattle.protocol.proofs.Fun.{cond-elim}
 use Rattle.protocol.proofs.View.{content, packetOf}
-use Rattle.protocol.proofs.Every.{Framed, All, Octets, getD-set, getD-each, getD-repeated, every-step}
+use Rattle.protocol.proofs.Every.{Framed, All, getD-set, getD-each, getD-repeated, every-step}
 use Rattle.protocol.proofs.Shape.{Shaped, Lined, Pictured, shaped}
 use Rattle.protocol.proofs.Sim.{Fit}
 
@@ -133,16 +134,12 @@ module _ (f : List ℕ) (o : (i : ℕ) → getD f i 0 < 256) where
 
 -- ---- every run
 
-abbrev pub AllOctets : List (List ℕ) → Type 0
-AllOctets [] = Unit {0}
-AllOctets (r ∷ rs) = ((i : ℕ) → getD r i 0 < 256) × AllOctets rs
-
-run-fit : (rs : List (List ℕ)) (w : World) → AllOctets rs → Fit (w .group) → Fit (run w rs .group)
+run-fit : (rs : List (List ℕ)) (w : World) → Records rs → Fit (w .group) → Fit (run w rs .group)
 unfolding run advance
 run-fit [] w o h = h
 run-fit (r ∷ rs) w o h = run-fit rs _ (o .1) (every-step Shaped Lined Pictured shaped (w .group) r (o .0) h)
 
-pub every-run : (f : List ℕ) → ((i : ℕ) → getD f i 0 < 256) → (rs : List (List ℕ)) → AllOctets rs → Fit (run (opening (load f .group)) rs .group)
+pub every-run : (f : List ℕ) → Octets f → (rs : List (List ℕ)) → Records rs → Fit (run (opening (load f .group)) rs .group)
 every-run f of rs o = run-fit rs (opening (load f .group)) o (loaded-fit f of)
 
 -- ---- lines
@@ -162,7 +159,7 @@ packets-within [] = omega arith
 packets-within (c ∷ cs) = content-least (c .packet) (content cs) (length cs) (packets-within cs)
 
 -- "each direction is a line .. of at most 12 packets, at most 8 of them normal": in every run, whatever the records
-pub lines-bounded : (f : List ℕ) → ((i : ℕ) → getD f i 0 < 256) → (rs : List (List ℕ)) → AllOctets rs → (a b : ℕ)
+pub lines-bounded : (f : List ℕ) → Octets f → (rs : List (List ℕ)) → Records rs → (a b : ℕ)
     → (length (content (line (run (opening (load f .group)) rs .group) a b .cells)) ≤ 12) × (normals (line (run (opening (load f .group)) rs .group) a b) ≤ 8)
 lines-bounded f of rs o a b =
     let h = every-run f of rs o .lines a b in

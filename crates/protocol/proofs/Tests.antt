@@ -121,7 +121,7 @@ same-check v w = (λ e i. record { crc = eqb-true (v .crc) (w .crc) e i }, λ e.
 -- ---- some cabinet
 
 module _ (f : Cabinet → Bool) (g : Group) where
-  those-marked : (i : ℕ) → i < 8 → marked (those f g) i ≡ f (cabinet g i)
+  pub those-marked : (i : ℕ) → i < 8 → marked (those f g) i ≡ f (cabinet g i)
   those-marked zero h = refl
   those-marked (suc zero) h = refl
   those-marked (suc (suc zero)) h = refl

@@ -5,10 +5,10 @@ use mathlib.Core.List.{List, [], _∷_, _++_}
 use lib.Dec.{eqb}
 use Rattle.group.specs.declared.Group.{Group}
 use Rattle.protocol.specs.declared.Step.{Step}
-use Rattle.protocol.specs.declared.Step.the-variants.{Send, Note, Begin, Deliver, Write, Saved, Fetch, Restored, WaitOver, Fail}
+use Rattle.protocol.specs.declared.Step.the-variants.{Send, Note, Begin, Deliver, Write, Saved, Fetch, Restored, WaitOver, Fail, Damage}
 use Rattle.protocol.specs.declared.Decoded.{Decoded}
 use Rattle.protocol.specs.declared.Decoded.the-variants.{Malformed, Unused, Taken}
-use Rattle.protocol.specs.Kinds.{sendRefusal, noteRefusal, beginRefusal, deliverRefusal, writeRefusal, savedRefusal, fetchRefusal, restoredRefusal, waitOverRefusal}
+use Rattle.protocol.specs.Kinds.{sendRefusal, noteRefusal, beginRefusal, deliverRefusal, writeRefusal, savedRefusal, fetchRefusal, restoredRefusal, waitOverRefusal, damageRefusal}
 
 -- k stands in the list
 abbrev pub among : ℕ → List ℕ → Bool
@@ -27,6 +27,7 @@ workNumbers (Fetch a) = 12 ∷ []
 workNumbers (Restored a) = 12 ∷ []
 workNumbers (WaitOver a) = 12 ∷ []
 workNumbers (Fail a) = 12 ∷ []
+workNumbers (Damage a b p q) = []
 
 -- the numbers under each kind
 abbrev pub kindNumbers : Step → List ℕ
@@ -40,6 +41,7 @@ kindNumbers (Fetch a) = 14 ∷ 19 ∷ []
 kindNumbers (Restored a) = 14 ∷ 19 ∷ []
 kindNumbers (WaitOver a) = 14 ∷ 19 ∷ []
 kindNumbers (Fail a) = []
+kindNumbers (Damage a b p q) = 13 ∷ 18 ∷ 15 ∷ 20 ∷ []
 
 -- "Every step first": 8, 9, or 10 to 12 and then those of the kind
 abbrev pub refusalNumbers : Decoded → List ℕ
@@ -59,3 +61,4 @@ kindRefusal g (Fetch a) = fetchRefusal g (a - 1)
 kindRefusal g (Restored a) = restoredRefusal g (a - 1)
 kindRefusal g (WaitOver a) = waitOverRefusal g (a - 1)
 kindRefusal g (Fail a) = 0
+kindRefusal g (Damage a b p q) = damageRefusal g (a - 1) (b - 1) p q

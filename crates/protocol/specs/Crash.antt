@@ -23,7 +23,7 @@ use Rattle.group.specs.declared.Group.{Group}
 use Rattle.cabinet.specs.Cabinet.{inUse}
 use Rattle.group.specs.Group.{cabinet, stateOf, line, rowsOf, working}
 use Rattle.protocol.specs.declared.Step.{Step}
-use Rattle.protocol.specs.declared.Step.the-variants.{Deliver, Fail}
+use Rattle.protocol.specs.declared.Step.the-variants.{Deliver, Fail, Damage}
 use Rattle.protocol.specs.declared.Decoded.{Decoded}
 use Rattle.protocol.specs.declared.Decoded.the-variants.{Taken}
 use Rattle.protocol.specs.Entry.{entryRefusal}
@@ -84,12 +84,14 @@ LineInUse g a b = marked (inUse (cabinet g b)) a ≡ true
 
 -- ---- the sentence
 
--- "The group crashes when, and only when:" (damage is a case of its own, until the entry dispatches it)
+-- "The group crashes when, and only when:"
 pub data Cause (g : Group) : Step → Type 0 where
   -- "a store cabinet fails;"
   store-fails : {a : ℕ} → cabinet g (a - 1) .store ≡ true → Cause g (Fail a)
   -- "a cabinet fails, .., while some working cabinet is in error, recovering or recovered;"
   fails-in-recovery : {a : ℕ} → SomeRecovers g → Cause g (Fail a)
+  -- "or damage is done, while some working cabinet is in error, recovering or recovered;"
+  damage-in-recovery : {a b p q : ℕ} → SomeRecovers g → Cause g (Damage a b p q)
   -- "two fault places meet;"
   places-meet : {a b : ℕ} → LineInUse g (a - 1) (b - 1) → PlacesMeet (cabinet g (b - 1)) (oldest (line g (a - 1) (b - 1))) → Cause g (Deliver a b)
   -- "or at a fail (the failing one left out) .. some working cabinet is not reached"

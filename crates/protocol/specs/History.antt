@@ -1,5 +1,6 @@
 -- Document 01, "Which save" and "Words of demand 3": the history of a run, a fold over the file and the records with what the
--- rules make of them. It reads groups before and after a step and nothing that a program notes of its own.
+-- rules make of them. Of the groups before and after a step it reads states, tables, homes, images, the packet that is taken or damaged,
+-- and which checkps have come; no version, slot, register, report, piece or fault place. In a step cabinets count from 1, here from 0.
 use Prim.Native.Nat.{ℕ, zero, suc, _+_, _-_}
 use mathlib.Core.Bool.{Bool, true, false, cond, not, _&&_}
 use mathlib.Core.List.{List, [], _∷_, _++_}
@@ -10,17 +11,18 @@ use Rattle.marks.specs.Marks.{marked}
 use Rattle.line.specs.declared.Payload.{Payload}
 use Rattle.line.specs.declared.Packet.{Packet}
 use Rattle.line.specs.declared.Packet.the-variants.{Empty, Normal as NormalPacket, Checkp, Resume, Recover, Fault, Invalid}
-use Rattle.line.specs.Line.{oldest}
+use Rattle.line.specs.Packet.{isNormal}
+use Rattle.line.specs.Line.{oldest, packetAt}
 use Rattle.cabinet.specs.declared.State.{State}
 use Rattle.cabinet.specs.declared.State.the-variants.{Normal, Checkpointing, Checkpointed, Recovering, Recovered}
 use Rattle.cabinet.specs.declared.Image.{Image}
-use Rattle.cabinet.specs.State.{isIn, works}
+use Rattle.cabinet.specs.State.{isIn, works, inSaving}
 use Rattle.cabinet.specs.Cabinet.{inUse, coordinator}
 use Rattle.group.specs.declared.Group.{Group}
 use Rattle.group.specs.declared.Outcome.{Outcome}
 use Rattle.group.specs.Group.{cabinet, stateOf, line}
 use Rattle.protocol.specs.declared.Step.{Step}
-use Rattle.protocol.specs.declared.Step.the-variants.{Send, Note, Begin, Deliver, Write, Saved, Fetch, Restored, WaitOver, Fail}
+use Rattle.protocol.specs.declared.Step.the-variants.{Send, Note, Begin, Deliver, Write, Saved, Fetch, Restored, WaitOver, Fail, Damage}
 use Rattle.protocol.specs.declared.Decoded.{Decoded}
 use Rattle.protocol.specs.declared.Decoded.the-variants.{Malformed, Unused, Taken}
 use Rattle.protocol.specs.Receive.{takesFrom}
@@ -44,7 +46,8 @@ pub record Cut : Type 0 where
   pub sent : ℕ → List Payload
   pub taken : ℕ → List Payload
 
--- a committed save: its coordinator, the cuts, and whether a cabinet took its resume or was restored from it
+-- a committed save: its coordinator (8, no cabinet, for the start), the cuts, and whether a cabinet took its resume or was restored
+-- from it
 pub record Save : Type 0 where
   pub by : ℕ
   pub cut : ℕ → Option Cut
@@ -61,6 +64,8 @@ pub record History : Type 0 where
   pub start : Save
   -- a failed cabinet's image in the save restored after it failed
   pub lost : ℕ → Option Image
+  -- a normal packet was damaged since the start or the last recovery's end: no matter to demand 3, it is for `NeverWraps`
+  pub hurt : Bool
 
 abbrev pub noLog : Log
 noLog a b = []
@@ -73,47 +78,50 @@ startCut g i = cond (ltb i (g .n)) (some (record { image = cabinet g i .image; s
 abbrev pub startSave : Group → Save
 startSave g = record { by = 8; cut = startCut g; known = true }
 
-abbrev pub begun : Group → History
-begun g = record { sent = noLog; taken = noLog; cuts = λ i. none; saves = []; start = startSave g; lost = λ i. none }
+abbrev pub atStart : Group → History
+atStart g = record { sent = noLog; taken = noLog; cuts = λ i. none; saves = []; start = startSave g; lost = λ i. none; hurt = false }
 
 -- ---- which save
 
+-- "The last one committed before the recovery's end, or the start where there is none. If its coordinator failed before any working
+-- cabinet took that resume or was restored from that save, the one before; the save passed over then counts as never committed."
+-- So `saves` never holds one passed over: it is dropped in the fail itself. While another cabinet works, only the newest can be one
+-- that nobody took or was restored from, so one at most is dropped.
 abbrev pub newest : List Save → Save → Save
 newest [] s = s
 newest (x ∷ xs) s = x
 
--- "the last one committed before the recovery's end, or the start where there is none"
 abbrev pub latest : History → Save
 latest h = newest (h .saves) (h .start)
+
+-- coordinator a fails
+abbrev pub passOver : ℕ → List Save → List Save
+passOver a [] = []
+passOver a (x ∷ xs) = cond (eqb (x .by) a && not (x .known)) xs (x ∷ xs)
 
 abbrev pub markKnown : List Save → List Save
 markKnown [] = []
 markKnown (x ∷ xs) = record { by = x .by; cut = x .cut; known = true } ∷ xs
 
--- "If its coordinator failed before any working cabinet took that resume or was restored from that save, the one before"
-abbrev pub passOver : ℕ → List Save → List Save
-passOver a [] = []
-passOver a (x ∷ xs) = cond (eqb (x .by) a && not (x .known)) xs (x ∷ xs)
-
 abbrev pub withSent : History → Log → History
-withSent h l = record { sent = l; taken = h .taken; cuts = h .cuts; saves = h .saves; start = h .start; lost = h .lost }
+withSent h l = record { sent = l; taken = h .taken; cuts = h .cuts; saves = h .saves; start = h .start; lost = h .lost; hurt = h .hurt }
 
 abbrev pub withTaken : History → Log → History
-withTaken h l = record { sent = h .sent; taken = l; cuts = h .cuts; saves = h .saves; start = h .start; lost = h .lost }
+withTaken h l = record { sent = h .sent; taken = l; cuts = h .cuts; saves = h .saves; start = h .start; lost = h .lost; hurt = h .hurt }
 
 abbrev pub withCuts : History → (ℕ → Option Cut) → History
-withCuts h c = record { sent = h .sent; taken = h .taken; cuts = c; saves = h .saves; start = h .start; lost = h .lost }
+withCuts h c = record { sent = h .sent; taken = h .taken; cuts = c; saves = h .saves; start = h .start; lost = h .lost; hurt = h .hurt }
 
 abbrev pub withSaves : History → List Save → History
-withSaves h s = record { sent = h .sent; taken = h .taken; cuts = h .cuts; saves = s; start = h .start; lost = h .lost }
+withSaves h s = record { sent = h .sent; taken = h .taken; cuts = h .cuts; saves = s; start = h .start; lost = h .lost; hurt = h .hurt }
 
--- ---- what a taken step adds to the history; cabinets are numbered from 0, g is the group before it and g′ after it
+-- ---- what a taken step adds to the history; g is the group before it and g′ after it
 
 -- cabinet i goes from one state to another in the step
 abbrev pub goes : Group → Group → ℕ → State → State → Bool
 goes g g′ i s t = isIn (stateOf g i) s && isIn (stateOf g′ i) t
 
--- a normal packet whose amount the receiver adds
+-- a normal packet whose amount the receiver adds, by the very test of the rule: a hurt amount may be 0, so the booking would not tell
 abbrev pub noteTaken : Bool → History → ℕ → ℕ → Packet → History
 noteTaken true h a b Empty = h
 noteTaken true h a b (NormalPacket p) = withTaken h (logged (h .taken) a b p)
@@ -124,32 +132,51 @@ noteTaken true h a b (Fault p) = h
 noteTaken true h a b Invalid = h
 noteTaken false h a b p = h
 
+-- a resume taken in checkpointed, or the last piece fetched. It is the newest save's: a resume of an older one stands before the checkp
+-- that the cut waited for, and every version that is known names the newest.
 abbrev pub noteKnown : Bool → History → History
 noteKnown true h = withSaves h (markKnown (h .saves))
 noteKnown false h = h
 
--- the commit by coordinator k
+-- "it flips its version, enters normal and puts resume everywhere: the commit": the coordinator goes from a saving state to normal
+abbrev pub commits : Group → Group → ℕ → Bool
+commits g g′ k = inSaving (stateOf g k) && isIn (stateOf g′ k) Normal
+
 abbrev pub noteCommit : Bool → History → ℕ → History
 noteCommit true h k = withSaves h (record { by = k; cut = h .cuts; known = false } ∷ h .saves)
 noteCommit false h k = h
 
--- "A failed cabinet's image is its image in the save restored after it failed."
-abbrev pub imageIn : Option Cut → Option Image → Option Image
-imageIn none m = m
-imageIn (some c) m = some (c .image)
+-- damage hits a normal packet
+abbrev pub noteHurt : Bool → History → History
+noteHurt true h = record { sent = h .sent; taken = h .taken; cuts = h .cuts; saves = h .saves; start = h .start; lost = h .lost; hurt = true }
+noteHurt false h = h
 
+abbrev pub imageIn : Option Cut → Option Image
+imageIn none = none
+imageIn (some c) = some (c .image)
+
+-- "A failed cabinet's image is its image in the save restored after it failed."
 abbrev pub lostNow : History → Group → ℕ → Option Image → Option Image
 lostNow h g i (some m) = some m
-lostNow h g i none = cond (works (stateOf g i)) none (imageIn (latest h .cut i) none)
+lostNow h g i none = cond (works (stateOf g i)) none (imageIn (latest h .cut i))
 
--- the end of a recovery: packets count anew, and the cabinets failed since have their image
+-- "Packets for a cut count from the start or the end of the last recovery before that save's begin": they count anew at every end, and
+-- a save begun before one has no cut after it. The cabinets failed since the last end have their image now.
 abbrev pub noteEnd : Bool → History → Group → History
-noteEnd true h g = record { sent = noLog; taken = noLog; cuts = h .cuts; saves = h .saves; start = h .start; lost = λ i. lostNow h g i (h .lost i) }
+noteEnd true h g = record {
+  sent = noLog;
+  taken = noLog;
+  cuts = λ i. none;
+  saves = h .saves;
+  start = h .start;
+  lost = λ i. lostNow h g i (h .lost i);
+  hurt = false;
+}
 noteEnd false h g = h
 
--- "a recovery ends in the step that takes a coordinator from recovered to normal"
+-- "a recovery ends in the step that takes a coordinator from recovered to normal": the coordinator in the table of cabinet j
 abbrev pub ends : Group → Group → ℕ → Bool
-ends g g′ k = goes g g′ k Recovered Normal && eqb (coordinator (cabinet g k)) k
+ends g g′ j = goes g g′ (coordinator (cabinet g j)) Recovered Normal
 
 abbrev pub observe : History → Group → Group → Step → History
 observe h g g′ (Send a b q) = withSent h (logged (h .sent) (a - 1) (b - 1) (record { amount = q }))
@@ -161,11 +188,12 @@ observe h g g′ (Deliver a b) =
     (oldest (line g (a - 1) (b - 1))))
 observe h g g′ (Write a) = h
 observe h g g′ (Saved a) =
-    let k = coordinator (cabinet g (cabinet g (a - 1) .home)) in noteCommit (goes g g′ k Checkpointed Normal) h k
+    let k = coordinator (cabinet g (cabinet g (a - 1) .home)) in noteCommit (commits g g′ k) h k
 observe h g g′ (Fetch a) = noteKnown (goes g g′ (a - 1) Recovering Recovered) h
-observe h g g′ (Restored a) = noteEnd (ends g g′ (coordinator (cabinet g (a - 1)))) h g′
+observe h g g′ (Restored a) = noteEnd (ends g g′ (a - 1)) h g′
 observe h g g′ (WaitOver a) = h
 observe h g g′ (Fail a) = withSaves h (passOver (a - 1) (h .saves))
+observe h g g′ (Damage a b p q) = noteHurt (isNormal (packetAt (line g (a - 1) (b - 1)) p)) h
 
 -- "A cut belongs to the last begin taken by then, and its image is the cabinet's as that step leaves it."
 abbrev pub cutIn : History → Group → ℕ → Cut
@@ -180,7 +208,7 @@ noteCuts h g g′ =
 abbrev pub ifTaken : ℕ → History → History → History
 ifTaken answer h′ h = cond (eqb answer 0) h′ h
 
--- a refusal adds nothing, and a crash ends the group
+-- a refusal adds nothing; a step answered 50 sends, takes and fails nothing, and ends the group
 abbrev pub recordDecoded : History → Group → Outcome → Decoded → History
 recordDecoded h g o Malformed = h
 recordDecoded h g o Unused = h
@@ -202,4 +230,4 @@ run w (r ∷ rs) = run (advance w r) rs
 
 -- the group as loaded, with nothing in its history
 abbrev pub opening : Group → World
-opening g = record { group = g; history = begun g }
+opening g = record { group = g; history = atStart g }

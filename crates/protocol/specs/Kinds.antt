@@ -199,7 +199,7 @@ failCrashes g a =
 unfoldable pub failStep : Group → ℕ → Outcome
 failStep g a = cond (failCrashes g a) (crashed g) (taken (alarmTo 8 (markFailed g a) a))
 
--- ---- 11 damage (wired into the step entry only together with the proof of demand 3)
+-- ---- 11 damage
 
 -- a normal packet may be hurt once until the receiver's register restarts
 abbrev pub hurtAlready : Group → ℕ → ℕ → Packet → Bool

@@ -5,6 +5,9 @@ pub mod Kinds
 pub mod Entry
 pub mod Listing
 pub mod History
+pub mod Restored
+pub mod Bounds
 pub mod Marked
+pub mod Examples
 pub mod Answers
 pub mod Crash

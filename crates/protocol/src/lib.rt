@@ -13,6 +13,7 @@ pub enum Step {
     Restored { a: u8 },
     WaitOver { a: u8 },
     Fail { a: u8 },
+    Damage { a: u8, b: u8, p: u8, q: u16 },
 }
 
 // What six octets, or some other number of them, decode to.

@@ -464,7 +464,7 @@ pub fn fail_step(g: Group, a: u8) -> Outcome
     }
 }
 
-// ---- 11 damage: no record decodes to it yet
+// ---- 11 damage
 
 fn hurt_already(g: Group, a: u8, b: u8, p: Packet) -> bool
     ensures { λ r. ⌜ r ≡ hurtAlready g a b p ⌝ }
@@ -576,6 +576,14 @@ fn fields_of(kind: u8, a: u8, b: u8, p: u8, q: u16) -> Decoded
         let unused = two_fields(p, q);
         return if_zero(unused == 0, Decoded::Taken(Step::Deliver { a: a, b: b }));
     }
+    if kind == 11 {
+        return Decoded::Taken(Step::Damage {
+            a: a,
+            b: b,
+            p: p,
+            q: q,
+        });
+    }
     if and(1 <= kind, kind <= 10) {
         let unused = three_fields(b, p, q);
         return if_zero(unused == 0, alone_of(kind, a));
@@ -622,6 +630,12 @@ fn first_of(s: Step) -> u8
         Step::Restored { a } => a,
         Step::WaitOver { a } => a,
         Step::Fail { a } => a,
+        Step::Damage {
+            a,
+            b: _,
+            p: _,
+            q: _,
+        } => a,
     }
 }
 
@@ -639,6 +653,12 @@ fn second_of(s: Step) -> u8
         Step::Restored { a } => a,
         Step::WaitOver { a } => a,
         Step::Fail { a } => a,
+        Step::Damage {
+            a: _,
+            b,
+            p: _,
+            q: _,
+        } => b,
     }
 }
 
@@ -659,7 +679,7 @@ fn works_at(i: u8, c: Cabinet) -> bool
 }
 
 // Check 12, by whether the cabinets that the step names have not failed: the one that acts has not.
-// In deliver it is the receiver, and saved skips the check.
+// In deliver it is the receiver; saved and damage skip the check.
 fn actor_works(s: Step, first: bool, second: bool) -> bool
     ensures { λ r. ⌜ ((g : Group) → first ≡ works (stateOf g (firstOf s - 1))
         → second ≡ works (stateOf g (secondOf s - 1)) → r ≡ actorWorks g s) ⌝ }
@@ -675,6 +695,12 @@ fn actor_works(s: Step, first: bool, second: bool) -> bool
         Step::Restored { a: _ } => first,
         Step::WaitOver { a: _ } => first,
         Step::Fail { a: _ } => first,
+        Step::Damage {
+            a: _,
+            b: _,
+            p: _,
+            q: _,
+        } => true,
     }
 }
 
@@ -713,6 +739,7 @@ fn perform(g: Group, s: Step) -> Outcome
         Step::Restored { a } => restored_step(g, before(a)),
         Step::WaitOver { a } => wait_over_step(g, before(a)),
         Step::Fail { a } => fail_step(g, before(a)),
+        Step::Damage { a, b, p, q } => damage_step(g, before(a), before(b), p, q),
     }
 }
 

@@ -34,8 +34,12 @@ returns-9 c = λ g e f. e ∙ rw (c .enum-told9 .given .1)
 returns-10 : tie.Need-returns-10
 returns-10 c = λ g e f. e ∙ rw (c .enum-told10 .given .1)
 
+returns-11 : tie.Need-returns-11
+returns-11 c = λ g e f. rw (c .enum-told11 .given .1)
+
 pub actor-works-spec : {M : Type 1} → statement M
 actor-works-spec = tie.close (tie.spec
+    (λ c. search needs)
     (λ c. search needs)
     (λ c. search needs)
     (λ c. search needs)
@@ -55,4 +59,5 @@ actor-works-spec = tie.close (tie.spec
     returns-7
     returns-8
     returns-9
-    returns-10)
+    returns-10
+    returns-11)

@@ -1,0 +1,280 @@
+-- Three runs in which a coordinator ends a recovery, so that the claim of `Restored` is about something: each as a file and records,
+-- with what is found in it. The first restores a committed save, the second the save before one that is passed over, the third
+-- follows a link fault that the check finds. None restores the start.
+use Prim.Native.Nat.{ℕ, suc, _/_}
+use mathlib.Core.Bool.{Bool, true, cond, _&&_}
+use mathlib.Core.List.{List, [], _∷_, _++_, map}
+use mathlib.Core.Option.{Option, none, some}
+use lib.ListN.{length, replicate}
+use lib.Dec.{eqb}
+use Rattle.line.specs.declared.Payload.{Payload}
+use Rattle.line.specs.declared.Place.the-variants.{Cabinet as AtCabinet, Link as AtLink}
+use Rattle.cabinet.specs.declared.Alarm.{Alarm}
+use Rattle.cabinet.specs.declared.Alarm.the-variants.{Fault}
+use Rattle.cabinet.specs.declared.Image.{Image}
+use Rattle.cabinet.specs.State.{works}
+use Rattle.group.specs.declared.Group.{Group}
+use Rattle.group.specs.Group.{cabinet, stateOf}
+use Rattle.load.specs.Load.{load}
+use Rattle.protocol.specs.Entry.{step}
+use Rattle.protocol.specs.History.{History, World, advance, ends, latest}
+use Rattle.protocol.specs.Restored.{takenIn, counted, worldAfter}
+use Rattle.protocol.specs.Marked.{twoOctets, header, recordOf, send, begin, deliver, fetch, restored, fail}
+
+-- ---- files and records
+
+-- the entries of cabinets i, i + 1 and so on with these bookings; cabinet s is the one store and the home of all
+abbrev pub entriesFrom : ℕ → ℕ → List ℕ → List ℕ
+entriesFrom s i [] = []
+entriesFrom s i (booking ∷ bookings) = s ∷ cond (eqb i s) 1 0 ∷ twoOctets booking ++ entriesFrom s (suc i) bookings
+
+-- a link is two numbers of the list
+abbrev pub fileOf : ℕ → List ℕ → List ℕ → List ℕ
+fileOf s bookings links = header (length bookings) (length links / 2) ++ entriesFrom s 1 bookings ++ links
+
+abbrev pub note : ℕ → ℕ → ℕ → List ℕ
+note a p q = recordOf 2 a 0 p q
+
+-- all four pieces
+abbrev pub writes : ℕ → List (List ℕ)
+writes a = replicate 4 (recordOf 5 a 0 0 0)
+
+abbrev pub saved : ℕ → List ℕ
+saved a = recordOf 6 a 0 0 0
+
+abbrev pub fetches : ℕ → List (List ℕ)
+fetches a = replicate 4 (fetch a)
+
+abbrev pub waitOver : ℕ → List ℕ
+waitOver a = recordOf 9 a 0 0 0
+
+abbrev pub damage : ℕ → ℕ → ℕ → ℕ → List ℕ
+damage a b p q = recordOf 11 a b p q
+
+-- ---- a run, and what is found in it
+
+-- the records up to the fault, those from the fault on, and the one in which the coordinator (numbered from 0) ends the recovery
+pub record Example : Type 0 where
+  pub file : List ℕ
+  pub before : List (List ℕ)
+  pub since : List (List ℕ)
+  pub last : List ℕ
+  pub coordinator : ℕ
+
+abbrev pub records : Example → List (List ℕ)
+records e = e .before ++ e .since
+
+abbrev pub worldTo : Example → List (List ℕ) → World
+worldTo e rs = worldAfter (e .file) rs
+
+abbrev pub worldAtEnd : Example → World
+worldAtEnd e = advance (worldTo e (records e)) (e .last)
+
+-- what is found; a list has one place for each of the three cabinets
+pub record Found : Type 0 where
+  -- the answer of load, whether every record is taken, and whether the last one ends the recovery
+  pub loaded : ℕ
+  pub taken : Bool
+  pub ended : Bool
+  -- the place that the coordinator entered error for
+  pub place : Alarm
+  -- the saves committed by the fault, and those left at the end: one passed over "counts as never committed"
+  pub committed : ℕ
+  pub left : ℕ
+  -- the save that the rule gives: its coordinator, numbered from 0 (the start has 8), and the amounts that each had taken by its cut
+  pub by : ℕ
+  pub took : List (List ℕ)
+  -- the images at the fault; at the end those that the working cabinets hold, and those that count for the failed ones
+  pub standing : List Image
+  pub held : List (Option Image)
+  pub gone : List (Option Image)
+
+abbrev pub allTaken : Group → List (List ℕ) → Bool
+allTaken g [] = true
+allTaken g (r ∷ rs) = eqb (step g r .answer) 0 && allTaken (step g r .group) rs
+
+-- the amounts that cabinet c had taken by its cut, those from 1 first
+abbrev pub tookIn : History → ℕ → List ℕ
+tookIn h c =
+    map (λ (p : Payload). p .amount) (takenIn (latest h .cut c) 0 ++ takenIn (latest h .cut c) 1 ++ takenIn (latest h .cut c) 2)
+
+abbrev pub heldBy : Group → ℕ → Option Image
+heldBy g c = cond (works (stateOf g c)) (some (cabinet g c .image)) none
+
+abbrev pub goneOf : History → Group → ℕ → Option Image
+goneOf h g c = cond (works (stateOf g c)) none (counted h g c)
+
+abbrev pub three : {A : Type 0} → (ℕ → A) → List A
+three f = f 0 ∷ f 1 ∷ f 2 ∷ []
+
+abbrev pub foundIn : Example → World → World → World → Found
+foundIn e fault near end = record {
+  loaded = load (e .file) .answer;
+  taken = allTaken (load (e .file) .group) (records e ++ e .last ∷ []);
+  ended = works (stateOf (near .group) (e .coordinator)) && ends (near .group) (end .group) (e .coordinator);
+  place = cabinet (near .group) (e .coordinator) .phase .alarm;
+  committed = length (fault .history .saves);
+  left = length (end .history .saves);
+  by = latest (end .history) .by;
+  took = three (tookIn (end .history));
+  standing = three (λ c. cabinet (fault .group) c .image);
+  held = three (heldBy (end .group));
+  gone = three (goneOf (end .history) (end .group));
+}
+
+-- at the fault, before the last record and after it
+unfoldable pub found : Example → Found
+found e = foundIn e (worldTo e (e .before)) (worldTo e (records e)) (worldAtEnd e)
+
+-- an image with a booking and a note in its last octet
+abbrev pub imageWith : ℕ → ℕ → Image
+imageWith booking last = record { octets = twoOctets booking ++ replicate 29 0 ++ last ∷ [] }
+
+-- ---- a ring of three cabinets, 1 the store and home of all, and a save of it
+
+abbrev pub ring : List ℕ
+ring = fileOf 1 (100 ∷ 50 ∷ 20 ∷ []) (1 ∷ 2 ∷ 1 ∷ 3 ∷ 2 ∷ 3 ∷ [])
+
+-- from the bookings 100, 50 and 20 to 80, 75 and 15; 2 makes a note, and what 3 sends is under way when the save begins
+abbrev pub ringSaved : List (List ℕ)
+ringSaved =
+    send 1 2 30 ∷ deliver 1 2 ∷ send 2 3 5 ∷ deliver 2 3 ∷ note 2 31 9 ∷ send 3 1 10
+    -- "the coordinator enters checkp-begin and puts checkp on all lines in use"
+    ∷ begin 1
+    -- "In checkp-begin, normal packets are taken from neighbours whose checkp has not come"
+    ∷ deliver 3 1
+    -- "A cabinet in normal that receives checkp compares first, then does the same."
+    ∷ deliver 1 2 ∷ deliver 1 3
+    -- "With checkp from all neighbours in use .. the cabinet enters checkpointing in that step: this is its cut."
+    ∷ deliver 2 1 ∷ deliver 3 1 ∷ deliver 3 2 ∷ deliver 2 3
+    -- "With piece 3 the cabinet enters checkpointed"
+    ∷ writes 1 ++ writes 2 ++ writes 3
+    -- "When the coordinator has this save's reports for every cabinet in its table it .. puts resume everywhere: the commit."
+    ++ saved 1 ∷ saved 2 ∷ saved 3
+    -- "A cabinet in checkpointed that receives resume .. puts resume on its other lines. Resume in any other state .. is dropped."
+    ∷ deliver 1 2 ∷ deliver 1 3 ∷ deliver 2 3 ∷ deliver 3 2
+    ∷ []
+
+-- ---- 1: a recovery after a committed save
+
+abbrev pub after-save : Example
+after-save = record {
+  file = ring;
+  -- amperes and a note of which the save knows nothing; what 3 sends is never taken
+  before = ringSaved ++ send 1 2 40 ∷ deliver 1 2 ∷ note 2 31 4 ∷ send 3 2 7 ∷ [];
+  since =
+      -- "all its neighbours over links in use enter error in the same step", and having a known version go on to recovering
+      fail 3
+      -- fault, which is noted, and recover, which is dropped in recovering: both ways
+      ∷ deliver 1 2 ∷ deliver 1 2 ∷ deliver 2 1 ∷ deliver 2 1
+      -- "After piece 3 the cabinet enters recovered."
+      ∷ fetches 1 ++ fetches 2
+      ++ restored 1 ∷ [];
+  -- "When the coordinator, in recovered, has restored reports from all in its table, it enters normal"
+  last = restored 2;
+  coordinator = 0;
+}
+
+abbrev pub after-save-finds : Found
+after-save-finds = record {
+  loaded = 0;
+  taken = true;
+  ended = true;
+  place = Fault (AtCabinet 2);
+  committed = 1;
+  left = 1;
+  by = 0;
+  took = (10 ∷ []) ∷ (30 ∷ []) ∷ (5 ∷ []) ∷ [];
+  standing = imageWith 40 0 ∷ imageWith 115 4 ∷ imageWith 8 0 ∷ [];
+  held = some (imageWith 80 0) ∷ some (imageWith 75 9) ∷ none ∷ [];
+  gone = none ∷ none ∷ some (imageWith 15 0) ∷ [];
+}
+
+-- ---- 2: a recovery after a save passed over
+
+-- a row of three, 2 the store and home of all: the coordinator is no store
+abbrev pub row : List ℕ
+row = fileOf 2 (100 ∷ 50 ∷ 20 ∷ []) (1 ∷ 2 ∷ 2 ∷ 3 ∷ [])
+
+-- a save of the row, up to its commit; 3 has one neighbour, so that the checkp it takes is its cut
+abbrev pub rowCommitted : List (List ℕ)
+rowCommitted =
+    begin 1 ∷ deliver 1 2 ∷ deliver 2 1 ∷ deliver 2 3 ∷ deliver 3 2
+    ∷ writes 1 ++ writes 2 ++ writes 3
+    ++ saved 1 ∷ saved 2 ∷ saved 3 ∷ []
+
+abbrev pub passed-over : Example
+passed-over = record {
+  file = row;
+  -- the first save has 70, 80 and 20, and its resume is taken; the second has 61, 97 and 12
+  before =
+      send 1 2 30 ∷ deliver 1 2 ∷ note 3 31 6
+      ∷ rowCommitted ++ deliver 1 2 ∷ deliver 2 3
+      ∷ send 3 2 8 ∷ deliver 3 2 ∷ send 1 2 9 ∷ deliver 1 2 ∷ note 3 31 7
+      ∷ rowCommitted;
+  since =
+      -- "its coordinator failed before any working cabinet took that resume": 2 enters error with unknown version
+      fail 1
+      -- "A cabinet in normal or a saving state that receives fault enters error for that place, and has heard that neighbour."
+      ∷ deliver 2 3 ∷ deliver 3 2
+      -- "version becomes old and a goes on as if recover had brought it"
+      ∷ waitOver 2
+      -- "stay in error until recover comes, then set the version to the one it carries and do the same"; the second is dropped
+      ∷ deliver 2 3 ∷ deliver 3 2
+      ∷ fetches 2 ++ fetches 3
+      ++ restored 3 ∷ [];
+  -- the coordinator is 2 now, "the lowest-numbered cabinet in use there"
+  last = restored 2;
+  coordinator = 1;
+}
+
+abbrev pub passed-over-finds : Found
+passed-over-finds = record {
+  loaded = 0;
+  taken = true;
+  ended = true;
+  place = Fault (AtCabinet 0);
+  committed = 2;
+  left = 1;
+  by = 0;
+  took = [] ∷ (30 ∷ []) ∷ [] ∷ [];
+  standing = imageWith 61 0 ∷ imageWith 97 0 ∷ imageWith 12 7 ∷ [];
+  held = none ∷ some (imageWith 80 0) ∷ some (imageWith 20 6) ∷ [];
+  gone = some (imageWith 70 0) ∷ none ∷ none ∷ [];
+}
+
+-- ---- 3: a recovery after a link fault that the check finds
+
+abbrev pub link-fault : Example
+link-fault = record {
+  file = ring;
+  before =
+      -- damage makes 7 amperes of the 6 that 2 sends, and 3 adds them: 80, 69 and 22 are more than the total
+      ringSaved ++ send 2 3 6 ∷ damage 2 3 0 1 ∷ deliver 2 3
+      -- a save begins, and 2 puts its checkps
+      ∷ begin 1 ∷ deliver 1 2 ∷ [];
+  since =
+      -- "unequal values mean a link fault": 3 finds it at the checkp from 2
+      deliver 2 3
+      -- the fault goes from 3 to 1 and from 1 to both others; 2, which has struck its end of the link, tells 1
+      ∷ deliver 3 1 ∷ deliver 1 2 ∷ deliver 1 3 ∷ deliver 2 1
+      ∷ fetches 1 ++ fetches 2 ++ fetches 3
+      ++ restored 1 ∷ restored 2 ∷ [];
+  last = restored 3;
+  coordinator = 0;
+}
+
+abbrev pub link-fault-finds : Found
+link-fault-finds = record {
+  loaded = 0;
+  taken = true;
+  ended = true;
+  place = Fault (AtLink 1 2);
+  committed = 1;
+  left = 1;
+  by = 0;
+  took = (10 ∷ []) ∷ (30 ∷ []) ∷ (5 ∷ []) ∷ [];
+  standing = imageWith 80 0 ∷ imageWith 69 9 ∷ imageWith 22 0 ∷ [];
+  held = some (imageWith 80 0) ∷ some (imageWith 75 9) ∷ some (imageWith 15 0) ∷ [];
+  gone = none ∷ none ∷ none ∷ [];
+}

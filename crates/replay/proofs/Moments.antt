@@ -1,0 +1,95 @@
+-- Demand 3 of every moment of a run: the theorem of `protocol`, for the records before a moment and the one that comes then.
+use Prim.Native.Nat.{ℕ, zero, suc, _≤_, _<_}
+use mathlib.Core.Path.{_≡_, refl, sym, ap, _∙_, subst}
+use mathlib.Core.Bool.{Bool, true, false, cond, _&&_, false≢true, true≢false}
+use mathlib.Core.List.{List, [], _∷_, _++_}
+use lib.ListN.{length, getD, take, drop}
+use lib.Dec.{eqb}
+use borrow.Author.Tests.{eq-eqb, ne-eqb}
+use native.Mathlib.Omega.{arith}
+use native.Mathlib.Decide.{ℕ-discrete, decLt}
+use Rattle.group.specs.declared.Group.{Group}
+use Rattle.group.specs.declared.Outcome.{Outcome}
+use Rattle.group.specs.Group.{answering}
+use Rattle.load.specs.Load.{load, cabinetCount, feederTotal}
+use Rattle.protocol.specs.Entry.{step}
+use Rattle.protocol.specs.Listing.{records}
+use Rattle.protocol.specs.History.{World, advance, run, opening, ends}
+use Rattle.protocol.specs.Restored.{Restored, Octets, Records}
+use Rattle.protocol.proofs.Demand.{demand-three, same-state}
+use Rattle.replay.specs.Replay.{recordsIn, after, stepAll, replayed, EndsWell}
+
+-- ---- the run and the groups of it
+
+run-groups : (rs : List (List ℕ)) (w : World) → run w rs .group ≡ stepAll (w .group) rs
+unfolding run advance stepAll
+run-groups [] w = refl
+run-groups (r ∷ rs) w = run-groups rs (advance w r)
+
+-- one record more
+next-moment : (m : ℕ) (rs : List (List ℕ)) (w : World)
+    → (length rs ≤ m → run w (take (suc m) rs) ≡ run w (take m rs)) × (m < length rs → run w (take (suc m) rs) ≡ advance (run w (take m rs)) (getD rs m []))
+unfolding run
+next-moment m [] w = ((λ h. none m), (λ h. absurd (omega arith)))
+  where
+    none : (m : ℕ) → run w (take (suc m) []) ≡ run w (take m [])
+    none zero = refl
+    none (suc m) = refl
+next-moment zero (r ∷ rs) w = ((λ h. absurd (omega arith)), (λ h. refl))
+next-moment (suc m) (r ∷ rs) w =
+    let ih = next-moment m rs (advance w r) in
+    ((λ h. ih .0 (omega arith)), (λ h. ih .1 (omega arith)))
+
+-- ---- octets
+
+octets-take : (n : ℕ) (l : List ℕ) → Octets l → Octets (take n l)
+octets-take zero l o i = omega arith
+octets-take (suc n) [] o i = omega arith
+octets-take (suc n) (x ∷ l) o zero = o zero
+octets-take (suc n) (x ∷ l) o (suc i) = octets-take n l (λ j. o (suc j)) i
+
+octets-drop : (n : ℕ) (l : List ℕ) → Octets l → Octets (drop n l)
+octets-drop zero l o = o
+octets-drop (suc n) [] o = o
+octets-drop (suc n) (x ∷ l) o = octets-drop n l (λ i. o (suc i))
+
+records-octets : (n : ℕ) (l : List ℕ) → Octets l → Records (records n l)
+unfolding records
+records-octets zero l o = tt
+records-octets (suc n) l o = go (eqb (length l) 0) (records-octets n (drop 6 l) (octets-drop 6 l o))
+  where
+    go : (t : Bool) → Records (records n (drop 6 l)) → Records (cond t [] (take 6 l ∷ records n (drop 6 l)))
+    go true r = tt
+    go false r = (octets-take 6 l o, r)
+
+records-take : (m : ℕ) (rs : List (List ℕ)) → Records rs → Records (take m rs)
+records-take zero rs o = tt
+records-take (suc m) [] o = tt
+records-take (suc m) (r ∷ rs) o = (o .0, records-take m rs (o .1))
+
+record-at : (m : ℕ) (rs : List (List ℕ)) → Records rs → Octets (getD rs m [])
+record-at m [] o = λ i. omega arith
+record-at zero (r ∷ rs) o = o .0
+record-at (suc m) (r ∷ rs) o = record-at m rs (o .1)
+
+-- ---- what the function promises
+
+pub accepted : (file list : List ℕ) (o : Outcome) (g : Group) → o ≡ load file → o .answer ≡ 0 → g ≡ stepAll (o .group) (recordsIn list) → answering 0 g ≡ replayed file list
+accepted file list o g e a q =
+    ap (answering 0) (q ∙ ap (λ (x : Outcome). stepAll (x .group) (recordsIn list)) e ∙ sym (run-groups (recordsIn list) (opening (load file .group))))
+    ∙ sym (ap (λ (t : Bool). cond t (answering 0 (run (opening (load file .group)) (recordsIn list) .group)) (load file)) (eq-eqb (load file .answer) 0 (sym (ap (λ (x : Outcome). x .answer) e) ∙ a)))
+
+pub refused : (file list : List ℕ) (o : Outcome) → o ≡ load file → (o .answer ≡ 0 → ⊥) → o ≡ replayed file list
+refused file list o e a =
+    e ∙ sym (ap (λ (t : Bool). cond t (answering 0 (run (opening (load file .group)) (recordsIn list) .group)) (load file)) (ne-eqb (load file .answer) 0 (λ z. a (ap (λ (x : Outcome). x .answer) e ∙ z))))
+
+pub ends-well : (file list : List ℕ) → load file .answer ≡ 0 → Octets file → Octets list → EndsWell file list
+ends-well file list e of ol m j v en = elim (decLt m (length (recordsIn list))) [
+  | yes l ↦ let step-on = next-moment m (recordsIn list) (opening (load file .group)) .1 l in
+      subst (λ (w : World). Restored (cabinetCount file) (feederTotal file) (w .history) (w .group)) (sym step-on)
+      (demand-three file of e (take m (recordsIn list)) (records-take m (recordsIn list) (records-octets (length list) list ol)) (getD (recordsIn list) m [])
+      (record-at m (recordsIn list) (records-octets (length list) list ol)) j v
+      (subst (λ (w : World). ends (after file list m .group) (w .group) j ≡ true) step-on en))
+  | no n ↦ let same = next-moment m (recordsIn list) (opening (load file .group)) .0 (omega arith) in
+      absurd (same-state (after file list m .group) j (subst (λ (w : World). ends (after file list m .group) (w .group) j ≡ true) same en))
+]

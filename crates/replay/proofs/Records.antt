@@ -1,0 +1,89 @@
+-- The records of a list, as the code takes them off: up to six octets, or up to the end.
+use Prim.Native.Nat.{ℕ, zero, suc, _+_, _-_, _≤_, _<_, min}
+use mathlib.Core.Path.{_≡_, refl, sym, ap, _∙_}
+use mathlib.Core.Bool.{cond}
+use mathlib.Core.List.{List, [], _∷_}
+use native.Mathlib.Omega.{arith, min-cases}
+use lib.ListN.{length, take, drop, length-drop, drop-of-length-le}
+use lib.Seq.{drop-drop, take-all}
+use lib.Dec.{eqb}
+use native.Mathlib.Decide.{decLt}
+use borrow.Author.Tests.{ne-eqb}
+use Rattle.group.specs.declared.Group.{Group}
+use Rattle.group.specs.declared.Outcome.{Outcome}
+use Rattle.protocol.specs.Entry.{step}
+use Rattle.protocol.specs.Listing.{records}
+use Rattle.replay.specs.Replay.{recordsIn, stepAll}
+
+some-record : (n : ℕ) (l : List ℕ) → 0 < length l → records (suc n) l ≡ take 6 l ∷ records n (drop 6 l)
+unfolding records
+some-record n l h = rw (ne-eqb (length l) 0 (λ z. omega arith))
+
+no-octets : (n : ℕ) → records n [] ≡ []
+unfolding records
+no-octets zero = refl
+no-octets (suc n) = refl
+
+-- any number of turns will do that is enough for the octets
+no-more : (l : List ℕ) → length l ≤ 0 → l ≡ []
+no-more [] h = refl
+no-more (x ∷ l) h = absurd (omega arith)
+
+enough : (n m : ℕ) (l : List ℕ) → length l ≤ n → length l ≤ m → records n l ≡ records m l
+enough zero m l h k = rw (no-more l h) (no-octets zero ∙ sym (no-octets m))
+enough (suc n) zero l h k = rw (no-more l k) (no-octets (suc n) ∙ sym (no-octets zero))
+enough (suc n) (suc m) l h k = elim (decLt 0 (length l)) [
+  | yes p ↦ some-record n l p
+      ∙ ap (λ (r : List (List ℕ)). take 6 l ∷ r) (enough n m (drop 6 l) (omega (arith, length-drop 6 l)) (omega (arith, length-drop 6 l)))
+      ∙ sym (some-record m l p)
+  | no q ↦ rw (no-more l (omega arith)) (no-octets (suc n) ∙ sym (no-octets (suc m)))
+]
+
+part : (from to : ℕ) (l : List ℕ) → from < length l → to ≡ min (from + 6) (length l) → take (to - from) (drop from l) ≡ take 6 (drop from l)
+part from to l m e =
+    min-cases (from + 6) (length l) _
+    (λ s q. let six : to - from ≡ 6 = omega arith in rw six)
+    (λ s q.
+    let all : length (drop from l) ≤ to - from = omega (arith, length-drop from l) in
+    let few : length (drop from l) ≤ 6 = omega (arith, length-drop from l) in
+    rw (take-all (to - from) (drop from l) all, take-all 6 (drop from l) few))
+
+left : (from to : ℕ) (l : List ℕ) → from < length l → to ≡ min (from + 6) (length l) → drop to l ≡ drop 6 (drop from l)
+left from to l m e =
+    min-cases (from + 6) (length l) _
+    (λ s q. rw (e, q) (sym (drop-drop 6 from l)))
+    (λ s q.
+    let few : length (drop from l) ≤ 6 = omega (arith, length-drop from l) in
+    rw (drop-of-length-le (drop from l) few, e, q) (drop-of-length-le l {i = length l} (omega arith)))
+
+-- fewer octets are left
+pub shorter : (from to n : ℕ) → from < n → to ≡ min (from + 6) n → n - to < n - from
+shorter from to n l e = min-cases (from + 6) n _ (λ s q. omega arith) (λ s q. omega arith)
+
+-- what is left to do from octet `from` on
+pub record To-do (l : List ℕ) (whole g : Group) (from : ℕ) : Type 0 where
+  pub within : from ≤ length l
+  pub rest : stepAll g (records (length l) (drop from l)) ≡ whole
+
+pub start : (l : List ℕ) (g : Group) → To-do l (stepAll g (recordsIn l)) g 0
+start l g = record { within = omega arith; rest = refl }
+
+module _ {l : List ℕ} {whole g : Group} {from : ℕ} (w : To-do l whole g from) where
+  pub turn : {o : Outcome} {to : ℕ} → from < length l → to ≡ min (from + 6) (length l) → o ≡ step g (take (to - from) (drop from l)) → To-do l whole (o .group) to
+  unfolding stepAll
+  turn {o} {to} m t e = record {
+    within = min-cases (from + 6) (length l) _ (λ s q. omega arith) (λ s q. omega arith);
+    rest = rw (e, part from to l m t, left from to l m t) (onward (w .rest));
+  }
+    where
+      first : records (length l) (drop from l) ≡ take 6 (drop from l) ∷ records (length l) (drop 6 (drop from l))
+      first =
+          enough (length l) (suc (length l)) (drop from l) (omega (arith, length-drop from l)) (omega (arith, length-drop from l))
+          ∙ some-record (length l) (drop from l) (omega (arith, length-drop from l))
+
+      onward : stepAll g (records (length l) (drop from l)) ≡ whole → stepAll (step g (take 6 (drop from l)) .group) (records (length l) (drop 6 (drop from l))) ≡ whole
+      onward q = sym (ap (stepAll g) first) ∙ q
+
+  pub ended : length l ≤ from → g ≡ whole
+  unfolding stepAll
+  ended h = sym (ap (stepAll g) (ap (records (length l)) (drop-of-length-le l h) ∙ no-octets (length l))) ∙ w .rest

@@ -1,0 +1,39 @@
+-- The run of a file and a list of step records, and demand 3 of every moment of it.
+use Prim.Native.Nat.{ℕ, zero, suc}
+use mathlib.Core.Path.{_≡_}
+use mathlib.Core.Bool.{true, cond}
+use mathlib.Core.List.{List, [], _∷_}
+use lib.ListN.{length, take}
+use lib.Dec.{eqb}
+use Rattle.group.specs.declared.Group.{Group}
+use Rattle.group.specs.declared.Outcome.{Outcome}
+use Rattle.cabinet.specs.State.{works}
+use Rattle.group.specs.Group.{stateOf, answering}
+use Rattle.load.specs.Load.{load, cabinetCount, feederTotal}
+use Rattle.protocol.specs.Entry.{step}
+use Rattle.protocol.specs.Listing.{records}
+use Rattle.protocol.specs.History.{World, ends}
+use Rattle.protocol.specs.Restored.{Restored, worldAfter}
+
+-- all records of a list: six octets each, and a short last one counts
+abbrev pub recordsIn : List ℕ → List (List ℕ)
+recordsIn list = records (length list) list
+
+-- the group and its history after the first m records
+abbrev pub after : List ℕ → List ℕ → ℕ → World
+after file list m = worldAfter file (take m (recordsIn list))
+
+-- "each step gets what the one before returned, refused or not"
+unfoldable pub stepAll : Group → List (List ℕ) → Group
+stepAll g [] = g
+stepAll g (r ∷ rs) = stepAll (step g r .group) rs
+
+-- what load answers, and where it answers 0 the group after the last record
+abbrev pub replayed : List ℕ → List ℕ → Outcome
+replayed file list = cond (eqb (load file .answer) 0) (answering 0 (worldAfter file (recordsIn list) .group)) (load file)
+
+-- demand 3, whichever record it is in which the coordinator of a working cabinet j ends a recovery
+abbrev pub EndsWell : List ℕ → List ℕ → Type 0
+EndsWell file list =
+    (m j : ℕ) → works (stateOf (after file list m .group) j) ≡ true → ends (after file list m .group) (after file list (suc m) .group) j ≡ true
+    → Restored (cabinetCount file) (feederTotal file) (after file list (suc m) .history) (after file list (suc m) .group)
