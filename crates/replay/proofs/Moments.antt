@@ -16,7 +16,7 @@ use Rattle.protocol.specs.Entry.{step}
 use Rattle.protocol.specs.Listing.{records}
 use Rattle.protocol.specs.History.{World, advance, run, opening, ends}
 use Rattle.protocol.specs.Restored.{Restored, Octets, Records}
-use Rattle.protocol.proofs.Demand.{demand-three, same-state}
+use Rattle.protocol.proofs.Claims.Demand.{demand-three, same-state}
 use Rattle.replay.specs.Replay.{recordsIn, after, stepAll, replayed, EndsWell}
 
 -- ---- the run and the groups of it

@@ -39,7 +39,10 @@ pub fn replay(file: &[u8], list: &[u8]) -> Outcome
     let o = load::load(file);
     if o.answer == 0 {
         let g = run(o.group, list);
-        Outcome { answer: 0, group: g }
+        Outcome {
+            answer: 0,
+            group: g,
+        }
     } else {
         o
     }

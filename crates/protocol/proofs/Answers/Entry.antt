@@ -1,0 +1,201 @@
+-- Theorems on the step entry: what its answers are, that a refusal changes nothing, and when and how the group crashes.
+use Prim.Native.Nat.{ℕ, _-_}
+use mathlib.Core.Path.{_≡_, refl}
+use mathlib.Core.Bool.{Bool, true, false, not, _||_}
+use mathlib.Core.List.{List, _∷_}
+use mathlib.Core.Logic.{_↔_, _⊎_, inl, inr}
+use lib.ListN.{set}
+use Rattle.marks.specs.Marks.{marked}
+use Rattle.marks.specs.Reach.{connected}
+use Rattle.line.specs.Line.{oldest}
+use Rattle.group.specs.declared.Group.{Group}
+use Rattle.group.specs.declared.Outcome.{Outcome}
+use Rattle.cabinet.specs.Cabinet.{inUse}
+use Rattle.group.specs.Group.{cabinet, line, some, working, recoveringOnes, taken, crashAll}
+use Rattle.protocol.specs.declared.Step.{Step}
+use Rattle.protocol.specs.declared.Step.the-variants.{Send, Note, Begin, Deliver, Write, Saved, Fetch, Restored, WaitOver, Fail, Damage}
+use Rattle.protocol.specs.declared.Decoded.{Decoded}
+use Rattle.protocol.specs.declared.Decoded.the-variants.{Malformed, Unused, Taken}
+use Rattle.protocol.specs.Kinds.{need, orRefuse, sendStep, noteStep, beginStep, deliverRefusal, delivered, deliverStep, writeStep, savedStep, fetchStep, restoredStep, waitOverStep, failCrashes, failStep, damageRefusal, damageStep}
+use Rattle.protocol.specs.Entry.{decode, actorWorks, entryRefusal, perform, stepDecoded, step}
+use Rattle.protocol.specs.Answers.{among, workNumbers, kindNumbers, refusalNumbers, kindRefusal}
+use Rattle.protocol.specs.Crash.{SomeRecovers, Unreached, soundLinks, LineInUse, Cause, Crashes}
+use Rattle.protocol.specs.Crash.Cause.{store-fails, fails-in-recovery, damage-in-recovery, places-meet, fail-parts, link-parts}
+use Rattle.protocol.specs.Crash.Crashes.{crashes}
+use Rattle.protocol.proofs.Answers.Tests.{Reflects, itself, or-reflects, some-recovers, not-reached}
+use Rattle.protocol.proofs.Answers.Answer.{Listed, checks, Answer, recast, refusing, guarded, only-if, crash-if, keeps, listed, crashes-all, exactly}
+use Rattle.protocol.proofs.Answers.Answer.Listed.{nothing}
+use Rattle.protocol.proofs.Answers.Answer.Answer.{took, refused}
+use Rattle.protocol.proofs.Answers.Deliver.{Upset, receive-answers}
+
+-- ---- the kinds: their refusals, and those that crash nothing
+
+-- a kind's refusal is 0 or stands under it in the paper
+kind-listed : (g : Group) (s : Step) → Listed (kindNumbers s) (kindRefusal g s)
+kind-listed g (Send a b q) = search (checks, nothing) depth 6
+kind-listed g (Note a p q) = search (checks, nothing)
+kind-listed g (Begin a) = search (checks, nothing)
+kind-listed g (Deliver a b) = search (checks, nothing)
+kind-listed g (Write a) = search (checks, nothing)
+kind-listed g (Saved a) = search (checks, nothing)
+kind-listed g (Fetch a) = search (checks, nothing)
+kind-listed g (Restored a) = search (checks, nothing)
+kind-listed g (WaitOver a) = search (checks, nothing)
+kind-listed g (Fail a) = nothing
+kind-listed g (Damage a b p q) = search (checks, nothing)
+
+-- what a step that passed checks 8 to 12 answers
+abbrev Answers : Group → Step → Outcome → Type 0
+Answers g s o = Answer g (kindNumbers s) ((kindRefusal g s ≡ 0) × Cause g s) o
+
+-- a kind that knows no cause of a crash
+harmless : (g : Group) (s : Step) (g′ : Group) → (Cause g s → ⊥) → Answers g s (orRefuse (kindRefusal g s) g (taken g′))
+harmless g s g′ n = guarded (kindRefusal g s) (kind-listed g s) (took n)
+
+-- ---- fail
+
+fail-causes : (g : Group) (a : ℕ) → Reflects (failCrashes g (a - 1)) (Cause g (Fail a))
+fail-causes g a = (λ e. to (found .0 e), λ c. found .1 (from c))
+  where
+    store : Bool
+    store = cabinet g (a - 1) .store
+
+    recovers : Bool
+    recovers = some (recoveringOnes g)
+
+    parted : Bool
+    parted = not (connected (soundLinks g) (set (working g) (a - 1) false))
+
+    found : Reflects (failCrashes g (a - 1))
+        ((cabinet g (a - 1) .store ≡ true) ⊎ (SomeRecovers g ⊎ Unreached (soundLinks g) (set (working g) (a - 1) false)))
+    found =
+        or-reflects store (recovers || parted) (itself store)
+        (or-reflects recovers parted (some-recovers g) (not-reached (soundLinks g) (set (working g) (a - 1) false)))
+
+    to : (cabinet g (a - 1) .store ≡ true) ⊎ (SomeRecovers g ⊎ Unreached (soundLinks g) (set (working g) (a - 1) false)) → Cause g (Fail a)
+    to (inl p) = store-fails p
+    to (inr (inl p)) = fails-in-recovery p
+    to (inr (inr p)) = fail-parts p
+
+    from : Cause g (Fail a)
+        → (cabinet g (a - 1) .store ≡ true) ⊎ (SomeRecovers g ⊎ Unreached (soundLinks g) (set (working g) (a - 1) false))
+    from (store-fails p) = inl p
+    from (fails-in-recovery p) = inr (inl p)
+    from (fail-parts p) = inr (inr p)
+
+fail-answers : (g : Group) (a : ℕ) → Answers g (Fail a) (failStep g (a - 1))
+unfolding failStep
+fail-answers g a = recast (λ c. (refl, c), λ p. p .1) (crash-if (failCrashes g (a - 1)) _ (fail-causes g a))
+
+-- ---- damage
+
+damage-answers : (g : Group) (a b p q : ℕ) → Answers g (Damage a b p q) (damageStep g (a - 1) (b - 1) p q)
+unfolding damageStep
+damage-answers g a b p q =
+    guarded (damageRefusal g (a - 1) (b - 1) p q) (kind-listed g (Damage a b p q))
+    (recast (λ r. damage-in-recovery r, from) (crash-if (some (recoveringOnes g)) _ (some-recovers g)))
+  where
+    from : Cause g (Damage a b p q) → SomeRecovers g
+    from (damage-in-recovery r) = r
+
+-- ---- deliver
+
+deliver-answers : (g : Group) (a b : ℕ) → Answers g (Deliver a b) (deliverStep g (a - 1) (b - 1))
+unfolding deliverStep delivered
+deliver-answers g a b =
+    guarded (deliverRefusal g (a - 1) (b - 1)) (kind-listed g (Deliver a b))
+    (recast (to, from)
+    (only-if (marked (inUse (cabinet g (b - 1))) (a - 1)) _ (itself (marked (inUse (cabinet g (b - 1))) (a - 1)))
+    (receive-answers g (a - 1) (b - 1) (oldest (line g (a - 1) (b - 1))))))
+  where
+    to : LineInUse g (a - 1) (b - 1) × Upset g (a - 1) (b - 1) (oldest (line g (a - 1) (b - 1))) → Cause g (Deliver a b)
+    to (t, inl meet) = places-meet t meet
+    to (t, inr (find, u)) = link-parts t find u
+
+    from : Cause g (Deliver a b) → LineInUse g (a - 1) (b - 1) × Upset g (a - 1) (b - 1) (oldest (line g (a - 1) (b - 1)))
+    from (places-meet t meet) = (t, inl meet)
+    from (link-parts t find u) = (t, inr (find, u))
+
+-- ---- all kinds
+
+performs : (g : Group) (s : Step) → Answers g s (perform g s)
+unfolding sendStep noteStep beginStep writeStep savedStep fetchStep restoredStep waitOverStep
+performs g (Send a b q) = harmless g (Send a b q) _ (λ c. elim c [ ])
+performs g (Note a p q) = harmless g (Note a p q) _ (λ c. elim c [ ])
+performs g (Begin a) = harmless g (Begin a) _ (λ c. elim c [ ])
+performs g (Deliver a b) = deliver-answers g a b
+performs g (Write a) = harmless g (Write a) _ (λ c. elim c [ ])
+performs g (Saved a) = harmless g (Saved a) _ (λ c. elim c [ ])
+performs g (Fetch a) = harmless g (Fetch a) _ (λ c. elim c [ ])
+performs g (Restored a) = harmless g (Restored a) _ (λ c. elim c [ ])
+performs g (WaitOver a) = harmless g (WaitOver a) _ (λ c. elim c [ ])
+performs g (Fail a) = fail-answers g a
+performs g (Damage a b p q) = damage-answers g a b p q
+
+-- ---- checks 8 to 12
+
+work-listed : (g : Group) (s : Step) → Listed (workNumbers s) (need (actorWorks g s) 12 0)
+work-listed g (Send a b q) = search (checks, nothing)
+work-listed g (Note a p q) = search (checks, nothing)
+work-listed g (Begin a) = search (checks, nothing)
+work-listed g (Deliver a b) = search (checks, nothing)
+work-listed g (Write a) = search (checks, nothing)
+work-listed g (Saved a) = nothing
+work-listed g (Fetch a) = search (checks, nothing)
+work-listed g (Restored a) = search (checks, nothing)
+work-listed g (WaitOver a) = search (checks, nothing)
+work-listed g (Fail a) = search (checks, nothing)
+work-listed g (Damage a b p q) = nothing
+
+entry-listed : (g : Group) (s : Step) → Listed (10 ∷ 11 ∷ workNumbers s) (entryRefusal g s)
+entry-listed g s = search (checks, work-listed)
+
+decoded-answers : (g : Group) (d : Decoded) → Answer g (refusalNumbers d) (Crashes g d) (stepDecoded g d)
+decoded-answers g Malformed = refused refl (λ c. elim c [ ])
+decoded-answers g Unused = refused refl (λ c. elim c [ ])
+decoded-answers g (Taken s) = recast (to, from) (refusing (entryRefusal g s) (entry-listed g s) (performs g s))
+  where
+    to : (entryRefusal g s ≡ 0) × ((kindRefusal g s ≡ 0) × Cause g s) → Crashes g (Taken s)
+    to (e, (k, c)) = crashes e k c
+
+    from : Crashes g (Taken s) → (entryRefusal g s ≡ 0) × ((kindRefusal g s ≡ 0) × Cause g s)
+    from (crashes e k c) = (e, (k, c))
+
+-- no refusal number is 50
+pub not-fifty : (d : Decoded) → among 50 (refusalNumbers d) ≡ false
+not-fifty Malformed = refl
+not-fifty Unused = refl
+not-fifty (Taken (Send a b q)) = refl
+not-fifty (Taken (Note a p q)) = refl
+not-fifty (Taken (Begin a)) = refl
+not-fifty (Taken (Deliver a b)) = refl
+not-fifty (Taken (Write a)) = refl
+not-fifty (Taken (Saved a)) = refl
+not-fifty (Taken (Fetch a)) = refl
+not-fifty (Taken (Restored a)) = refl
+not-fifty (Taken (WaitOver a)) = refl
+not-fifty (Taken (Fail a)) = refl
+not-fifty (Taken (Damage a b p q)) = refl
+
+-- ---- the theorems
+
+module _ (g : Group) (r : List ℕ) where
+  step-answers : Answer g (refusalNumbers (decode r)) (Crashes g (decode r)) (step g r)
+  unfolding step
+  step-answers = decoded-answers g (decode r)
+
+  -- "Answers: 0 taken, 50 taken and the group crashed, else the refusal": a number that the paper lists for the record
+  pub answers-listed : (step g r .answer ≡ 0) ⊎ ((step g r .answer ≡ 50) ⊎ (among (step g r .answer) (refusalNumbers (decode r)) ≡ true))
+  answers-listed = listed step-answers
+
+  -- "A refusal leaves group and store unchanged."
+  pub refusal-keeps : (step g r .answer ≡ 0 → ⊥) → (step g r .answer ≡ 50 → ⊥) → step g r .group ≡ g
+  refusal-keeps = keeps step-answers
+
+  -- "crash stops the whole group in one step, which puts every working cabinet, a failing one too, in crashed and does nothing else"
+  pub crash-stops : step g r .answer ≡ 50 → step g r .group ≡ crashAll g
+  crash-stops = crashes-all (not-fifty (decode r)) step-answers
+
+  -- "The group crashes when, and only when"
+  pub crash-exactly : (step g r .answer ≡ 50) ↔ Crashes g (decode r)
+  crash-exactly = exactly (not-fifty (decode r)) step-answers

@@ -1,0 +1,5 @@
+-- What the protocol claims of every run.
+pub mod Stepping
+pub mod Demand
+pub mod Bounds
+pub mod Examples

@@ -1,0 +1,52 @@
+-- Each move and each kind of step keeps the invariant.
+-- normal packets and notes
+pub mod Noting
+pub mod Sending
+pub mod Dropping
+pub mod Taking
+-- going to normal with a resume
+pub mod Rousing
+pub mod Waking
+-- saving: the cut
+pub mod Joining
+pub mod Comparing
+pub mod Cutting
+pub mod Beginning
+-- saving: the store and the commit
+pub mod Pieces
+pub mod Writing
+pub mod Reporting
+pub mod CommitPairs
+pub mod CommitNodes
+pub mod CommitSums
+pub mod Committing
+pub mod Saving
+pub mod Adopting
+-- entering error
+pub mod FirstFault
+pub mod ErrorSeen
+pub mod Erring
+pub mod GoingOn
+pub mod Hearing
+pub mod Recovering
+pub mod Faulted
+pub mod Heeding
+pub mod LinkFault
+pub mod Damaging
+-- failing
+pub mod Undoing
+pub mod Failing
+pub mod Alarming
+pub mod FailPlaces
+pub mod FailStep
+pub mod WaitingOver
+-- recovering
+pub mod Fetching
+pub mod Restoring
+pub mod EndPairs
+pub mod EndNodes
+pub mod Ending
+pub mod RestoredStep
+pub mod Resuming
+-- every packet that comes
+pub mod Delivering
