@@ -1,4 +1,6 @@
 -- The invariant behind demand 3: its facts, what they come to, and what a move owes of them.
+-- states and versions
+pub mod States
 -- the facts
 pub mod Facts
 pub mod Whole

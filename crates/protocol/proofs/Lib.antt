@@ -1,6 +1,6 @@
 -- What is proved of the definitions in specs/: `Answers` and `Claims` hold the theorems of document 01, the others serve demand 3.
-pub mod Answers
 pub mod State
+pub mod Answers
 pub mod Invariant
 pub mod Moves
 pub mod Claims

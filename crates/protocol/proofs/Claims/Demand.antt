@@ -26,16 +26,16 @@ use Rattle.protocol.specs.Kinds.{need, orRefuse}
 use Rattle.protocol.specs.Entry.{step, stepDecoded, decode, firstOf, secondOf, isCabinet, actorWorks, perform}
 use Rattle.protocol.specs.History.{History, World, recordDecoded, advance, run, opening, ends}
 use Rattle.protocol.specs.Restored.{Restored, Octets, Records, worldAfter, DemandThree}
-use Rattle.protocol.proofs.Answers.Tests.{in-state, those-marked}
-use Rattle.protocol.proofs.Answers.Entry.{refusal-keeps, crash-stops}
 use Rattle.protocol.proofs.State.Fun.{never, and-true, and-intro, cond-elim}
-use Rattle.protocol.proofs.State.States.{failed-state, not-both}
 use Rattle.protocol.proofs.State.Every.{every-step, FitsIn, decode-fits}
 use Rattle.protocol.proofs.State.Counting.{step-n}
 use Rattle.protocol.proofs.State.View.{view}
 use Rattle.protocol.proofs.State.Shape.{Shaped, Lined, Pictured, shaped}
 use Rattle.protocol.proofs.State.Sim.{Fit}
 use Rattle.protocol.proofs.State.Runs.{loaded-fit}
+use Rattle.protocol.proofs.Answers.Tests.{in-state, those-marked}
+use Rattle.protocol.proofs.Answers.Entry.{refusal-keeps, crash-stops}
+use Rattle.protocol.proofs.Invariant.States.{failed-state, not-both}
 use Rattle.protocol.proofs.Invariant.Facts.{Ghost, unaware}
 use Rattle.protocol.proofs.Invariant.Whole.{Inv}
 use Rattle.protocol.proofs.Invariant.Past.{Past, Next, Stays, after}

@@ -1,7 +1,7 @@
 -- A move at one cabinet: what pairs and cabinets without it held they still hold, so a move owes the pairs from it, those to it, the
 -- pair of it with itself, and the cabinet.
 use Prim.Native.Nat.{ℕ}
-use mathlib.Core.Path.{_≡_, sym, ap, _∙_, fun-ext}
+use mathlib.Core.Path.{_≡_, sym, ap, _∙_, fun-ext, refl}
 use mathlib.Core.Logic.{_≢_}
 use mathlib.Core.Bool.{Bool, true, not, _&&_}
 use mathlib.Core.List.{List}
@@ -10,10 +10,11 @@ use Rattle.line.specs.declared.Packet.{Packet}
 use Rattle.cabinet.specs.declared.Image.{Image}
 use Rattle.cabinet.specs.State.{works, inRecovery, isUnknown}
 use Rattle.protocol.specs.History.{upd}
+use Rattle.cabinet.specs.declared.State.{State}
 use Rattle.protocol.proofs.State.Fun.{upd-elim, upd-same, upd-other, sum-cong, upd-id, kept, kept-at}
 use Rattle.protocol.proofs.State.View.{View, Own, Side, used}
 use Rattle.protocol.proofs.Invariant.Facts.{Big, Mind, Wire, Ghost, Pair, Node, Books, aware, unaware, amount}
-use Rattle.protocol.proofs.Invariant.Whole.{PairAt, NodeAt, BooksAt, GroundOf, PlacesOf, MeetsOf, ChainOf, SumsOf, lkOf, outOf, gotOf}
+use Rattle.protocol.proofs.Invariant.Whole.{PairAt, NodeAt, BooksAt, GroundOf, PlacesOf, MeetsOf, ChainOf, SumsOf, lkOf, outOf, gotOf, Inv}
 
 -- ---- the group and the ghost after a move at c; lines, logs and slots are given whole
 
@@ -75,8 +76,8 @@ pub got-kept : (γ δ : Ghost) (c : ℕ) → ((d : ℕ) → δ .wire d c .taken 
 got-kept γ δ c e = sum-cong _ _ 8 (λ d l. ap amount (e d))
 
 -- ---- facts about the whole group, where the functions that they read stay
--- a move at c that leaves its work, home, table and links alone
 
+-- a move at c that leaves its work, home, table and links alone
 module _ (v : View) (γ : Ghost) (c : ℕ) (o : Own) (m : Mind) (s : ℕ → Side) (l : ℕ → ℕ → List Packet) (z : ℕ → Bool → Image)
     (w : ℕ → ℕ → Wire) (work : works (o .state) ≡ works (v .own c .state)) (tab : m .tab ≡ γ .mind c .tab) (links : (i j : ℕ) → w i j .lk ≡ γ .wire i j .lk) where
   lk-kept : _≡_ {A = ℕ → ℕ → Bool} (λ i j. w i j .lk) (lkOf γ)
@@ -154,3 +155,37 @@ same-ghost γ c = same-mind γ (γ .big) c (γ .wire)
 -- and one that leaves the view as it was
 pub same-view : (v : View) (c : ℕ) → moved v c (v .own c) (v .side c) (v .lines) (v .slots) ≡ v
 same-view v c = λ t. record { own = upd-id (v .own) c t; side = upd-id (v .side) c t; lines = v .lines; slots = v .slots; sound = v .sound }
+
+-- ---- a move that leaves a cabinet's phase, home and store, and its progress in the save, as they were
+
+abbrev pub SameOwn : Own → Own → Type 0
+SameOwn o x = (o .state ≡ x .state) × (o .version ≡ x .version) × (o .alarm ≡ x .alarm) × (o .home ≡ x .home) × (o .store ≡ x .store)
+
+abbrev pub SameMind : Mind → Mind → Type 0
+SameMind m k =
+    (m .tab ≡ k .tab) × (m .joined ≡ k .joined) × (m .done ≡ k .done) × (m .wrote ≡ k .wrote) × (m .base ≡ k .base) × (m .top ≡ k .top) × (m .prev ≡ k .prev)
+
+module _ (n total : ℕ) (v : View) (γ : Ghost) (i : Inv n total v γ) (c : ℕ) (o : Own) (m : Mind) (s : ℕ → Side) (l : ℕ → ℕ → List Packet)
+    (z : ℕ → Bool → Image) (w : ℕ → ℕ → Wire) (e : SameOwn o (v .own c)) (f : SameMind m (γ .mind c)) (links : (a d : ℕ) → w a d .lk ≡ γ .wire a d .lk)
+    (uses : (d : ℕ) → used (s d) ≡ used (v .side c d)) where
+  work : works (o .state) ≡ works (v .own c .state)
+  work = ap works (e .0)
+
+  calm : unaware (γ .big) o ≡ unaware (γ .big) (v .own c)
+  calm = ap (λ (x : State). works x && not (γ .big .faulted && inRecovery x)) (e .0)
+
+  -- it owes the pairs, the cabinets and the bookings
+  pub quiet-inv : ((a d : ℕ) → PairAt (moved v c o s l z) (minded γ (γ .big) c m w) a d) → ((a : ℕ) → NodeAt (moved v c o s l z) (minded γ (γ .big) c m w) a)
+      → ((a : ℕ) → BooksAt (moved v c o s l z) (minded γ (γ .big) c m w) a) → Inv n total (moved v c o s l z) (minded γ (γ .big) c m w)
+  quiet-inv pairs nodes books = record {
+    core = record {
+      pairs = pairs;
+      nodes = nodes;
+      books = books;
+      ground = move-ground v γ c o m s l z w work (f .0) links (γ .big) refl refl (e .3) (e .4) (i .core .ground);
+      chain = move-chain v γ c o m s l z w work calm (f .0) (f .1) (f .2) (f .3) (ap isUnknown (e .1)) (i .core .chain);
+      sums = move-sums total γ (γ .big) c m w refl (f .4) (f .5) (f .6) (i .core .sums);
+    };
+    places = move-places v γ c o m s l z w work (f .0) links (γ .big) refl (ap (λ (x : State). γ .big .faulted && inRecovery x) (e .0)) (e .2) (i .places);
+    meets = move-meets v c o s l z work uses (i .meets);
+  }

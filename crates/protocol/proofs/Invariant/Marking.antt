@@ -10,7 +10,7 @@ use Rattle.protocol.proofs.State.View.{View, Side, used, setCabinet}
 use Rattle.protocol.proofs.Invariant.Facts.{Mind, Ghost, Pair}
 use Rattle.protocol.proofs.Invariant.Whole.{Inv, PairAt}
 use Rattle.protocol.proofs.Invariant.Past.{Past, HeldIn}
-use Rattle.protocol.proofs.Invariant.Frame.{same-ghost, moved, minded, move-pairs, move-nodes, move-books, move-ground, move-places, move-meets, move-chain, move-sums}
+use Rattle.protocol.proofs.Invariant.Frame.{same-ghost, moved, minded, move-pairs, move-nodes, move-books, quiet-inv}
 
 -- the pairs in which cabinet h's side towards a is read, from h and to h
 module _ (n total : ℕ) (v : View) (γ : Ghost) (i : Inv n total v γ) (h a : ℕ) (f : Side) (uses : used f ≡ used (v .side h a))
@@ -41,18 +41,13 @@ module _ (n total : ℕ) (v : View) (γ : Ghost) (i : Inv n total v γ) (h a : �
   uses-at = upd-case (λ (j : ℕ) (x : Side). used x ≡ used (v .side h j)) (v .side h) a f uses (λ j d. refl)
 
   pub mark-inv : Inv n total (setCabinet v h (v .own h) s′) γ
-  mark-inv = subst (λ (δ : Ghost). Inv n total (setCabinet v h (v .own h) s′) δ) (same-ghost γ h) (record {
-    core = record {
-      pairs = mark-pairs;
-      nodes = move-nodes v γ (γ .big) h (v .own h) (γ .mind h) s′ (v .lines) (v .slots) (γ .wire) (λ j d. refl) (λ j d. i .core .nodes j) (i .core .nodes h);
-      books = move-books v γ (γ .big) h (v .own h) (γ .mind h) s′ (v .lines) (v .slots) (γ .wire) (λ j. refl) (λ j. refl) (λ j n. i .core .books j) (i .core .books h);
-      ground = move-ground v γ h (v .own h) (γ .mind h) s′ (v .lines) (v .slots) (γ .wire) refl refl (λ i j. refl) (γ .big) refl refl refl refl (i .core .ground);
-      chain = move-chain v γ h (v .own h) (γ .mind h) s′ (v .lines) (v .slots) (γ .wire) refl refl refl refl refl refl refl (i .core .chain);
-      sums = move-sums total γ (γ .big) h (γ .mind h) (γ .wire) refl refl refl refl (i .core .sums);
-    };
-    places = move-places v γ h (v .own h) (γ .mind h) s′ (v .lines) (v .slots) (γ .wire) refl refl (λ i j. refl) (γ .big) refl refl refl (i .places);
-    meets = move-meets v h (v .own h) s′ (v .lines) (v .slots) refl uses-at (i .meets);
-  })
+  mark-inv =
+      subst (λ (δ : Ghost). Inv n total (setCabinet v h (v .own h) s′) δ) (same-ghost γ h)
+      (quiet-inv n total v γ i h (v .own h) (γ .mind h) s′ (v .lines) (v .slots) (γ .wire)
+      (refl, refl, refl, refl, refl) (refl, refl, refl, refl, refl, refl, refl) (λ i j. refl) uses-at
+      mark-pairs
+      (move-nodes v γ (γ .big) h (v .own h) (γ .mind h) s′ (v .lines) (v .slots) (γ .wire) (λ j d. refl) (λ j d. i .core .nodes j) (i .core .nodes h))
+      (move-books v γ (γ .big) h (v .own h) (γ .mind h) s′ (v .lines) (v .slots) (γ .wire) (λ j. refl) (λ j. refl) (λ j n. i .core .books j) (i .core .books h)))
 
 -- the history, where a cabinet's ghost changes in nothing that the history is compared with
 module _ (n : ℕ) (v : View) (γ : Ghost) (h : History) (p : Past n v γ h) (a : ℕ) (m : Mind) (tab : m .tab ≡ γ .mind a .tab) (done : m .done ≡ γ .mind a .done)

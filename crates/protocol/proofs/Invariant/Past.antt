@@ -15,8 +15,8 @@ use Rattle.protocol.specs.declared.Step.{Step}
 use Rattle.protocol.specs.History.{Cut, Save, History, latest, newest, observe, noteCuts, cutIn}
 use Rattle.protocol.specs.Restored.{Balanced, Restored}
 use Rattle.protocol.proofs.State.Fun.{and-true}
-use Rattle.protocol.proofs.State.States.{apart}
 use Rattle.protocol.proofs.State.View.{View, Own, view}
+use Rattle.protocol.proofs.Invariant.States.{apart}
 use Rattle.protocol.proofs.Invariant.Facts.{Big, Ghost, aware}
 use Rattle.protocol.proofs.Invariant.Whole.{Inv, awareOf, workOf}
 

@@ -21,12 +21,12 @@ use Rattle.group.specs.declared.Group.{Group}
 use Rattle.group.specs.Group.{cabinet, line, some, recoveringOnes, stateOf}
 use Rattle.cabinet.specs.declared.Cabinet.{Cabinet}
 use native.Mathlib.Decide.{decLt}
-use Rattle.protocol.proofs.Answers.Tests.{some-recovers, in-recovery}
 use Rattle.protocol.proofs.State.Fun.{never, is-true, is-false, and-true, and-intro}
-use Rattle.protocol.proofs.State.States.{recovering-works}
 use Rattle.protocol.proofs.State.View.{View, Own, Side, used, content, packetOf, view}
 use Rattle.protocol.proofs.State.Sim.{Fit}
 use Rattle.protocol.proofs.State.ViewMoves.{Room}
+use Rattle.protocol.proofs.Answers.Tests.{some-recovers, in-recovery}
+use Rattle.protocol.proofs.Invariant.States.{recovering-works}
 use Rattle.protocol.proofs.Invariant.Facts.{Big, Mind, Wire, Ghost, Pair, Alarms, aware, unaware, linked, count, isSafe}
 use Rattle.protocol.proofs.Invariant.Whole.{Core, GroundOf}
 

@@ -27,7 +27,6 @@ use Rattle.group.specs.Group.{cabinet, withCabinet, stateOf, line, withLine}
 use Rattle.protocol.specs.History.{History, Save, upd, goes, newest, markKnown, noteKnown, noteCuts}
 use Rattle.protocol.specs.Restored.{Balanced}
 use Rattle.protocol.specs.Moves.{adopt}
-use Rattle.protocol.proofs.Answers.Tests.{in-state}
 use Rattle.protocol.proofs.State.Fun.{never, and-true, and-intro, upd-elim, upd-same, upd-other, not-not}
 use Rattle.protocol.proofs.State.Every.{with-cabinet, with-line}
 use Rattle.protocol.proofs.State.View.{View, Own, used, content, view, setLines, setLine}
@@ -35,6 +34,7 @@ use Rattle.protocol.proofs.State.Shape.{Shaped, Lined, Pictured, shaped
 use Rattle.protocol.proofs.State.Sim.{Fit, view-outgoing, in-use, past-use, row-content}
 use Rattle.protocol.proofs.State.Methods.{unmark}
 use Rattle.protocol.proofs.State.ViewMoves.{Room, view-resumed, sim-off, view-off}
+use Rattle.protocol.proofs.Answers.Tests.{in-state}
 use Rattle.protocol.proofs.Invariant.Facts.{Ghost, aware, unaware, linked, behind}
 use Rattle.protocol.proofs.Invariant.Whole.{Inv, workOf}
 use Rattle.protocol.proofs.Invariant.Past.{Past, Kept, Stays, no-cuts, aware-not-normal}

@@ -28,13 +28,13 @@ use Rattle.protocol.specs.Moves.{join, cutIfAll, takeCheckp}
 use Rattle.protocol.specs.Receive.{joinIf}
 use Rattle.protocol.specs.Kinds.{beginRefusal}
 use Rattle.protocol.specs.History.{upd, Cut, History, withCuts, noteCuts, cutIn}
-use Rattle.protocol.proofs.Answers.Tests.{in-state, same-check}
 use Rattle.protocol.proofs.State.Fun.{never, is-true, and-true, upd-elim, upd-same, upd-other, upd-id, kept-at, kept-pair}
 use Rattle.protocol.proofs.State.Every.{passed, with-cabinet, with-line, ok-join}
 use Rattle.protocol.proofs.State.View.{View, Own, Side, used, content, view, setLine}
 use Rattle.protocol.proofs.State.Shape.{Shaped, Lined, Pictured, shaped}
 use Rattle.protocol.proofs.State.Sim.{Fit, view-cabinet, in-use, past-use}
 use Rattle.protocol.proofs.State.ViewMoves.{Room, vPut, vJoin, vCompare, vCut, sim-join, sim-compare, sim-cut, sim-off, view-off}
+use Rattle.protocol.proofs.Answers.Tests.{in-state, same-check}
 use Rattle.protocol.proofs.Invariant.Facts.{Mind, Wire, Ghost, unaware}
 use Rattle.protocol.proofs.Invariant.Whole.{Inv, workOf}
 use Rattle.protocol.proofs.Invariant.Past.{Past, Kept, Stays, no-cuts, past-view, aware-not-normal}

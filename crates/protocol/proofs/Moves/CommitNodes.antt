@@ -10,11 +10,11 @@ use Rattle.cabinet.specs.declared.Version.{Version}
 use Rattle.cabinet.specs.declared.Version.the-variants.{Known}
 use Rattle.cabinet.specs.declared.Image.{Image}
 use Rattle.cabinet.specs.State.{isIn, works, inRecovery, isUnknown, bitOf}
-use Rattle.protocol.proofs.Answers.Tests.{in-state}
 use Rattle.protocol.proofs.State.Fun.{never, is-true, is-false, and-intro, cond-elim, not-not}
-use Rattle.protocol.proofs.State.States.{other-state}
 use Rattle.protocol.proofs.State.View.{Own}
 use Rattle.protocol.proofs.State.Shape.{Pictured}
+use Rattle.protocol.proofs.Answers.Tests.{in-state}
+use Rattle.protocol.proofs.Invariant.States.{other-state}
 use Rattle.protocol.proofs.Invariant.Facts.{Big, Mind, Node, Books, aware, unaware}
 use Rattle.protocol.proofs.Invariant.Words.{un-works, un-not-aware, un-or-aware}
 use Rattle.protocol.proofs.Moves.Rousing.{oResumed, resumed-not-aware}

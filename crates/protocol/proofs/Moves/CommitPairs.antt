@@ -8,11 +8,11 @@ use native.Mathlib.Omega.{arith}
 use Rattle.line.specs.declared.Packet.{Packet}
 use Rattle.cabinet.specs.declared.State.the-variants.{CheckpBegin, Checkpointed}
 use Rattle.cabinet.specs.State.{isIn, works, inSaving}
-use Rattle.protocol.proofs.Answers.Tests.{in-state}
 use Rattle.protocol.proofs.State.Fun.{never, is-false, and-true, and-intro}
-use Rattle.protocol.proofs.State.States.{other-state}
 use Rattle.protocol.proofs.State.View.{Own, Side, used}
 use Rattle.protocol.proofs.State.Methods.{sMarks}
+use Rattle.protocol.proofs.Answers.Tests.{in-state}
+use Rattle.protocol.proofs.Invariant.States.{other-state}
 use Rattle.protocol.proofs.Invariant.Facts.{Big, Mind, Wire, Ghost, Pair, Stream, unaware, linked, behind, closed, count, isCheckp, isSafe}
 use Rattle.protocol.proofs.Invariant.Logs.{count-none}
 use Rattle.protocol.proofs.Invariant.Words.{linked-used}

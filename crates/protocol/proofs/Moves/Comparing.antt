@@ -27,7 +27,7 @@ use Rattle.protocol.proofs.Invariant.Facts.{Big, Mind, Wire, Ghost, Pai
 use Rattle.protocol.proofs.Invariant.Whole.{Inv}
 use Rattle.protocol.proofs.Invariant.Logs.{equal-checks, check-none, differ-none, only-alarms, no-checkp-end, count-none}
 use Rattle.protocol.proofs.Invariant.Words.{un-or-aware, un-not-aware, linked-used, live-line}
-use Rattle.protocol.proofs.Invariant.Frame.{out-kept, got-kept, move-pairs, move-nodes, move-books, move-ground, move-places, move-meets, move-chain, move-sums}
+use Rattle.protocol.proofs.Invariant.Frame.{out-kept, got-kept, move-pairs, move-nodes, move-books, quiet-inv}
 
 -- ---- logs
 
@@ -290,21 +290,13 @@ module _ (n total : ℕ) (v : View) (γ : Ghost) (i : Inv n total v γ) (a b : �
     used-kept = kept-at used (v .side b) a (sCompared (v .side b a)) refl
 
     compared : Inv n total v′ δ
-    compared = record {
-      core = record {
-        pairs = move-pairs v γ (γ .big) b (v .own b) (γ .mind b) s′ lines′ (v .slots) wire′ (λ c d x y. line-past c d y) (λ c d x y. wire-past c d y)
-            (λ c d x y. i .core .pairs c d) (λ j x. from-b j) self (λ c x. to-b c);
-        nodes = move-nodes v γ (γ .big) b (v .own b) (γ .mind b) s′ lines′ (v .slots) wire′ (λ c x. refl) (λ c x. i .core .nodes c) (i .core .nodes b);
-        books = move-books v γ (γ .big) b (v .own b) (γ .mind b) s′ lines′ (v .slots) wire′ (λ c. out-kept γ δ c (sent-kept c))
-            (λ c. got-kept γ δ c (λ d. taken-kept d c)) (λ c x. i .core .books c) (i .core .books b);
-        ground = move-ground v γ b (v .own b) (γ .mind b) s′ lines′ (v .slots) wire′ refl refl link-kept (γ .big)
-            refl refl refl refl (i .core .ground);
-        chain = move-chain v γ b (v .own b) (γ .mind b) s′ lines′ (v .slots) wire′ refl refl refl refl refl refl refl (i .core .chain);
-        sums = move-sums total γ (γ .big) b (γ .mind b) wire′ refl refl refl refl (i .core .sums);
-      };
-      places = move-places v γ b (v .own b) (γ .mind b) s′ lines′ (v .slots) wire′ refl refl link-kept (γ .big) refl refl refl (i .places);
-      meets = move-meets v b (v .own b) s′ lines′ (v .slots) refl used-kept (i .meets);
-    }
+    compared = quiet-inv n total v γ i b (v .own b) (γ .mind b) s′ lines′ (v .slots) wire′
+        (refl, refl, refl, refl, refl) (refl, refl, refl, refl, refl, refl, refl) link-kept used-kept
+        (move-pairs v γ (γ .big) b (v .own b) (γ .mind b) s′ lines′ (v .slots) wire′ (λ c d x y. line-past c d y) (λ c d x y. wire-past c d y)
+        (λ c d x y. i .core .pairs c d) (λ j x. from-b j) self (λ c x. to-b c))
+        (move-nodes v γ (γ .big) b (v .own b) (γ .mind b) s′ lines′ (v .slots) wire′ (λ c x. refl) (λ c x. i .core .nodes c) (i .core .nodes b))
+        (move-books v γ (γ .big) b (v .own b) (γ .mind b) s′ lines′ (v .slots) wire′ (λ c. out-kept γ δ c (sent-kept c))
+        (λ c. got-kept γ δ c (λ d. taken-kept d c)) (λ c x. i .core .books c) (i .core .books b))
 
     -- an equal comparison in checkp-begin
     pub compare-inv : Inv n total v′ (gCompare γ a b)

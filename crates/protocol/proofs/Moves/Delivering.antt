@@ -27,13 +27,13 @@ use Rattle.protocol.specs.Moves.{findLinkFault, takeCheckp, adopt, endRe
 use Rattle.protocol.specs.Receive.{serving, takesFrom, joinIf, resumesFrom, receive, receiveNormal, receiveCheckp, receiveResume, receiveRecover, receiveFault, receiveInvalid}
 use Rattle.protocol.specs.Kinds.{delivered}
 use Rattle.protocol.specs.History.{History, goes, noteTaken, noteKnown, noteCuts}
-use Rattle.protocol.proofs.Answers.Tests.{in-state, same-check}
 use Rattle.protocol.proofs.State.Fun.{never, and-true, and-intro, cond-elim, and-off, or-split}
-use Rattle.protocol.proofs.State.States.{serving-calm, not-both, apart, opens-serve}
 use Rattle.protocol.proofs.State.View.{view, used, content}
 use Rattle.protocol.proofs.State.Sim.{Fit, in-use}
 use Rattle.protocol.proofs.State.Methods.{hitsLink}
 use Rattle.protocol.proofs.State.ViewMoves.{sim-off}
+use Rattle.protocol.proofs.Answers.Tests.{in-state, same-check}
+use Rattle.protocol.proofs.Invariant.States.{serving-calm, not-both, apart, opens-serve}
 use Rattle.protocol.proofs.Invariant.Facts.{Ghost, aware, unaware, linked, behind, resumeFirst, count, isFault, isInvalid}
 use Rattle.protocol.proofs.Invariant.Whole.{Inv}
 use Rattle.protocol.proofs.Invariant.Past.{Past, Kept}
@@ -122,7 +122,7 @@ module _ (total : ℕ) (g : Group) (h : History) (γ : Ghost) (w : Fit g) (i : I
   unused-drop : marked (inUse (cabinet g b)) a ≡ false → Owed (taken (off g a b))
   unused-drop e _ =
       unnoted (off g a b) (ap (λ (t : Bool). noteTaken (t && takesFrom (cabinet g b) a) h a b p) e) off-goes
-      (keeps-drop total g h γ w i past a b la lb other full
+      (keeps-drop total g h γ w i past a b la lb full
       (λ n u k. never (back u k) unused) (λ r u k. absurd (never (back (and-true {s = unaware (γ .big) (view g .own b)} r .0) k) unused))
       (λ f u. absurd (never (and-true {s = used (view g .side a b)} u .1) unused)))
     where
@@ -164,7 +164,7 @@ module _ (total : ℕ) (g : Group) (h : History) (γ : Ghost) (w : Fit g) (i : I
         cond-elim Owed (serving (stateOf (off g a b) b))
         (λ s. absurd (not-linked-fault q e out (serves-un (sym serving-off ∙ s))))
         (λ s _. unnoted (off g a b) (ap (λ (t : Bool). noteTaken (marked (inUse (cabinet g b)) a && t) h a b p) out ∙ ap (λ (t : Bool). noteTaken (t && false) h a b p) uses) off-goes
-        (keeps-drop total g h γ w i past a b la lb other full
+        (keeps-drop total g h γ w i past a b la lb full
         (λ n u k. not-linked-fault q e out u) (λ r u k. absurd (not-linked-fault q e out (and-true {s = unaware (γ .big) (view g .own b)} r .0)))
         (λ x u. absurd (never x (ap isFault e))))))
       where
@@ -183,7 +183,7 @@ module _ (total : ℕ) (g : Group) (h : History) (γ : Ghost) (w : Fit g) (i : I
     -- a checkp that is dropped comes to a cabinet that does not wait for a resume
     checkp-drop : (v : Check) → p ≡ Checkp v → Kept total g γ (off g a b) (noteCuts h g (off g a b))
     checkp-drop v e =
-        keeps-drop total g h γ w i past a b la lb other full (λ n u k. never n (ap isNormal e)) (λ r u k. absurd (no-resume r u k)) (λ x u. absurd (never x (ap isFault e)))
+        keeps-drop total g h γ w i past a b la lb full (λ n u k. never n (ap isNormal e)) (λ r u k. absurd (no-resume r u k)) (λ x u. absurd (never x (ap isFault e)))
       where
         line-is : view g .lines a b ≡ Checkp v ∷ left
         line-is = here ∙ ap (λ (x : Packet). x ∷ left) e
@@ -242,7 +242,7 @@ module _ (total : ℕ) (g : Group) (h : History) (γ : Ghost) (w : Fit g) (i : I
     invalid-drop : p ≡ Invalid → serving (stateOf g b) ≡ false → Kept total g γ (off g a b) (noteCuts h g (off g a b))
     unfolding count
     invalid-drop e s =
-        keeps-drop total g h γ w i past a b la lb other full (λ n u k. never n (ap isNormal e)) (λ r u k. absurd (not-waiting r)) (λ x u. absurd (never x (ap isFault e)))
+        keeps-drop total g h γ w i past a b la lb full (λ n u k. never n (ap isNormal e)) (λ r u k. absurd (not-waiting r)) (λ x u. absurd (never x (ap isFault e)))
       where
         none-hurt : γ .big .calm ≡ true → ⊥
         none-hurt c = some-invalid left (subst (λ (l : List Packet). count isInvalid l ≡ 0) (here ∙ ap (λ (x : Packet). x ∷ left) e) (i .core .pairs a b .sound c))

@@ -50,7 +50,7 @@ module _ (b : Big) (c d : ℕ) (o : Own) (m : Mind) (p : Own) (n : Mind) (s t : 
   rest-end = ⊎-elim (λ e. absurd (nil≢cons (sym e))) (λ e. tail-eq (e .2))
 
   pub drop-pair : (isNormal x ≡ true → unaware b p ≡ true → linked m n w ≡ true → ⊥)
-      → (behind b p n ≡ true → unaware b o ≡ true → linked m n w ≡ true → resumeFirst k ≡ true)
+      → (behind b o m ≡ false → behind b p n ≡ true → unaware b o ≡ true → linked m n w ≡ true → resumeFirst k ≡ true)
       → (isFault x ≡ true → (used s && used t) ≡ true → (aware b p && t .heard) ≡ true) → Pair b c d o m p n s t k w
   unfolding count checkpLast
   drop-pair plain waits hears = record {
@@ -75,7 +75,7 @@ module _ (b : Big) (c d : ℕ) (o : Own) (m : Mind) (p : Own) (n : Mind) (s t : 
     noCheckp = λ u j. count-rest isCheckp x k (h .noCheckp u j);
     lastCheckp = λ u. h .lastCheckp u .1;
     behindEmpty = λ e. inl (rest-end (h .behindEmpty e));
-    resumed = λ j u f e. waits e u j;
+    resumed = λ j u f e. waits f e u j;
     came = h .came;
     tailHeard = h .tailHeard;
     stream = λ j u up. rest-stream (is-false (isNormal x) (λ e. plain e up j)) j u up;
@@ -89,43 +89,42 @@ module _ (b : Big) (c d : ℕ) (o : Own) (m : Mind) (p : Own) (n : Mind) (s t : 
 
 -- ---- the group
 
-module _ (n total : ℕ) (v : View) (γ : Ghost) (i : Inv n total v γ) (a b : ℕ) (p : Packet) (k : List Packet) (e : v .lines a b ≡ p ∷ k)
-    (plain : isNormal p ≡ true → unaware (γ .big) (v .own b) ≡ true → linked (γ .mind a) (γ .mind b) (γ .wire a b) ≡ true → ⊥)
-    (waits : behind (γ .big) (v .own b) (γ .mind b) ≡ true → unaware (γ .big) (v .own a) ≡ true → linked (γ .mind a) (γ .mind b) (γ .wire a b) ≡ true → resumeFirst k ≡ true)
-    (hears : isFault p ≡ true → (used (v .side a b) && used (v .side b a)) ≡ true → (aware (γ .big) (v .own b) && v .side b a .heard) ≡ true) where
-  abbrev Between : ℕ → ℕ → List Packet → Type 0
-  Between c d l = Pair (γ .big) c d (v .own c) (γ .mind c) (v .own d) (γ .mind d) (v .side c d) (v .side d c) l (γ .wire c d)
-
-  drop-here : Between a b k
-  drop-here = drop-pair _ _ _ _ _ _ _ _ _ p k _ (subst (Between a b) e (i .core .pairs a b)) plain waits hears
-
-  drop-pairs : (c d : ℕ) → PairAt (setLine v a b k) γ c d
-  drop-pairs c d = elim (ℕ-discrete c a) [
+-- a line may be changed where its pair is told anew: no other fact reads it
+module _ (n total : ℕ) (v : View) (γ : Ghost) (i : Inv n total v γ) (a b : ℕ) (k : List Packet)
+    (here : Pair (γ .big) a b (v .own a) (γ .mind a) (v .own b) (γ .mind b) (v .side a b) (v .side b a) k (γ .wire a b)) where
+  line-pairs : (c d : ℕ) → PairAt (setLine v a b k) γ c d
+  line-pairs c d = elim (ℕ-discrete c a) [
     | yes f ↦ elim (ℕ-discrete d b) [
-      | yes j ↦ rw (f, j, upd-same (v .lines) a (upd (v .lines a) b k), upd-same (v .lines a) b k) drop-here
+      | yes j ↦ rw (f, j, upd-same (v .lines) a (upd (v .lines a) b k), upd-same (v .lines a) b k) here
       | no j ↦ rw (f, upd-same (v .lines) a (upd (v .lines a) b k), upd-other (v .lines a) b k d j) (i .core .pairs a d)
     ]
     | no f ↦ rw (upd-other (v .lines) a (upd (v .lines a) b k) c f) (i .core .pairs c d)
   ]
 
-  pub drop-inv : Inv n total (setLine v a b k) γ
-  drop-inv = record {
-    core = record {
-      pairs = drop-pairs;
-      nodes = i .core .nodes;
-      books = i .core .books;
-      ground = i .core .ground;
-      chain = i .core .chain;
-      sums = i .core .sums;
-    };
+  pub line-inv : Inv n total (setLine v a b k) γ
+  line-inv = record {
+    core = record { pairs = line-pairs; nodes = i .core .nodes; books = i .core .books; ground = i .core .ground; chain = i .core .chain; sums = i .core .sums };
     places = i .places;
     meets = i .meets;
   }
 
+module _ (n total : ℕ) (v : View) (γ : Ghost) (i : Inv n total v γ) (a b : ℕ) (p : Packet) (k : List Packet) (e : v .lines a b ≡ p ∷ k) where
+  -- the pair as the packet still stands on its line
+  pub head-pair : Pair (γ .big) a b (v .own a) (γ .mind a) (v .own b) (γ .mind b) (v .side a b) (v .side b a) (p ∷ k) (γ .wire a b)
+  head-pair =
+      subst (λ (l : List Packet). Pair (γ .big) a b (v .own a) (γ .mind a) (v .own b) (γ .mind b) (v .side a b) (v .side b a) l (γ .wire a b)) e (i .core .pairs a b)
+
+  pub drop-inv : (isNormal p ≡ true → unaware (γ .big) (v .own b) ≡ true → linked (γ .mind a) (γ .mind b) (γ .wire a b) ≡ true → ⊥)
+      → (behind (γ .big) (v .own b) (γ .mind b) ≡ true → unaware (γ .big) (v .own a) ≡ true → linked (γ .mind a) (γ .mind b) (γ .wire a b) ≡ true
+      → resumeFirst k ≡ true)
+      → (isFault p ≡ true → (used (v .side a b) && used (v .side b a)) ≡ true → (aware (γ .big) (v .own b) && v .side b a .heard) ≡ true)
+      → Inv n total (setLine v a b k) γ
+  drop-inv plain waits hears = line-inv n total v γ i a b k (drop-pair _ _ _ _ _ _ _ _ _ p k _ head-pair plain (λ f. waits) hears)
+
 -- ---- the step
 
 module _ (total : ℕ) (g : Group) (h : History) (γ : Ghost) (w : Fit g) (i : Inv (g .n) total (view g) γ) (past : Past (g .n) (view g) γ h)
-    (a b : ℕ) (la : a < 8) (lb : b < 8) (other : a ≢ b) (full : isEmpty (oldest (line g a b)) ≡ false) where
+    (a b : ℕ) (la : a < 8) (lb : b < 8) (full : isEmpty (oldest (line g a b)) ≡ false) where
   abbrev g′ : Group
   g′ = withLine g a b (rest (line g a b))
 

@@ -10,8 +10,8 @@ use Rattle.cabinet.specs.declared.Version.the-variants.{Unknown}
 use Rattle.cabinet.specs.declared.Image.{Image}
 use Rattle.cabinet.specs.State.{isIn, works, isUnknown}
 use Rattle.protocol.proofs.State.Fun.{never}
-use Rattle.protocol.proofs.State.States.{failed-state, other-state}
 use Rattle.protocol.proofs.State.View.{Own}
+use Rattle.protocol.proofs.Invariant.States.{failed-state, other-state}
 use Rattle.protocol.proofs.Invariant.Facts.{Big, Mind, Node, Books, aware, unaware}
 use Rattle.protocol.proofs.Invariant.Words.{un-works}
 use Rattle.protocol.proofs.Moves.Rousing.{oResumed}

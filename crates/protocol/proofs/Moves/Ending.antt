@@ -19,10 +19,10 @@ use Rattle.cabinet.specs.declared.Alarm.{Alarm}
 use Rattle.cabinet.specs.declared.Alarm.the-variants.{Quiet, Fault as At}
 use Rattle.cabinet.specs.State.{isIn, works, isUnknown, isFor}
 use Rattle.protocol.specs.History.{upd}
-use Rattle.protocol.proofs.Answers.Tests.{fault-for}
 use Rattle.protocol.proofs.State.Fun.{never, is-false, and-true, and-intro, sum-zero, upd-same, upd-other, upd-elim, kept}
 use Rattle.protocol.proofs.State.View.{View, Own, Side, used}
 use Rattle.protocol.proofs.State.Methods.{sCleared, hitsCabinet, hitsLink}
+use Rattle.protocol.proofs.Answers.Tests.{fault-for}
 use Rattle.protocol.proofs.Invariant.Facts.{Big, Mind, Ghost, Pair, Books, unaware, amount}
 use Rattle.protocol.proofs.Invariant.Whole.{Ground, Place-of, failed, faulty, Places, Inv, PairAt, NodeAt, BooksAt, workOf, awareOf, alarmOf, outOf, gotOf, GroundOf, PlacesOf, MeetsOf, ChainOf, SumsOf}
 use Rattle.protocol.proofs.Invariant.Logs.{resumedBy}

@@ -18,9 +18,9 @@ use Rattle.cabinet.specs.declared.Image.{Image}
 use Rattle.cabinet.specs.State.{isIn, works, inRecovery, isUnknown}
 use Rattle.protocol.specs.History.{History, upd}
 use Rattle.protocol.proofs.State.Fun.{never, is-true, is-false, and-true, and-intro, upd-elim, upd-same, upd-other, or-right, or-left, kept-at, or-map}
-use Rattle.protocol.proofs.State.States.{place-same}
 use Rattle.protocol.proofs.State.View.{View, Own, Side, used, setSound}
 use Rattle.protocol.proofs.State.Methods.{sAlarmed, hitsCabinet, hitsLink}
+use Rattle.protocol.proofs.Invariant.States.{place-same}
 use Rattle.protocol.proofs.Invariant.Facts.{Big, Mind, Wire, Ghost, Pair, Node, Books, aware, unaware, closed}
 use Rattle.protocol.proofs.Invariant.Whole.{Core, Place-of, failed, faulty, PairAt, PlacesOf, MeetsOf, ChainOf, workOf, alarmOf, awareOf, calmOf, knownOf, tabOf, lkOf}
 use Rattle.protocol.proofs.Invariant.Past.{Past, past-view}
@@ -393,7 +393,7 @@ module _ (v : View) (γ : Ghost) (c : ℕ) (un : unaware (γ .big) (v .own c) �
   pub error-places-at : PlacesOf (setSound (vError v c q) sound) (gError (gFaulted γ) (v .own c))
   error-places-at = subst (λ (u : View). PlacesOf (setSound u sound) ε) (sym (error-seen v c q)) erred-places
 
--- and it is: a cabinet that is not in error, recovering or recovered enters error
+-- a cabinet that is not in error, recovering or recovered enters error
 pub enter-core : (n total : ℕ) (v : View) (γ : Ghost) → Core n total v γ → (γ .big .faulted ≡ false → (j : ℕ) → inRecovery (v .own j .state) ≡ false)
     → (c : ℕ) → works (v .own c .state) ≡ true → inRecovery (v .own c .state) ≡ false → (q : Place)
     → ((d : ℕ) → used (sAlarmed q c d (v .side c d)) ≡ true → workOf v d ≡ true) → Core n total (vError v c q) (gError (gFaulted γ) (v .own c))

@@ -198,7 +198,6 @@ erred-small (Known x) q true = tt
 erred-small (Unknown x) q true = tt
 erred-small x q false = tt
 
--- what is in use after the strike was in use before
 and-part : (s t x y : Bool) → ((s && x) && (t && y)) ≡ true → (s && t) ≡ true
 and-part true true x y e = refl
 and-part true false x y e = absurd (false≢true (and-true {s = x} e .1))

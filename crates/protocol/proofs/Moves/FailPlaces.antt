@@ -12,9 +12,9 @@ use Rattle.line.specs.declared.Place.the-variants.{Cabinet as AtCabinet}
 use Rattle.cabinet.specs.declared.Alarm.the-variants.{Fault as At}
 use Rattle.cabinet.specs.State.{inRecovery}
 use Rattle.protocol.proofs.State.Fun.{never, is-true, and-true, and-intro, not-true-false}
-use Rattle.protocol.proofs.State.States.{place-same}
 use Rattle.protocol.proofs.State.View.{View, Own, Side, used}
 use Rattle.protocol.proofs.State.ViewMoves.{vFailed}
+use Rattle.protocol.proofs.Invariant.States.{place-same}
 use Rattle.protocol.proofs.Invariant.Facts.{Ghost, linked}
 use Rattle.protocol.proofs.Invariant.Whole.{Inv, PlacesOf, MeetsOf, Place-of, failed, workOf, awareOf}
 use Rattle.protocol.proofs.Invariant.Words.{un-of, aware-recovers, used-linked}

@@ -22,13 +22,13 @@ use Rattle.group.specs.Group.{cabinet, stateOf, rowsOf, working, some, recoveri
 use Rattle.protocol.specs.Moves.{markFailed, alarmTo}
 use Rattle.protocol.specs.Kinds.{failCrashes}
 use Rattle.protocol.specs.History.{Save, History, newest, passOver, withSaves, noteCuts}
-use Rattle.protocol.proofs.Answers.Tests.{in-state}
 use Rattle.protocol.proofs.State.Fun.{never, is-false, and-true, and-not}
 use Rattle.protocol.proofs.State.Every.{ok-markFailed}
 use Rattle.protocol.proofs.State.View.{View, Own, used, view}
 use Rattle.protocol.proofs.State.Shape.{Shaped, Lined, Pictured, shaped}
 use Rattle.protocol.proofs.State.Sim.{Fit}
 use Rattle.protocol.proofs.State.ViewMoves.{vFailed, sim-failed}
+use Rattle.protocol.proofs.Answers.Tests.{in-state}
 use Rattle.protocol.proofs.Invariant.Facts.{Big, Ghost}
 use Rattle.protocol.proofs.Invariant.Whole.{Core, Inv, workOf}
 use Rattle.protocol.proofs.Invariant.Past.{Past, Kept, no-cuts}

@@ -20,12 +20,12 @@ use Rattle.protocol.specs.Receive.{serving}
 use Rattle.protocol.specs.Moves.{enterError, hear}
 use Rattle.protocol.specs.History.{History, upd, noteCuts}
 use Rattle.protocol.proofs.State.Fun.{never, and-intro, upd-elim, upd-same, upd-other, kept, kept-at, upd-swap}
-use Rattle.protocol.proofs.State.States.{serving-calm, place-same}
 use Rattle.protocol.proofs.State.Every.{ok-enterError}
 use Rattle.protocol.proofs.State.View.{View, Own, used, view, setLine}
 use Rattle.protocol.proofs.State.Shape.{Shaped, Lined, Pictured, shaped}
 use Rattle.protocol.proofs.State.Sim.{Fit}
 use Rattle.protocol.proofs.State.ViewMoves.{vHear, sim-hear, view-off}
+use Rattle.protocol.proofs.Invariant.States.{serving-calm, place-same}
 use Rattle.protocol.proofs.Invariant.Facts.{Ghost, aware, unaware}
 use Rattle.protocol.proofs.Invariant.Whole.{Core, Inv, Place-of, PlacesOf, MeetsOf, workOf, alarmOf, awareOf, tabOf, lkOf}
 use Rattle.protocol.proofs.Invariant.Past.{Past, Kept, no-cuts, past-view, aware-not-normal}

@@ -20,20 +20,20 @@ use Rattle.group.specs.declared.Group.{Group}
 use Rattle.group.specs.Group.{cabinet, withCabinet, stateOf, slot}
 use Rattle.protocol.specs.History.{History, upd, goes, noteKnown, noteCuts}
 use Rattle.protocol.specs.Kinds.{fetchRefusal, fetchPiece}
-use Rattle.protocol.proofs.Answers.Tests.{in-state}
 use Rattle.protocol.proofs.State.Fun.{never, is-true, is-false, and-true, and-intro, upd-elim, upd-same}
-use Rattle.protocol.proofs.State.States.{restoring-works, other-state}
 use Rattle.protocol.proofs.State.Every.{passed}
 use Rattle.protocol.proofs.State.View.{View, Own, Side, view, ownOf, sideOf, setCabinet}
 use Rattle.protocol.proofs.State.Shape.{Pictured, shaped}
 use Rattle.protocol.proofs.State.Sim.{Fit, view-cabinet}
 use Rattle.protocol.proofs.State.Methods.{sFresh, side-fetched}
 use Rattle.protocol.proofs.State.ViewMoves.{oImage, oPhase, oPieces}
+use Rattle.protocol.proofs.Answers.Tests.{in-state}
+use Rattle.protocol.proofs.Invariant.States.{restoring-works, other-state}
 use Rattle.protocol.proofs.Invariant.Facts.{Big, Mind, Wire, Ghost, Pair, Node, Books, SameTo, aware, unaware, behind, closed}
 use Rattle.protocol.proofs.Invariant.Whole.{Inv, PairAt, workOf}
 use Rattle.protocol.proofs.Invariant.Past.{Past, Kept, Stays, no-cuts, past-view, aware-not-normal}
 use Rattle.protocol.proofs.Invariant.Words.{un-not-aware, aware-works, aware-not-un}
-use Rattle.protocol.proofs.Invariant.Frame.{same-ghost, minded, move-pairs, move-nodes, move-books, move-ground, move-places, move-meets, move-chain, move-sums}
+use Rattle.protocol.proofs.Invariant.Frame.{same-ghost, minded, move-pairs, move-nodes, move-books, move-ground, move-places, move-meets, move-chain, move-sums, quiet-inv}
 use Rattle.protocol.proofs.Moves.Waking.{gAdopted, adopted-pair, adopted-node, adopted-books}
 use Rattle.protocol.proofs.Moves.Pieces.{piece-more, all-pieces}
 use Rattle.protocol.proofs.Moves.Adopting.{past-adopted}
@@ -108,22 +108,15 @@ module _ (n total : ℕ) (v : View) (γ : Ghost) (i : Inv n total v γ) (c : ℕ
       (λ d f. piece-to _ _ _ _ _ _ _ _ _ _ _ (h d c) k x)
 
   pieced-inv : Inv n total (pieced v c k x) γ
-  pieced-inv = subst (λ (δ : Ghost). Inv n total (pieced v c k x) δ) (same-ghost γ c) (record {
-    core = record {
-      pairs = pieced-pairs;
-      nodes = move-nodes v γ (γ .big) c o′ (γ .mind c) (v .side c) (v .lines) (v .slots) (γ .wire) (λ j d. refl) (λ j d. i .core .nodes j)
-          (piece-node _ _ _ _ _ (i .core .nodes c) aw state k x l e);
-      books = move-books v γ (γ .big) c o′ (γ .mind c) (v .side c) (v .lines) (v .slots) (γ .wire) (λ j. refl) (λ j. refl) (λ j d. i .core .books j)
-          (piece-books _ _ _ _ _ (i .core .nodes c) aw state k x _ _ (i .core .books c));
-      ground = move-ground v γ c o′ (γ .mind c) (v .side c) (v .lines) (v .slots) (γ .wire) refl refl (λ j d. refl) (γ .big)
-          refl refl refl refl (i .core .ground);
-      chain = move-chain v γ c o′ (γ .mind c) (v .side c) (v .lines) (v .slots) (γ .wire) refl refl refl refl refl refl refl (i .core .chain);
-      sums = move-sums total γ (γ .big) c (γ .mind c) (γ .wire) refl refl refl refl (i .core .sums);
-    };
-    places = move-places v γ c o′ (γ .mind c) (v .side c) (v .lines) (v .slots) (γ .wire) refl refl (λ j d. refl) (γ .big)
-        refl refl refl (i .places);
-    meets = move-meets v c o′ (v .side c) (v .lines) (v .slots) refl (λ d. refl) (i .meets);
-  })
+  pieced-inv =
+      subst (λ (δ : Ghost). Inv n total (pieced v c k x) δ) (same-ghost γ c)
+      (quiet-inv n total v γ i c o′ (γ .mind c) (v .side c) (v .lines) (v .slots) (γ .wire)
+      (refl, refl, refl, refl, refl) (refl, refl, refl, refl, refl, refl, refl) (λ j d. refl) (λ d. refl)
+      pieced-pairs
+      (move-nodes v γ (γ .big) c o′ (γ .mind c) (v .side c) (v .lines) (v .slots) (γ .wire) (λ j d. refl) (λ j d. i .core .nodes j)
+      (piece-node _ _ _ _ _ (i .core .nodes c) aw state k x l e))
+      (move-books v γ (γ .big) c o′ (γ .mind c) (v .side c) (v .lines) (v .slots) (γ .wire) (λ j. refl) (λ j. refl) (λ j d. i .core .books j)
+      (piece-books _ _ _ _ _ (i .core .nodes c) aw state k x _ _ (i .core .books c))))
 
 -- ---- the last piece
 

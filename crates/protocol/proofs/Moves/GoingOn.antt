@@ -16,8 +16,8 @@ use Rattle.cabinet.specs.declared.Image.{Image}
 use Rattle.cabinet.specs.State.{isIn, works, isUnknown}
 use Rattle.protocol.specs.History.{upd}
 use Rattle.protocol.proofs.State.Fun.{never, is-false, and-true, and-intro, upd-elim, upd-same, upd-other, kept-at, or-map}
-use Rattle.protocol.proofs.State.States.{known-same, known-not-unknown}
 use Rattle.protocol.proofs.State.View.{View, Own, Side, used}
+use Rattle.protocol.proofs.Invariant.States.{known-same, known-not-unknown}
 use Rattle.protocol.proofs.Invariant.Facts.{Big, Mind, Wire, Ghost, Pair, Node, Books, Alarms, aware, unaware, closed, amountsIn, isFault, isInvalid, count}
 use Rattle.protocol.proofs.Invariant.Whole.{Core, PairAt, ChainOf, workOf, calmOf, knownOf}
 use Rattle.protocol.proofs.Invariant.Logs.{count-snoc, amounts-plain}
@@ -25,7 +25,7 @@ use Rattle.protocol.proofs.Invariant.Words.{un-not-aware, aware-faulted
 use Rattle.protocol.proofs.Invariant.Frame.{minded, move-pairs, move-nodes, move-books, move-ground, move-sums, same-ghost}
 use Rattle.protocol.proofs.Moves.ErrorSeen.{vRecover, oGoes, goesLine, gone-on, recover-seen}
 
--- ---- going on from error with the version
+-- ---- its lines
 
 goes-count : (f : Packet → Bool) (x : Bool) (l : List Packet) (u : Bool) → f (Recover x) ≡ false → count f (goesLine x l u) ≡ count f l
 goes-count f x l true e = count-snoc f l (Recover x) ∙ rw e (plus-none (count f l))

@@ -21,20 +21,20 @@ use Rattle.group.specs.declared.Group.{Group}
 use Rattle.group.specs.Group.{cabinet, stateOf, line, withLine}
 use Rattle.protocol.specs.History.{History, upd, noteCuts}
 use Rattle.protocol.specs.Moves.{hear}
-use Rattle.protocol.proofs.Answers.Tests.{fault-for}
 use Rattle.protocol.proofs.State.Fun.{never, is-true, and-true, and-intro, upd-elim, upd-same, upd-other, kept-at}
-use Rattle.protocol.proofs.State.States.{place-same}
 use Rattle.protocol.proofs.State.Every.{with-line}
 use Rattle.protocol.proofs.State.View.{View, Own, Side, used, content, view, setLine}
 use Rattle.protocol.proofs.State.Shape.{Shaped, Lined, Pictured, shaped}
 use Rattle.protocol.proofs.State.Sim.{Fit}
 use Rattle.protocol.proofs.State.Methods.{sMarks}
 use Rattle.protocol.proofs.State.ViewMoves.{vHear, sim-hear, sim-off, view-off}
+use Rattle.protocol.proofs.Answers.Tests.{fault-for}
+use Rattle.protocol.proofs.Invariant.States.{place-same}
 use Rattle.protocol.proofs.Invariant.Facts.{Big, Mind, Wire, Ghost, Pair, Alarms, aware, unaware, isFault, isInvalid, count, amountsIn}
 use Rattle.protocol.proofs.Invariant.Whole.{Inv}
 use Rattle.protocol.proofs.Invariant.Past.{Past, Kept, no-cuts, past-view, aware-not-normal}
 use Rattle.protocol.proofs.Invariant.Words.{un-not-aware, un-or-aware, aware-faulted, live-line}
-use Rattle.protocol.proofs.Invariant.Frame.{same-ghost, minded, move-pairs, move-nodes, move-books, move-ground, move-places, move-meets, move-chain, move-sums}
+use Rattle.protocol.proofs.Invariant.Frame.{same-ghost, minded, move-pairs, move-nodes, move-books, quiet-inv}
 
 -- ---- a fault packet at the head of a line
 
@@ -186,19 +186,12 @@ module _ (n total : ℕ) (v : View) (γ : Ghost) (i : Inv n total v γ) (a b : �
   same-use d = kept-at used (v .side b) a (sHeard (v .side b a)) refl d
 
   heard-inv : Inv n total (vHeard v a b k) γ′
-  heard-inv = record {
-    core = record {
-      pairs = move-pairs v γ (γ .big) b (v .own b) (γ .mind b) s′ l′ (v .slots) (γ .wire) (λ c d x y. line-to c d y) (λ c d x y. refl)
-          (λ c d x y. i .core .pairs c d) from self to;
-      nodes = move-nodes v γ (γ .big) b (v .own b) (γ .mind b) s′ l′ (v .slots) (γ .wire) (λ j d. refl) (λ j d. i .core .nodes j) (i .core .nodes b);
-      books = move-books v γ (γ .big) b (v .own b) (γ .mind b) s′ l′ (v .slots) (γ .wire) (λ j. refl) (λ j. refl) (λ j d. i .core .books j) (i .core .books b);
-      ground = move-ground v γ b (v .own b) (γ .mind b) s′ l′ (v .slots) (γ .wire) refl refl (λ i j. refl) (γ .big) refl refl refl refl (i .core .ground);
-      chain = move-chain v γ b (v .own b) (γ .mind b) s′ l′ (v .slots) (γ .wire) refl refl refl refl refl refl refl (i .core .chain);
-      sums = move-sums total γ (γ .big) b (γ .mind b) (γ .wire) refl refl refl refl (i .core .sums);
-    };
-    places = move-places v γ b (v .own b) (γ .mind b) s′ l′ (v .slots) (γ .wire) refl refl (λ i j. refl) (γ .big) refl refl refl (i .places);
-    meets = move-meets v b (v .own b) s′ l′ (v .slots) refl same-use (i .meets);
-  }
+  heard-inv = quiet-inv n total v γ i b (v .own b) (γ .mind b) s′ l′ (v .slots) (γ .wire)
+      (refl, refl, refl, refl, refl) (refl, refl, refl, refl, refl, refl, refl) (λ i j. refl) same-use
+      (move-pairs v γ (γ .big) b (v .own b) (γ .mind b) s′ l′ (v .slots) (γ .wire) (λ c d x y. line-to c d y) (λ c d x y. refl)
+      (λ c d x y. i .core .pairs c d) from self to)
+      (move-nodes v γ (γ .big) b (v .own b) (γ .mind b) s′ l′ (v .slots) (γ .wire) (λ j d. refl) (λ j d. i .core .nodes j) (i .core .nodes b))
+      (move-books v γ (γ .big) b (v .own b) (γ .mind b) s′ l′ (v .slots) (γ .wire) (λ j. refl) (λ j. refl) (λ j d. i .core .books j) (i .core .books b))
 
   pub hear-inv : Inv n total (vHeard v a b k) γ
   hear-inv = subst (λ (δ : Ghost). Inv n total (vHeard v a b k) δ) (same-ghost γ b) heard-inv

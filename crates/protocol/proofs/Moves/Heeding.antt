@@ -23,9 +23,9 @@ use Rattle.protocol.specs.Moves.{recoverWith, enterError, hear}
 use Rattle.protocol.specs.Receive.{serving, receiveRecover, receiveFault}
 use Rattle.protocol.specs.History.{History, goes, noteTaken, noteKnown, noteCuts}
 use Rattle.protocol.proofs.State.Fun.{never, and-true, cond-elim, and-off}
-use Rattle.protocol.proofs.State.States.{serves-or-restores, not-both}
 use Rattle.protocol.proofs.State.View.{view}
 use Rattle.protocol.proofs.State.Sim.{Fit}
+use Rattle.protocol.proofs.Invariant.States.{serves-or-restores, not-both}
 use Rattle.protocol.proofs.Invariant.Facts.{Ghost}
 use Rattle.protocol.proofs.Invariant.Whole.{Inv}
 use Rattle.protocol.proofs.Invariant.Past.{Past, Kept}
@@ -33,8 +33,6 @@ use Rattle.protocol.proofs.Invariant.Words.{live-line}
 use Rattle.protocol.proofs.Moves.Hearing.{off, off-line, keeps-heard, heard-aware}
 use Rattle.protocol.proofs.Moves.Recovering.{error-aware, keeps-recover, keeps-recover-dropped}
 use Rattle.protocol.proofs.Moves.Faulted.{keeps-fault, fault-not-normal}
-
--- ---- the states
 
 -- ---- the history
 

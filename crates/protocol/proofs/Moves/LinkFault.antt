@@ -29,13 +29,13 @@ use Rattle.protocol.specs.History.{History, upd, noteCuts}
 use Rattle.protocol.specs.Moves.{enterError}
 use Rattle.protocol.specs.Receive.{serving}
 use Rattle.protocol.proofs.State.Fun.{never, is-false, and-true, and-intro, upd-other, upd-swap}
-use Rattle.protocol.proofs.State.States.{serving-calm}
 use Rattle.protocol.proofs.State.Every.{with-line}
 use Rattle.protocol.proofs.State.View.{View, Side, used, content, view, setLine, setSound}
 use Rattle.protocol.proofs.State.Shape.{Shaped, Lined, Pictured, shaped}
 use Rattle.protocol.proofs.State.Sim.{Fit, in-use}
 use Rattle.protocol.proofs.State.Methods.{hitsLink, sAlarmed}
 use Rattle.protocol.proofs.State.ViewMoves.{sim-off, view-off}
+use Rattle.protocol.proofs.Invariant.States.{serving-calm}
 use Rattle.protocol.proofs.Invariant.Facts.{Ghost, aware, unaware, count, isInvalid}
 use Rattle.protocol.proofs.Invariant.Whole.{Core, Inv, GroundOf, Place-of, faulty, workOf, tabOf, lkOf}
 use Rattle.protocol.proofs.Invariant.Past.{Past, Kept, no-cuts, past-view, aware-not-normal}

@@ -17,17 +17,17 @@ use Rattle.group.specs.declared.Group.{Group}
 use Rattle.group.specs.Group.{cabinet, withCabinet, stateOf}
 use Rattle.protocol.specs.Kinds.{noteRefusal}
 use Rattle.protocol.specs.History.{History, noteCuts}
-use Rattle.protocol.proofs.Answers.Tests.{in-state}
 use Rattle.protocol.proofs.State.Fun.{never, and-true, kept-at}
 use Rattle.protocol.proofs.State.Every.{passed}
 use Rattle.protocol.proofs.State.View.{View, Own, Side, view}
 use Rattle.protocol.proofs.State.Sim.{Fit, view-cabinet}
 use Rattle.protocol.proofs.State.ViewMoves.{oImage}
+use Rattle.protocol.proofs.Answers.Tests.{in-state}
 use Rattle.protocol.proofs.Invariant.Facts.{Big, Mind, Wire, Ghost, Pair, Node, Books, SameTo, aware, unaware}
 use Rattle.protocol.proofs.Invariant.Whole.{Inv, PairAt, BooksAt}
 use Rattle.protocol.proofs.Invariant.Past.{Past, Kept, no-cuts, past-view, aware-not-normal}
 use Rattle.protocol.proofs.Invariant.Words.{un-of}
-use Rattle.protocol.proofs.Invariant.Frame.{same-ghost, moved, minded, move-pairs, move-nodes, move-books, move-ground, move-places, move-meets, move-chain, move-sums}
+use Rattle.protocol.proofs.Invariant.Frame.{same-ghost, moved, minded, move-pairs, move-nodes, move-books, quiet-inv}
 
 -- another image is no matter to any pair
 module _ (b : Big) (c d : ℕ) (o : Own) (m : Mind) (p : Own) (n : Mind) (s t : Side) (l : List Packet) (w : Wire) (h : Pair b c d o m p n s t l w) where
@@ -82,19 +82,12 @@ module _ (n total : ℕ) (v : View) (γ : Ghost) (c : ℕ) (x : Image) (i : Inv 
       (λ j n. i .core .books j) (image-books _ _ _ _ _ x same (i .core .books c)) k
 
   pub noted-inv : Inv n total (noted v c x) γ′
-  noted-inv = record {
-    core = record {
-      pairs = noted-pairs;
-      nodes = move-nodes v γ (γ .big) c o′ (γ .mind c) (v .side c) (v .lines) (v .slots) (γ .wire) (λ j d. refl) (λ j d. i .core .nodes j)
-          (image-node _ _ _ _ _ (i .core .nodes c) un normal x);
-      books = noted-books;
-      ground = move-ground v γ c o′ (γ .mind c) (v .side c) (v .lines) (v .slots) (γ .wire) refl refl (λ i j. refl) (γ .big) refl refl refl refl (i .core .ground);
-      chain = move-chain v γ c o′ (γ .mind c) (v .side c) (v .lines) (v .slots) (γ .wire) refl refl refl refl refl refl refl (i .core .chain);
-      sums = move-sums total γ (γ .big) c (γ .mind c) (γ .wire) refl refl refl refl (i .core .sums);
-    };
-    places = move-places v γ c o′ (γ .mind c) (v .side c) (v .lines) (v .slots) (γ .wire) refl refl (λ i j. refl) (γ .big) refl refl refl (i .places);
-    meets = move-meets v c o′ (v .side c) (v .lines) (v .slots) refl (λ d. refl) (i .meets);
-  }
+  noted-inv = quiet-inv n total v γ i c o′ (γ .mind c) (v .side c) (v .lines) (v .slots) (γ .wire)
+      (refl, refl, refl, refl, refl) (refl, refl, refl, refl, refl, refl, refl) (λ i j. refl) (λ d. refl)
+      noted-pairs
+      (move-nodes v γ (γ .big) c o′ (γ .mind c) (v .side c) (v .lines) (v .slots) (γ .wire) (λ j d. refl) (λ j d. i .core .nodes j)
+      (image-node _ _ _ _ _ (i .core .nodes c) un normal x))
+      noted-books
 
 -- ---- the step
 

@@ -2,20 +2,16 @@
 -- the version of the save that the rule gives; any other is dropped.
 use Prim.Native.Nat.{ℕ, _<_}
 use mathlib.Core.Path.{_≡_, refl, sym, ap, _∙_, subst}
-use mathlib.Core.Logic.{_⊎_, inl, ⊎-elim}
-use mathlib.Core.Bool.{Bool, true, false, not, _&&_, false≢true}
-use mathlib.Core.List.{List, [], _∷_, _++_, nil≢cons}
-use lib.ListN.{drop}
-use native.Mathlib.Omega.{arith}
-use native.Mathlib.Decide.{ℕ-discrete}
+use mathlib.Core.Logic.{⊎-elim}
+use mathlib.Core.Bool.{Bool, true, false, false≢true}
+use mathlib.Core.List.{List, _∷_}
 use Rattle.marks.specs.Marks.{marked}
-use Rattle.line.specs.declared.Payload.{Payload}
 use Rattle.line.specs.declared.Place.{Place}
 use Rattle.line.specs.declared.Packet.{Packet}
-use Rattle.line.specs.declared.Packet.the-variants.{Recover, Fault}
+use Rattle.line.specs.declared.Packet.the-variants.{Recover}
 use Rattle.line.specs.Line.{oldest}
 use Rattle.cabinet.specs.declared.State.{State}
-use Rattle.cabinet.specs.declared.State.the-variants.{Normal, Checkpointing, Error, Recovering, Recovered}
+use Rattle.cabinet.specs.declared.State.the-variants.{Normal, Checkpointing, Error, Recovering}
 use Rattle.cabinet.specs.declared.Version.{Version}
 use Rattle.cabinet.specs.declared.Version.the-variants.{Known}
 use Rattle.cabinet.specs.State.{isIn, works, isUnknown}
@@ -23,17 +19,18 @@ use Rattle.group.specs.declared.Group.{Group}
 use Rattle.group.specs.Group.{cabinet, stateOf, line}
 use Rattle.protocol.specs.History.{History, upd, noteCuts}
 use Rattle.protocol.specs.Moves.{recoverWith}
-use Rattle.protocol.proofs.Answers.Tests.{in-state}
-use Rattle.protocol.proofs.State.Fun.{never, is-true, and-intro, upd-elim, upd-same, upd-other, kept-at}
-use Rattle.protocol.proofs.State.View.{View, Own, Side, view, setLine}
+use Rattle.protocol.proofs.State.Fun.{never, is-true, and-intro, upd-elim, kept-at}
+use Rattle.protocol.proofs.State.View.{View, Own, view, setLine}
 use Rattle.protocol.proofs.State.Sim.{Fit}
 use Rattle.protocol.proofs.State.ViewMoves.{oPhase, view-off}
-use Rattle.protocol.proofs.Invariant.Facts.{Big, Mind, Wire, Ghost, Pair, Stream, Alarms, Differ, aware, unaware, linked, isFault, isCheckp, isInvalid, count, checkpLast, resumeFirst}
-use Rattle.protocol.proofs.Invariant.Whole.{Core, Inv, PairAt, PlacesOf}
+use Rattle.protocol.proofs.Answers.Tests.{in-state}
+use Rattle.protocol.proofs.Invariant.Facts.{Ghost, Alarms, aware, isFault, resumeFirst}
+use Rattle.protocol.proofs.Invariant.Whole.{Core, Inv, PlacesOf}
 use Rattle.protocol.proofs.Invariant.Past.{Past, Kept, no-cuts, past-view, aware-not-normal}
-use Rattle.protocol.proofs.Invariant.Logs.{head-eq, tail-eq, alarms-rest, amounts-rest, small-rest, count-rest, alarm-first}
+use Rattle.protocol.proofs.Invariant.Logs.{alarm-first}
 use Rattle.protocol.proofs.Invariant.Words.{aware-works}
 use Rattle.protocol.proofs.Invariant.Frame.{same-ghost, move-places, move-meets}
+use Rattle.protocol.proofs.Moves.Dropping.{head-pair, line-inv, drop-pair}
 use Rattle.protocol.proofs.Moves.FirstFault.{gBig, bFrozen}
 use Rattle.protocol.proofs.Moves.ErrorSeen.{vRecover, sim-recover′}
 use Rattle.protocol.proofs.Moves.GoingOn.{recover-core}
@@ -41,84 +38,13 @@ use Rattle.protocol.proofs.Moves.Hearing.{off, left-of, off-fit, off-li
 
 -- ---- the packet comes off
 
-module _ (b : Big) (c d : ℕ) (o : Own) (m : Mind) (p : Own) (n : Mind) (s t : Side) (x : Bool) (k : List Packet) (w : Wire)
-    (h : Pair b c d o m p n s t (Recover x ∷ k) w) where
-  left-stream : linked m n w ≡ true → unaware b o ≡ true → unaware b p ≡ true
-      → Stream (m .joined && not (n .joined && t .come)) (t .hurt) (s .put) (t .took) w k
-  left-stream j u up =
-      let f = h .stream j u up in
-      record {
-        equal = f .equal;
-        within = f .within;
-        withinSent = f .withinSent;
-        differ = subst (λ (r : List Payload). Differ (t .hurt) (drop (w .ver) (w .sent)) (drop (w .ver) (w .taken) ++ r)) (amounts-rest (Recover x) k refl) (f .differ);
-        reads = f .reads;
-        writes = f .writes;
-        carries = λ v r e. f .carries v (Recover x ∷ r) (ap (λ (y : List Packet). Recover x ∷ y) e);
-      }
-
-  no-fault : {A : Type 0} (q : Place) (l : List Packet) → Recover x ∷ k ≡ Fault q ∷ l → A
-  no-fault q l e = absurd (false≢true (ap isFault (head-eq e)))
-
-  left-end : (Recover x ∷ k ≡ []) ⊎ ((v : Bool) × (isIn (o .state) Recovered ≡ true) × (Recover x ∷ k ≡ Recover v ∷ [])) → k ≡ []
-  left-end = ⊎-elim (λ e. absurd (nil≢cons (sym e))) (λ e. tail-eq (e .2))
-
-  pub recover-off : Pair b c d o m p n s t k w
-  unfolding count checkpLast resumeFirst
-  recover-off = record {
-    table = h .table;
-    struck = h .struck;
-    closedJoined = h .closedJoined;
-    closedEqual = h .closedEqual;
-    closedEmpty = λ j e u. absurd (nil≢cons (sym (h .closedEmpty j e u)));
-    apart = h .apart;
-    owes = h .owes;
-    owesHome = h .owesHome;
-    reported = h .reported;
-    begunBare = h .begunBare;
-    readied = h .readied;
-    readyHeard = h .readyHeard;
-    silent = λ e. absurd (nil≢cons (sym (h .silent e)));
-    alarms = λ a q e. alarms-rest (o .version) q (Recover x) k (h .alarms a q e);
-    unheard = λ a us wp un q e. let f = h .unheard a us wp un q e in no-fault q (f .0) (f .1);
-    heard = λ e. count-rest isFault (Recover x) k (h .heard e);
-    heardOf = h .heardOf;
-    noFault = λ u. count-rest isFault (Recover x) k (h .noFault u);
-    noCheckp = λ u j. count-rest isCheckp (Recover x) k (h .noCheckp u j);
-    lastCheckp = λ u. h .lastCheckp u .1;
-    behindEmpty = λ e. inl (left-end (h .behindEmpty e));
-    resumed = h .resumed;
-    came = h .came;
-    tailHeard = h .tailHeard;
-    stream = left-stream;
-    fresh = h .fresh;
-    room = λ u. omega (arith, h .room u);
-    sound = λ e. count-rest isInvalid (Recover x) k (h .sound e);
-    unhurt = h .unhurt;
-    prefix = h .prefix;
-    small = (h .small .0, (h .small .1 .0, small-rest (Recover x) k (h .small .1 .1)));
-  }
-
-module _ (n total : ℕ) (v : View) (γ : Ghost) (i : Inv n total v γ) (a b : ℕ) (x : Bool) (k : List Packet) (is : v .lines a b ≡ Recover x ∷ k) where
-  abbrev Between : ℕ → ℕ → List Packet → Type 0
-  Between c d l = Pair (γ .big) c d (v .own c) (γ .mind c) (v .own d) (γ .mind d) (v .side c d) (v .side d c) l (γ .wire c d)
-
-  left-pairs : (c d : ℕ) → PairAt (setLine v a b k) γ c d
-  left-pairs c d = elim (ℕ-discrete c a) [
-    | yes f ↦ elim (ℕ-discrete d b) [
-      | yes j ↦ rw (f, j, upd-same (v .lines) a (upd (v .lines a) b k), upd-same (v .lines a) b k)
-          (recover-off _ _ _ _ _ _ _ _ _ x k _ (subst (Between a b) is (i .core .pairs a b)))
-      | no j ↦ rw (f, upd-same (v .lines) a (upd (v .lines a) b k), upd-other (v .lines a) b k d j) (i .core .pairs a d)
-    ]
-    | no f ↦ rw (upd-other (v .lines) a (upd (v .lines a) b k) c f) (i .core .pairs c d)
-  ]
-
-  pub recover-off-inv : Inv n total (setLine v a b k) γ
-  recover-off-inv = record {
-    core = record { pairs = left-pairs; nodes = i .core .nodes; books = i .core .books; ground = i .core .ground; chain = i .core .chain; sums = i .core .sums };
-    places = i .places;
-    meets = i .meets;
-  }
+pub recover-off-inv : (n total : ℕ) (v : View) (γ : Ghost) → Inv n total v γ → (a b : ℕ) (x : Bool) (k : List Packet) → v .lines a b ≡ Recover x ∷ k
+    → Inv n total (setLine v a b k) γ
+unfolding resumeFirst
+recover-off-inv n total v γ i a b x k is =
+    let h = head-pair n total v γ i a b (Recover x) k is in
+    line-inv n total v γ i a b k
+    (drop-pair _ _ _ _ _ _ _ _ _ (Recover x) k _ h (λ e. absurd (false≢true e)) (λ f e u j. h .resumed j u f e) (λ e. absurd (false≢true e)))
 
 -- ---- the step, where the packet is dropped
 

@@ -12,16 +12,16 @@ use Rattle.group.specs.declared.Group.{Group}
 use Rattle.group.specs.Group.{cabinet}
 use Rattle.protocol.specs.Kinds.{reportSaved}
 use Rattle.protocol.proofs.State.Fun.{never, is-false, upd-elim, upd-same, kept-at}
-use Rattle.protocol.proofs.State.States.{apart}
 use Rattle.protocol.proofs.State.Every.{with-cabinet}
 use Rattle.protocol.proofs.State.View.{View, Own, Side, view}
 use Rattle.protocol.proofs.State.Shape.{Shaped, Lined, Pictured, shaped}
 use Rattle.protocol.proofs.State.Sim.{Fit}
 use Rattle.protocol.proofs.State.Methods.{sMarks}
 use Rattle.protocol.proofs.State.ViewMoves.{vOwe, vSaved, sim-owe, sim-saved}
+use Rattle.protocol.proofs.Invariant.States.{apart}
 use Rattle.protocol.proofs.Invariant.Facts.{Big, Mind, Wire, Ghost, Pair, Node, Books, unaware}
 use Rattle.protocol.proofs.Invariant.Whole.{Inv, PairAt}
-use Rattle.protocol.proofs.Invariant.Frame.{moved, minded, move-pairs, move-nodes, move-books, move-ground, move-places, move-meets, move-chain, move-sums, same-view}
+use Rattle.protocol.proofs.Invariant.Frame.{moved, minded, move-pairs, move-nodes, move-books, same-view, quiet-inv}
 use Rattle.protocol.proofs.Invariant.Marking.{mark-inv}
 use Rattle.protocol.proofs.Moves.Writing.{owe-inv}
 
@@ -62,20 +62,15 @@ module _ (n total : ℕ) (v : View) (γ : Ghost) (i : Inv n total v γ) (a : ℕ
       (λ k n. told-to _ _ _ _ _ _ _ _ _ _ _ (h k a) wrote (bare k))
 
   pub told-inv : Inv n total v (gTold γ a)
-  told-inv = subst (λ (x : View). Inv n total x (gTold γ a)) (same-view v a) (record {
-    core = record {
-      pairs = told-pairs;
-      nodes = move-nodes v γ (γ .big) a (v .own a) m′ (v .side a) (v .lines) (v .slots) (γ .wire) (λ j d. refl) (λ j d. i .core .nodes j)
-          (told-node _ _ _ _ _ wrote (i .core .nodes a));
-      books = move-books v γ (γ .big) a (v .own a) m′ (v .side a) (v .lines) (v .slots) (γ .wire) (λ j. refl) (λ j. refl) (λ j n. i .core .books j)
-          (told-books _ _ _ _ _ (i .core .books a));
-      ground = move-ground v γ a (v .own a) m′ (v .side a) (v .lines) (v .slots) (γ .wire) refl refl (λ i j. refl) (γ .big) refl refl refl refl (i .core .ground);
-      chain = move-chain v γ a (v .own a) m′ (v .side a) (v .lines) (v .slots) (γ .wire) refl refl refl refl refl refl refl (i .core .chain);
-      sums = move-sums total γ (γ .big) a m′ (γ .wire) refl refl refl refl (i .core .sums);
-    };
-    places = move-places v γ a (v .own a) m′ (v .side a) (v .lines) (v .slots) (γ .wire) refl refl (λ i j. refl) (γ .big) refl refl refl (i .places);
-    meets = move-meets v a (v .own a) (v .side a) (v .lines) (v .slots) refl (λ d. refl) (i .meets);
-  })
+  told-inv =
+      subst (λ (x : View). Inv n total x (gTold γ a)) (same-view v a)
+      (quiet-inv n total v γ i a (v .own a) m′ (v .side a) (v .lines) (v .slots) (γ .wire)
+      (refl, refl, refl, refl, refl) (refl, refl, refl, refl, refl, refl, refl) (λ i j. refl) (λ d. refl)
+      told-pairs
+      (move-nodes v γ (γ .big) a (v .own a) m′ (v .side a) (v .lines) (v .slots) (γ .wire) (λ j d. refl) (λ j d. i .core .nodes j)
+      (told-node _ _ _ _ _ wrote (i .core .nodes a)))
+      (move-books v γ (γ .big) a (v .own a) m′ (v .side a) (v .lines) (v .slots) (γ .wire) (λ j. refl) (λ j. refl) (λ j n. i .core .books j)
+      (told-books _ _ _ _ _ (i .core .books a))))
 
 -- ---- the coordinator's mark
 

@@ -22,21 +22,22 @@ use Rattle.protocol.specs.Moves.{endRecovery}
 use Rattle.protocol.specs.Kinds.{mayReport, restoredRefusal, reportRestored, endIfAll}
 use Rattle.protocol.specs.History.{Cut, History, latest, imageIn, lostNow, noteEnd, noteCuts, ends, goes}
 use Rattle.protocol.specs.Restored.{Restored, counted, countedTo, amperes}
-use Rattle.protocol.proofs.Answers.Tests.{in-state}
 use Rattle.protocol.proofs.State.Fun.{never, is-false, and-true, and-intro, cond-elim, upd-elim, upd-same, upd-other, sum, kept-at, sum-tail}
-use Rattle.protocol.proofs.State.States.{restoring-one, restoring-works, known-is-known}
 use Rattle.protocol.proofs.State.Every.{passed, with-cabinet}
 use Rattle.protocol.proofs.State.View.{View, Own, Side, view, used}
 use Rattle.protocol.proofs.State.Shape.{Shaped, Lined, Pictured, shaped}
 use Rattle.protocol.proofs.State.Sim.{Fit, in-use}
 use Rattle.protocol.proofs.State.Methods.{sCleared}
 use Rattle.protocol.proofs.State.ViewMoves.{Room, vResumed, vRestored, sim-restored, sim-resume}
+use Rattle.protocol.proofs.Answers.Tests.{in-state}
+use Rattle.protocol.proofs.Invariant.States.{restoring-one, restoring-works, known-is-known}
 use Rattle.protocol.proofs.Invariant.Facts.{Mind, Ghost, unaware}
 use Rattle.protocol.proofs.Invariant.Whole.{Inv, workOf, awareOf}
-use Rattle.protocol.proofs.Invariant.Past.{Past, HeldIn, Kept, Next, kept-next, no-cuts, aware-not-normal}
+use Rattle.protocol.proofs.Invariant.Past.{Past, HeldIn, Kept, Next, kept-next, no-cuts, aware-not-normal, past-view}
 use Rattle.protocol.proofs.Invariant.Words.{un-not-aware, un-or-aware, aware-works, aware-faulted, chief-of, room-aware}
+use Rattle.protocol.proofs.Invariant.Marking.{past-mind}
 use Rattle.protocol.proofs.Moves.Rousing.{oResumed, roused, seen-roused}
-use Rattle.protocol.proofs.Moves.Restoring.{gReady, ready-inv, marked-inv}
+use Rattle.protocol.proofs.Moves.Restoring.{gReady, ready-inv, marked-inv, mReady}
 use Rattle.protocol.proofs.Moves.EndPairs.{bEnd, mEnd, wEnd}
 use Rattle.protocol.proofs.Moves.Ending.{tabled, ended-inv, all-aware, all-recovered}
 
@@ -107,38 +108,8 @@ module _ (total : ℕ) (g : Group) (h : History) (γ : Ghost) (w : Fit g) (i : I
   state1 : (c : ℕ) → stateOf g1 c ≡ stateOf g c
   state1 c = ap (λ (x : View). x .own c .state) seen1 ∙ kept-at (λ (x : Own). x .state) (view g .own) k (view g .own k) refl c
 
-  tops1 : (c : ℕ) → γ1 .mind c .top ≡ γ .mind c .top
-  tops1 c = kept-at (λ (m : Mind). m .top) (γ .mind) a _ refl c
-
-  tab1 : (c : ℕ) → γ1 .mind c .tab ≡ γ .mind c .tab
-  tab1 c = kept-at (λ (m : Mind). m .tab) (γ .mind) a _ refl c
-
   past1 : Past (g .n) (view g1) γ1 h
-  past1 = record {
-    sent = past .sent;
-    taken = past .taken;
-    hurt = past .hurt;
-    cuts = λ e c d.
-        let x = past .cuts e c (sym (kept-at (λ (m : Mind). m .done) (γ .mind) a _ refl c) ∙ d) in
-        (x .0, x .1, x .2 ∙ sym (kept-at (λ (m : Mind). m .cut) (γ .mind) a _ refl c), x .3, x .4);
-    noCut = λ e f c t. past .noCut e f c (sym (tab1 c) ∙ t);
-    known = past .known;
-    tops = λ c l. subst (HeldIn (h .lost c) (latest h .cut c)) (sym (tops1 c)) (past .tops c l);
-    balanced = past .balanced;
-    present = λ c t. past .present c (sym (tab1 c) ∙ t);
-    gone = λ c l t. past .gone c l (sym (tab1 c) ∙ t) ∙ ap some (sym (tops1 c));
-    beyond = λ c l. ap booked (tops1 c) ∙ past .beyond c l;
-    below = λ e.
-        let x = past .below e in (
-          x .0,
-          x .1,
-          x .2,
-          x .3,
-          (λ j d v. x .4 j d (sym (ap works (state1 j)) ∙ v)),
-          (λ c l. subst (HeldIn (h .lost c) _) (sym (kept-at (λ (m : Mind). m .prev) (γ .mind) a _ refl c)) (x .5 c l)),
-          x .6,
-        );
-  }
+  past1 = past-view (λ c. ap works (state1 c)) (past-mind (g .n) (view g) γ h past a (mReady (γ .mind a)) refl refl refl refl refl)
 
   cab1 : (c j : ℕ) → view g1 .side c j .cab ≡ view g .side c j .cab
   cab1 c j =

@@ -23,13 +23,13 @@ use Rattle.group.specs.Group.{cabinet, stateOf, line, withLine}
 use Rattle.protocol.specs.History.{History, upd, goes, noteCuts}
 use Rattle.protocol.specs.Moves.{endRecovery}
 use Rattle.protocol.specs.Receive.{resumesFrom}
-use Rattle.protocol.proofs.Answers.Tests.{in-state}
 use Rattle.protocol.proofs.State.Fun.{never, is-true, and-true, and-intro, upd-same, upd-other}
 use Rattle.protocol.proofs.State.Every.{with-line}
 use Rattle.protocol.proofs.State.View.{View, Side, used, content, view, setLine}
 use Rattle.protocol.proofs.State.Shape.{Shaped, Lined, Pictured, shaped}
 use Rattle.protocol.proofs.State.Sim.{Fit}
 use Rattle.protocol.proofs.State.ViewMoves.{Room, vPut, vBroadcast, vResumed, sim-resume, sim-off, view-off}
+use Rattle.protocol.proofs.Answers.Tests.{in-state}
 use Rattle.protocol.proofs.Invariant.Facts.{Ghost, aware, unaware, linked, behind, isFault}
 use Rattle.protocol.proofs.Invariant.Whole.{Inv}
 use Rattle.protocol.proofs.Invariant.Past.{Past, Kept, past-view}
@@ -173,6 +173,6 @@ module _ (total : ℕ) (g : Group) (h : History) (γ : Ghost) (w : Fit g) (i : I
 
     pub keeps-resume-dropped : Kept total g γ g1 (noteCuts h g g1)
     keeps-resume-dropped =
-        keeps-drop total g h γ w i past a b la lb other (rw first)
+        keeps-drop total g h γ w i past a b la lb (rw first)
         (λ e. absurd (false≢true (ap isNormal (sym first) ∙ e))) (λ e u j. absurd (none-waits e j))
         (λ e. absurd (false≢true (ap isFault (sym first) ∙ e)))

@@ -22,12 +22,12 @@ use Rattle.protocol.specs.Kinds.{savedRefusal, reportSaved, commitIfAll}
 use Rattle.protocol.specs.History.{History, Cut, latest, commits, noteCommit, noteCuts, upd}
 use Rattle.protocol.specs.Restored.{sentIn, takenIn}
 use Rattle.protocol.proofs.State.Fun.{never, is-false, and-true, upd-elim, upd-same, upd-other, kept-at}
-use Rattle.protocol.proofs.State.States.{known-is-known, saving-works}
 use Rattle.protocol.proofs.State.Every.{passed, ok-reportSaved}
 use Rattle.protocol.proofs.State.View.{View, Own, Side, used, view}
 use Rattle.protocol.proofs.State.Shape.{Shaped, Lined, Pictured, shaped}
 use Rattle.protocol.proofs.State.Sim.{Fit}
 use Rattle.protocol.proofs.State.ViewMoves.{Room, vBroadcast, vResumed, sim-resume}
+use Rattle.protocol.proofs.Invariant.States.{known-is-known, saving-works}
 use Rattle.protocol.proofs.Invariant.Facts.{Ghost, aware, unaware, linked}
 use Rattle.protocol.proofs.Invariant.Whole.{Inv, NodeAt, workOf}
 use Rattle.protocol.proofs.Invariant.Past.{Past, HeldIn, Kept, no-cuts, past-view, aware-not-normal}

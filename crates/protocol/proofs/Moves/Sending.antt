@@ -26,7 +26,6 @@ use Rattle.group.specs.declared.Group.{Group}
 use Rattle.group.specs.Group.{cabinet, stateOf, line}
 use Rattle.protocol.specs.Kinds.{need, sendRefusal, sent}
 use Rattle.protocol.specs.History.{History, upd, logged, withSent, noteCuts}
-use Rattle.protocol.proofs.Answers.Tests.{in-state}
 use Rattle.protocol.proofs.State.Fun.{never, and-true, and-intro, upd-same, upd-other, upd-elim, sum, sum-cong, sum-at, kept-at, upd-pair, pair-same, pair-other}
 use Rattle.protocol.proofs.State.Every.{passed}
 use Rattle.protocol.proofs.State.View.{View, Own, Side, used, view}
@@ -34,12 +33,13 @@ use Rattle.protocol.proofs.State.Shape.{Pictured}
 use Rattle.protocol.proofs.State.Sim.{Fit, in-use}
 use Rattle.protocol.proofs.State.Methods.{sRegisters}
 use Rattle.protocol.proofs.State.ViewMoves.{oImage, vSent, sim-sent}
+use Rattle.protocol.proofs.Answers.Tests.{in-state}
 use Rattle.protocol.proofs.Invariant.Facts.{Big, Mind, Wire, Ghost, Pair, Books, Stream, aware, unaware, linked, behind, closed, amountsIn, count, isFault, isCheckp, isSafe, isInvalid, amount}
 use Rattle.protocol.proofs.Invariant.Whole.{Inv, PairAt, BooksAt, outOf, gotOf}
 use Rattle.protocol.proofs.Invariant.Past.{Past, Kept, no-cuts, aware-not-normal}
 use Rattle.protocol.proofs.Invariant.Logs.{amounts-snoc, count-snoc, resume-more, differ-more, check-snoc, no-checkp-end, amount-snoc, small-snoc, checkp-last}
 use Rattle.protocol.proofs.Invariant.Words.{un-of, un-works, linked-used, all-counted}
-use Rattle.protocol.proofs.Invariant.Frame.{moved, minded, move-pairs, move-nodes, move-ground, move-places, move-meets, move-chain, move-sums, same-mind}
+use Rattle.protocol.proofs.Invariant.Frame.{moved, minded, move-pairs, move-nodes, same-mind, quiet-inv}
 use Rattle.protocol.proofs.Moves.Noting.{image-from, image-to, image-node}
 
 -- ---- the logs of one pair replaced
@@ -262,20 +262,12 @@ module _ (n total : ℕ) (v : View) (γ : Ghost) (i : Inv n total v γ) (a b : �
   moved-inv : Inv n total v′ γ′
   moved-inv =
       let links : (c d : ℕ) → w′ c d .lk ≡ γ .wire c d .lk = wire-kept (λ (w : Wire). w .lk) γ a b wire′ refl in
-      record {
-        core = record {
-          pairs = sent-pairs;
-          nodes = move-nodes v γ (γ .big) a o′ (γ .mind a) sides lines′ (v .slots) w′ (λ j d. refl) (λ j d. i .core .nodes j)
-              (image-node _ _ _ _ _ (i .core .nodes a) un normal x);
-          books = books′;
-          ground = move-ground v γ a o′ (γ .mind a) sides lines′ (v .slots) w′ refl refl links (γ .big) refl refl refl refl (i .core .ground);
-          chain = move-chain v γ a o′ (γ .mind a) sides lines′ (v .slots) w′ refl refl refl refl refl refl refl (i .core .chain);
-          sums = move-sums total γ (γ .big) a (γ .mind a) w′ refl refl refl refl (i .core .sums);
-        };
-        places = move-places v γ a o′ (γ .mind a) sides lines′ (v .slots) w′ refl refl links (γ .big) refl refl refl (i .places);
-        meets = move-meets v a o′ sides lines′ (v .slots) refl
-            (λ d. upd-elim (λ (s : Side). used s ≡ used (v .side a d)) (v .side a) b toB d (λ e. rw e) (λ e. refl)) (i .meets);
-      }
+      quiet-inv n total v γ i a o′ (γ .mind a) sides lines′ (v .slots) w′
+      (refl, refl, refl, refl, refl) (refl, refl, refl, refl, refl, refl, refl) links (λ d. upd-elim (λ (s : Side). used s ≡ used (v .side a d)) (v .side a) b toB d (λ e. rw e) (λ e. refl))
+      sent-pairs
+      (move-nodes v γ (γ .big) a o′ (γ .mind a) sides lines′ (v .slots) w′ (λ j d. refl) (λ j d. i .core .nodes j)
+      (image-node _ _ _ _ _ (i .core .nodes a) un normal x))
+      books′
 
   pub sent-inv : Inv n total v′ (gWire γ a b wire′)
   sent-inv = subst (λ (δ : Ghost). Inv n total v′ δ) (same-mind γ (γ .big) a w′) moved-inv

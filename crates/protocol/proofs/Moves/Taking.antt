@@ -38,7 +38,7 @@ use Rattle.protocol.proofs.Invariant.Whole.{Inv, PairAt, BooksAt, outOf
 use Rattle.protocol.proofs.Invariant.Past.{Past, Kept, no-cuts, aware-not-normal}
 use Rattle.protocol.proofs.Invariant.Logs.{check-snoc, differ-none, count-rest, amount-snoc, small-snoc, only-alarms}
 use Rattle.protocol.proofs.Invariant.Words.{un-of, un-works, un-not-aware, un-or-aware, linked-used, live-line}
-use Rattle.protocol.proofs.Invariant.Frame.{moved, minded, move-pairs, move-nodes, move-ground, move-places, move-meets, move-chain, move-sums, same-mind}
+use Rattle.protocol.proofs.Invariant.Frame.{moved, minded, move-pairs, move-nodes, same-mind, quiet-inv}
 use Rattle.protocol.proofs.Moves.Noting.{image-from, image-to}
 use Rattle.protocol.proofs.Moves.Sending.{wires, gWire, wire-kept, booked-with}
 
@@ -307,20 +307,12 @@ module _ (n total : ℕ) (v : View) (γ : Ghost) (i : Inv n total v γ) (a b : �
     moved-inv : Inv n total v′ γ′
     moved-inv =
         let links : (c d : ℕ) → w′ c d .lk ≡ γ .wire c d .lk = wire-kept (λ (w : Wire). w .lk) γ a b wire′ refl in
-        record {
-          core = record {
-            pairs = taken-pairs;
-            nodes = move-nodes v γ (γ .big) b o′ (γ .mind b) sides lines′ (v .slots) w′ (λ j d. refl) (λ j d. i .core .nodes j)
-                (added-node _ _ _ _ _ (i .core .nodes b) un take-undone x);
-            books = books′;
-            ground = move-ground v γ b o′ (γ .mind b) sides lines′ (v .slots) w′ refl refl links (γ .big) refl refl refl refl (i .core .ground);
-            chain = move-chain v γ b o′ (γ .mind b) sides lines′ (v .slots) w′ refl refl refl refl refl refl refl (i .core .chain);
-            sums = move-sums total γ (γ .big) b (γ .mind b) w′ refl refl refl refl (i .core .sums);
-          };
-          places = move-places v γ b o′ (γ .mind b) sides lines′ (v .slots) w′ refl refl links (γ .big) refl refl refl (i .places);
-          meets = move-meets v b o′ sides lines′ (v .slots) refl
-              (λ d. upd-elim (λ (s : Side). used s ≡ used (v .side b d)) (v .side b) a toA d (λ e. rw e) (λ e. refl)) (i .meets);
-        }
+        quiet-inv n total v γ i b o′ (γ .mind b) sides lines′ (v .slots) w′
+        (refl, refl, refl, refl, refl) (refl, refl, refl, refl, refl, refl, refl) links (λ d. upd-elim (λ (s : Side). used s ≡ used (v .side b d)) (v .side b) a toA d (λ e. rw e) (λ e. refl))
+        taken-pairs
+        (move-nodes v γ (γ .big) b o′ (γ .mind b) sides lines′ (v .slots) w′ (λ j d. refl) (λ j d. i .core .nodes j)
+        (added-node _ _ _ _ _ (i .core .nodes b) un take-undone x))
+        books′
 
     pub taken-inv : Inv n total v′ (gWire γ a b wire′)
     taken-inv = subst (λ (δ : Ghost). Inv n total v′ δ) (same-mind γ (γ .big) b w′) moved-inv

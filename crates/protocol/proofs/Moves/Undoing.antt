@@ -12,10 +12,10 @@ use Rattle.cabinet.specs.declared.State.{State}
 use Rattle.cabinet.specs.declared.State.the-variants.{Normal, CheckpBegin, Checkpointing, Checkpointed, Recovered}
 use Rattle.cabinet.specs.declared.Image.{Image}
 use Rattle.cabinet.specs.State.{isIn, works, isUnknown}
-use Rattle.protocol.proofs.Answers.Tests.{in-state}
 use Rattle.protocol.proofs.State.Fun.{never, is-false, and-true, and-intro, or-right}
-use Rattle.protocol.proofs.State.States.{other-state}
 use Rattle.protocol.proofs.State.View.{Own, Side}
+use Rattle.protocol.proofs.Answers.Tests.{in-state}
+use Rattle.protocol.proofs.Invariant.States.{other-state}
 use Rattle.protocol.proofs.Invariant.Facts.{Big, Mind, Wire, Ghost, Pair, Node, Books, Stream, SameTo, unaware, linked, behind, closed, count, isCheckp, checkpLast}
 use Rattle.protocol.proofs.Invariant.Words.{un-works, un-not-aware, aware-works}
 

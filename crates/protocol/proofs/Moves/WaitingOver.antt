@@ -22,12 +22,12 @@ use Rattle.group.specs.Group.{cabinet, stateOf, working, unsure}
 use Rattle.protocol.specs.Moves.{recoverWith}
 use Rattle.protocol.specs.Kinds.{need, waitOverRefusal, lostCoordinator}
 use Rattle.protocol.specs.History.{History, noteCuts}
-use Rattle.protocol.proofs.Answers.Tests.{in-state, those-marked}
 use Rattle.protocol.proofs.State.Fun.{never, is-true, and-true, and-intro}
-use Rattle.protocol.proofs.State.States.{unknown-old}
 use Rattle.protocol.proofs.State.Every.{passed}
 use Rattle.protocol.proofs.State.View.{View, view}
 use Rattle.protocol.proofs.State.Sim.{Fit}
+use Rattle.protocol.proofs.Answers.Tests.{in-state, those-marked}
+use Rattle.protocol.proofs.Invariant.States.{unknown-old}
 use Rattle.protocol.proofs.Invariant.Facts.{Ghost, aware, unaware}
 use Rattle.protocol.proofs.Invariant.Whole.{Core, Inv, Place-of, failed}
 use Rattle.protocol.proofs.Invariant.Past.{Past, Kept}

@@ -17,9 +17,9 @@ use Rattle.cabinet.specs.declared.Image.{Image}
 use Rattle.cabinet.specs.State.{isIn, works}
 use Rattle.protocol.specs.History.{upd}
 use Rattle.protocol.proofs.State.Fun.{never, is-false, and-true, upd-elim, upd-same, upd-other, upd-id, kept, upd-swap}
-use Rattle.protocol.proofs.State.States.{known-same, known-not-unknown, other-state}
 use Rattle.protocol.proofs.State.View.{View, Own, Side, used, setLine}
 use Rattle.protocol.proofs.State.Methods.{sCleared}
+use Rattle.protocol.proofs.Invariant.States.{known-same, known-not-unknown, other-state}
 use Rattle.protocol.proofs.Invariant.Facts.{Big, Mind, Wire, Ghost, Pair, Node, Books, Alarms, aware, unaware, linked, behind}
 use Rattle.protocol.proofs.Invariant.Whole.{Places, Inv, PairAt, NodeAt, BooksAt, GroundOf, PlacesOf, ChainOf, SumsOf}
 use Rattle.protocol.proofs.Invariant.Logs.{resumedBy, only-alarms}

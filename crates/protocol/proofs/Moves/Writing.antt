@@ -22,20 +22,20 @@ use Rattle.group.specs.declared.Group.{Group}
 use Rattle.group.specs.Group.{cabinet, stateOf, slot}
 use Rattle.protocol.specs.Kinds.{need, writeRefusal, writePiece, oweIf}
 use Rattle.protocol.specs.History.{History, noteCuts, upd}
-use Rattle.protocol.proofs.Answers.Tests.{in-state}
 use Rattle.protocol.proofs.State.Fun.{never, not-true-false, cond-elim, is-false, and-true, upd-elim, upd-same, upd-other, kept-at}
-use Rattle.protocol.proofs.State.States.{known-is-known, other-state}
 use Rattle.protocol.proofs.State.Every.{passed, with-slot, ok-writePiece}
 use Rattle.protocol.proofs.State.View.{View, Own, Side, ownOf, sideOf, same, view, setCabinet, setSlot}
 use Rattle.protocol.proofs.State.Shape.{Shaped, Lined, Pictured, shaped}
 use Rattle.protocol.proofs.State.Sim.{Fit, view-cabinet, view-slot}
 use Rattle.protocol.proofs.State.Methods.{sOwed}
 use Rattle.protocol.proofs.State.ViewMoves.{oPieces, vOwe, sim-owe}
+use Rattle.protocol.proofs.Answers.Tests.{in-state}
+use Rattle.protocol.proofs.Invariant.States.{known-is-known, other-state}
 use Rattle.protocol.proofs.Invariant.Facts.{Big, Mind, Wire, Ghost, Pair, Node, Books, SameTo, aware, unaware, behind, closed}
 use Rattle.protocol.proofs.Invariant.Whole.{Inv, PairAt, NodeAt, ChainOf, workOf, calmOf, knownOf, tabOf, outOf, gotOf}
 use Rattle.protocol.proofs.Invariant.Past.{Past, Kept, no-cuts, past-view, aware-not-normal}
 use Rattle.protocol.proofs.Invariant.Words.{un-works, un-not-aware, un-of, chief-of}
-use Rattle.protocol.proofs.Invariant.Frame.{same-ghost, moved, minded, move-pairs, move-nodes, move-books, move-ground, move-places, move-meets, move-chain, move-sums}
+use Rattle.protocol.proofs.Invariant.Frame.{same-ghost, moved, minded, move-pairs, move-nodes, move-books, move-ground, move-places, move-meets, move-sums, quiet-inv}
 use Rattle.protocol.proofs.Invariant.Marking.{mark-inv, past-mind}
 use Rattle.protocol.proofs.Moves.Pieces.{piece-more, all-pieces}
 
@@ -293,20 +293,15 @@ module _ (n total : ℕ) (v : View) (γ : Ghost) (a : ℕ) (i : Inv n total v γ
 
   pub part-inv : v .own a .pieces < 3 → (γ .big .alive ≡ true → SameTo (8 * (v .own a .pieces + 1)) x (γ .mind a .cut))
       → Inv n total (moved v a part (v .side a) (v .lines) z′) γ
-  part-inv few more = subst (λ (δ : Ghost). Inv n total (moved v a part (v .side a) (v .lines) z′) δ) (same-ghost γ a) (record {
-    core = record {
-      pairs = part-pairs;
-      nodes = move-nodes v γ (γ .big) a part (γ .mind a) (v .side a) (v .lines) z′ (γ .wire) (stored-there v a (not (γ .big .topv)) x) (λ j d. i .core .nodes j)
-          (part-node _ _ _ _ (v .slots a) (z′ a) node un at (stored-other v a (γ .big .topv) x) few
-          (λ e. rw (stored-here v a (not (γ .big .topv)) x) (more e)));
-      books = move-books v γ (γ .big) a part (γ .mind a) (v .side a) (v .lines) z′ (γ .wire) (λ j. refl) (λ j. refl) (λ j d. i .core .books j) part-books;
-      ground = move-ground v γ a part (γ .mind a) (v .side a) (v .lines) z′ (γ .wire) refl refl (λ i j. refl) (γ .big) refl refl refl refl (i .core .ground);
-      chain = move-chain v γ a part (γ .mind a) (v .side a) (v .lines) z′ (γ .wire) refl refl refl refl refl refl refl (i .core .chain);
-      sums = move-sums total γ (γ .big) a (γ .mind a) (γ .wire) refl refl refl refl (i .core .sums);
-    };
-    places = move-places v γ a part (γ .mind a) (v .side a) (v .lines) z′ (γ .wire) refl refl (λ i j. refl) (γ .big) refl refl refl (i .places);
-    meets = move-meets v a part (v .side a) (v .lines) z′ refl (λ d. refl) (i .meets);
-  })
+  part-inv few more =
+      subst (λ (δ : Ghost). Inv n total (moved v a part (v .side a) (v .lines) z′) δ) (same-ghost γ a)
+      (quiet-inv n total v γ i a part (γ .mind a) (v .side a) (v .lines) z′ (γ .wire)
+      (refl, refl, refl, refl, refl) (refl, refl, refl, refl, refl, refl, refl) (λ i j. refl) (λ d. refl)
+      part-pairs
+      (move-nodes v γ (γ .big) a part (γ .mind a) (v .side a) (v .lines) z′ (γ .wire) (stored-there v a (not (γ .big .topv)) x) (λ j d. i .core .nodes j)
+      (part-node _ _ _ _ (v .slots a) (z′ a) node un at (stored-other v a (γ .big .topv) x) few
+      (λ e. rw (stored-here v a (not (γ .big .topv)) x) (more e))))
+      (move-books v γ (γ .big) a part (γ .mind a) (v .side a) (v .lines) z′ (γ .wire) (λ j. refl) (λ j. refl) (λ j d. i .core .books j) part-books))
 
   module _ (y : Version) (mine : a ≡ γ .big .chief → y ≡ Known (γ .big .topv)) (other : a ≢ γ .big .chief → y ≡ Unknown (γ .big .topv)) where
     abbrev last : Own
