@@ -1,4 +1,5 @@
--- Document 01 as definitions: the moves, the eleven kinds of step, the step entry and the listing.
+-- Document 01 as definitions: the moves, the eleven kinds of step, the step entry and the listing; then the history, what is claimed of
+-- every run, closed cases, and what the entry answers.
 pub mod Moves
 pub mod Receive
 pub mod Kinds

@@ -27,40 +27,47 @@ use Rattle.protocol.proofs.State.Methods.{hitsCabinet, hitsLink}
 
 -- ---- the ghost: what the proof remembers of the run
 
--- of the whole group: some cabinet entered error since the last recovery's end; the version value that names the save that the rule
--- gives; some cabinet took its resume or was restored from it; the coordinator, whether it works and whether it has joined; some
--- cabinet that knows of the fault knows its version; no damage, and no damage to a normal packet, since the last recovery's end
+-- of the whole group
 pub record Big : Type 0 where
+  -- some cabinet entered error since the last recovery's end
   pub faulted : Bool
+  -- the version value that names the save which the rule gives, and whether some cabinet took its resume or was restored from it
   pub topv : Bool
   pub adopted : Bool
+  -- the coordinator, whether it works and whether it has joined the save under way
   pub chief : ℕ
   pub alive : Bool
   pub begun : Bool
+  -- some cabinet that is aware of the fault has known its version
   pub frozen : Bool
+  -- no damage, and no damage to a normal packet, since the last recovery's end
   pub calm : Bool
   pub clean : Bool
 
--- of a cabinet: in use as at the last recovery's end; how far it is in the save under way (begun, cut, written, reported); it has
--- reported restored; its images at its cut, at the last recovery's end, in the save that the rule gives and in the one before
+-- of a cabinet
 pub record Mind : Type 0 where
+  -- in use at the last recovery's end
   pub tab : Bool
+  -- how far it is in the save under way: begun, cut, written, reported saved
   pub joined : Bool
   pub done : Bool
   pub wrote : Bool
   pub told : Bool
+  -- it has reported restored
   pub ready : Bool
+  -- its images at its cut, at the last recovery's end, in the save that the rule gives and in the one before
   pub cut : Image
   pub base : Image
   pub top : Image
   pub prev : Image
 
--- of an ordered pair: the packets sent and taken since the last recovery's end, how many of them a comparison has covered, and
--- whether the link was in use then
+-- of an ordered pair
 pub record Wire : Type 0 where
+  -- the packets sent and taken since the last recovery's end, and how many of them a comparison has covered
   pub sent : List Payload
   pub taken : List Payload
   pub ver : ℕ
+  -- the link was in use at the last recovery's end
   pub lk : Bool
 
 pub record Ghost : Type 0 where
