@@ -14,6 +14,7 @@ use Rattle.cabinet.specs.declared.State.{State}
 use Rattle.cabinet.specs.declared.State.the-variants.{Failed, Normal, CheckpBegin, Checkpointing, Checkpointed, Error, Recovering, Recovered, Crashed}
 use Rattle.cabinet.specs.declared.Version.{Version}
 use Rattle.cabinet.specs.declared.Version.the-variants.{Known}
+use Rattle.cabinet.specs.declared.Alarm.{Alarm}
 use Rattle.cabinet.specs.declared.Alarm.the-variants.{Quiet, Fault}
 use Rattle.cabinet.specs.declared.Phase.{Phase}
 use Rattle.cabinet.specs.declared.Table.{Table}
@@ -46,7 +47,7 @@ pieceTo (suc n) k from to = withOctet (pieceTo n k from to) (k * 8 + n) (getD (f
 abbrev pub withPiece : ℕ → Image → Image → Image
 withPiece k from to = pieceTo 8 k from to
 
--- ---- a cabinet's parts, replaced one at a time
+-- ---- a cabinet's parts, each replaced by one function
 
 abbrev pub withPhase : Cabinet → Phase → Cabinet
 withPhase c p = record { phase = p; table = c .table; noted = c .noted; registers = c .registers; image = c .image; home = c .home; store = c .store; owed = c .owed }
@@ -66,14 +67,39 @@ withImage c m = record { phase = c .phase; table = c .table; noted = c .noted; r
 abbrev pub withOwed : Cabinet → Marks → Cabinet
 withOwed c o = record { phase = c .phase; table = c .table; noted = c .noted; registers = c .registers; image = c .image; home = c .home; store = c .store; owed = o }
 
+-- .. and the parts of those
 abbrev pub withState : Cabinet → State → Cabinet
 withState c s = withPhase c (record { state = s; version = c .phase .version; alarm = c .phase .alarm })
 
 abbrev pub withVersion : Cabinet → Version → Cabinet
 withVersion c v = withPhase c (record { state = c .phase .state; version = v; alarm = c .phase .alarm })
 
+abbrev pub withAlarm : Cabinet → Alarm → Cabinet
+withAlarm c a = withPhase c (record { state = c .phase .state; version = c .phase .version; alarm = a })
+
+abbrev pub withCome : Cabinet → Marks → Cabinet
+withCome c m = withNoted c (record { come = m; pieces = c .noted .pieces; saved = c .noted .saved; restored = c .noted .restored; heard = c .noted .heard })
+
 abbrev pub withPieces : Cabinet → ℕ → Cabinet
 withPieces c k = withNoted c (record { come = c .noted .come; pieces = k; saved = c .noted .saved; restored = c .noted .restored; heard = c .noted .heard })
+
+abbrev pub withSaved : Cabinet → Marks → Cabinet
+withSaved c m = withNoted c (record { come = c .noted .come; pieces = c .noted .pieces; saved = m; restored = c .noted .restored; heard = c .noted .heard })
+
+abbrev pub withRestored : Cabinet → Marks → Cabinet
+withRestored c m = withNoted c (record { come = c .noted .come; pieces = c .noted .pieces; saved = c .noted .saved; restored = m; heard = c .noted .heard })
+
+abbrev pub withHeard : Cabinet → Marks → Cabinet
+withHeard c m = withNoted c (record { come = c .noted .come; pieces = c .noted .pieces; saved = c .noted .saved; restored = c .noted .restored; heard = m })
+
+abbrev pub withSentChecks : Cabinet → List Check → Cabinet
+withSentChecks c rs = withRegisters c (record { sent = rs; taken = c .registers .taken; hurt = c .registers .hurt })
+
+abbrev pub withTakenChecks : Cabinet → List Check → Cabinet
+withTakenChecks c rs = withRegisters c (record { sent = c .registers .sent; taken = rs; hurt = c .registers .hurt })
+
+abbrev pub withHurt : Cabinet → Marks → Cabinet
+withHurt c m = withRegisters c (record { sent = c .registers .sent; taken = c .registers .taken; hurt = m })
 
 -- ---- starting values
 
@@ -106,37 +132,35 @@ inUse c = both (c .table .links) (c .table .cabinets)
 abbrev pub coordinator : Cabinet → ℕ
 coordinator c = lowest (c .table .cabinets)
 
+-- a table's two rows of marks
+abbrev pub withCabinets : Table → Marks → Table
+withCabinets t m = record { cabinets = m; links = t .links }
+
+abbrev pub withLinks : Table → Marks → Table
+withLinks t m = record { cabinets = t .cabinets; links = m }
+
 -- a place struck from the table of cabinet i: a cabinet, or i's own end of a link
 abbrev pub struckAt : ℕ → Place → Table → Table
-struckAt i (AtCabinet a) t = record { cabinets = set (t .cabinets) a false; links = t .links }
-struckAt i (AtLink a b) t = record {
-  cabinets = t .cabinets;
-  links = cond (eqb i a) (set (t .links) b false) (cond (eqb i b) (set (t .links) a false) (t .links));
-}
+struckAt i (AtCabinet a) t = withCabinets t (set (t .cabinets) a false)
+struckAt i (AtLink a b) t = withLinks t (cond (eqb i a) (set (t .links) b false) (cond (eqb i b) (set (t .links) a false) (t .links)))
 
 -- ---- normal packets
 
 -- a send taken: the amount leaves the booking, and the sender's register runs over the packet
 abbrev pub sending : Cabinet → ℕ → Payload → Cabinet
 sending c j p =
-    withImage (withRegisters c (record {
-      sent = set (c .registers .sent) j (stepCheck (getD (c .registers .sent) j startCheck) p);
-      taken = c .registers .taken;
-      hurt = c .registers .hurt;
-    })) (withBooked (c .image) (booked (c .image) - p .amount))
+    withImage (withSentChecks c (set (c .registers .sent) j (stepCheck (getD (c .registers .sent) j startCheck) p)))
+    (withBooked (c .image) (booked (c .image) - p .amount))
 
 -- "A receiver adds an amount modulo 65,536", and its register runs over the packet
 abbrev pub taking : Cabinet → ℕ → Payload → Cabinet
 taking c j p =
-    withImage (withRegisters c (record {
-      sent = c .registers .sent;
-      taken = set (c .registers .taken) j (stepCheck (getD (c .registers .taken) j startCheck) p);
-      hurt = c .registers .hurt;
-    })) (withBooked (c .image) ((booked (c .image) + p .amount) % 65536))
+    withImage (withTakenChecks c (set (c .registers .taken) j (stepCheck (getD (c .registers .taken) j startCheck) p)))
+    (withBooked (c .image) ((booked (c .image) + p .amount) % 65536))
 
 -- a normal packet of the line from j was hurt
 abbrev pub hurtFrom : Cabinet → ℕ → Cabinet
-hurtFrom c j = withRegisters c (record { sent = c .registers .sent; taken = c .registers .taken; hurt = set (c .registers .hurt) j true })
+hurtFrom c j = withHurt c (set (c .registers .hurt) j true)
 
 -- ---- saving
 
@@ -151,21 +175,13 @@ restartTo (suc n) m rs = restartIf (marked m n) (restartTo n m rs) n
 
 -- enters checkp-begin, once its checkps are put; nothing is noted yet of the new save
 abbrev pub beginning : Cabinet → Cabinet
-beginning c =
-    withNoted (withRegisters (withState c CheckpBegin) (record {
-      sent = restartTo 8 (inUse c) (c .registers .sent);
-      taken = c .registers .taken;
-      hurt = c .registers .hurt;
-    })) nothingNoted
+beginning c = withNoted (withSentChecks (withState c CheckpBegin) (restartTo 8 (inUse c) (c .registers .sent))) nothingNoted
 
 -- an equal comparison with the checkp from j: it has come, and the receiver's register restarts
 abbrev pub comparing : Cabinet → ℕ → Cabinet
 comparing c j =
-    withNoted (withRegisters c (record {
-      sent = c .registers .sent;
-      taken = set (c .registers .taken) j startCheck;
-      hurt = set (c .registers .hurt) j false;
-    })) (record { come = set (c .noted .come) j true; pieces = c .noted .pieces; saved = c .noted .saved; restored = c .noted .restored; heard = c .noted .heard })
+    withCome (withHurt (withTakenChecks c (set (c .registers .taken) j startCheck)) (set (c .registers .hurt) j false))
+    (set (c .noted .come) j true)
 
 -- "With checkp from all neighbours in use (none left counts as all) the cabinet enters checkpointing": its cut
 abbrev pub cutting : Cabinet → Cabinet
@@ -175,11 +191,8 @@ cutting c = cond (covers (c .noted .come) (inUse c)) (withState c Checkpointing)
 abbrev pub wrote : Cabinet → ℕ → Cabinet
 wrote c i =
     cond (ltb (c .noted .pieces) 3) (withPieces c (c .noted .pieces + 1))
-    (withPieces (withPhase c (record {
-      state = Checkpointed;
-      version = cond (eqb (coordinator c) i) (c .phase .version) (doubted (c .phase .version));
-      alarm = c .phase .alarm;
-    })) 4)
+    (withPieces
+    (withVersion (withState c Checkpointed) (cond (eqb (coordinator c) i) (c .phase .version) (doubted (c .phase .version)))) 4)
 
 -- a home owes the saved report on j, or has made it
 abbrev pub owing : Cabinet → ℕ → Bool → Cabinet
@@ -187,7 +200,7 @@ owing c j o = withOwed c (set (c .owed) j o)
 
 -- the coordinator has the saved report on j
 abbrev pub savedFor : Cabinet → ℕ → Cabinet
-savedFor c j = withNoted c (record { come = c .noted .come; pieces = c .noted .pieces; saved = set (c .noted .saved) j true; restored = c .noted .restored; heard = c .noted .heard })
+savedFor c j = withSaved c (set (c .noted .saved) j true)
 
 -- enters normal with a version; nothing is noted any more
 abbrev pub resuming : Cabinet → Version → Cabinet
@@ -198,15 +211,15 @@ resuming c v = withNoted (withPhase c (record { state = Normal; version = v; ala
 -- "Entering error: strike the place from the table, .. forget what was noted ..; a home forgets the reports it owes"
 abbrev pub alarmed : Cabinet → ℕ → Place → Cabinet
 alarmed c i p =
-    withOwed (withNoted (withTable (withPhase c (record { state = Error; version = c .phase .version; alarm = Fault p })) (struckAt i p (c .table))) nothingNoted) noMarks
+    withOwed (withNoted (withTable (withAlarm (withState c Error) (Fault p)) (struckAt i p (c .table))) nothingNoted) noMarks
 
 -- the fault packet of neighbour j has come
 abbrev pub hearing : Cabinet → ℕ → Cabinet
-hearing c j = withNoted c (record { come = c .noted .come; pieces = c .noted .pieces; saved = c .noted .saved; restored = c .noted .restored; heard = set (c .noted .heard) j true })
+hearing c j = withHeard c (set (c .noted .heard) j true)
 
 -- enters recovering with a known version
 abbrev pub recovering : Cabinet → Bool → Cabinet
-recovering c v = withPhase c (record { state = Recovering; version = Known v; alarm = c .phase .alarm })
+recovering c v = withVersion (withState c Recovering) (Known v)
 
 -- one piece more is fetched; with piece 3 the cabinet enters recovered, and all its registers restart
 abbrev pub fetched : Cabinet → Image → Cabinet
@@ -216,7 +229,7 @@ fetched c m =
 
 -- the coordinator has the restored report of j
 abbrev pub restoredFor : Cabinet → ℕ → Cabinet
-restoredFor c j = withNoted c (record { come = c .noted .come; pieces = c .noted .pieces; saved = c .noted .saved; restored = set (c .noted .restored) j true; heard = c .noted .heard })
+restoredFor c j = withRestored c (set (c .noted .restored) j true)
 
 -- "crash .. puts every working cabinet .. in crashed and does nothing else"
 abbrev pub crashing : Cabinet → Cabinet

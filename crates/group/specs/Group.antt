@@ -22,13 +22,27 @@ use Rattle.cabinet.specs.State.{works, isIn, inRecovery, isUnknown}
 use Rattle.cabinet.specs.Cabinet.{absent, blankImage, crashing}
 use Rattle.group.specs.Lines.{emptyLines, lineTo, withLineTo}
 
+-- ---- the components, each replaced by one function
+
+abbrev pub withCabinets : Group → List Cabinet → Group
+withCabinets g cs = record { n = g .n; cabinets = cs; links = g .links; sound = g .sound; outgoing = g .outgoing; store = g .store }
+
+abbrev pub withSoundRows : Group → List Row → Group
+withSoundRows g rs = record { n = g .n; cabinets = g .cabinets; links = g .links; sound = rs; outgoing = g .outgoing; store = g .store }
+
+abbrev pub withLines : Group → List Outgoing → Group
+withLines g os = record { n = g .n; cabinets = g .cabinets; links = g .links; sound = g .sound; outgoing = os; store = g .store }
+
+abbrev pub withStore : Group → List Slots → Group
+withStore g ss = record { n = g .n; cabinets = g .cabinets; links = g .links; sound = g .sound; outgoing = g .outgoing; store = ss }
+
 -- ---- cabinets
 
 unfoldable pub cabinet : Group → ℕ → Cabinet
 cabinet g i = getD (g .cabinets) i absent
 
 unfoldable pub withCabinet : Group → ℕ → Cabinet → Group
-withCabinet g i c = record { n = g .n; cabinets = set (g .cabinets) i c; links = g .links; sound = g .sound; outgoing = g .outgoing; store = g .store }
+withCabinet g i c = withCabinets g (set (g .cabinets) i c)
 
 abbrev pub stateOf : Group → ℕ → State
 stateOf g i = cabinet g i .phase .state
@@ -39,7 +53,7 @@ unfoldable pub outgoing : Group → ℕ → Outgoing
 outgoing g i = getD (g .outgoing) i emptyLines
 
 unfoldable pub withOutgoing : Group → ℕ → Outgoing → Group
-withOutgoing g i o = record { n = g .n; cabinets = g .cabinets; links = g .links; sound = g .sound; outgoing = set (g .outgoing) i o; store = g .store }
+withOutgoing g i o = withLines g (set (g .outgoing) i o)
 
 -- the line from a to b
 unfoldable pub line : Group → ℕ → ℕ → Line
@@ -57,12 +71,18 @@ unfoldable pub slot : Group → ℕ → Bool → Image
 slot g i v = cond v (getD (g .store) i blankSlots .one) (getD (g .store) i blankSlots .zero)
 
 unfoldable pub withSlots : Group → ℕ → Slots → Group
-withSlots g i s = record { n = g .n; cabinets = g .cabinets; links = g .links; sound = g .sound; outgoing = g .outgoing; store = set (g .store) i s }
+withSlots g i s = withStore g (set (g .store) i s)
+
+abbrev pub withZero : Slots → Image → Slots
+withZero s m = record { zero = m; one = s .one }
+
+abbrev pub withOne : Slots → Image → Slots
+withOne s m = record { zero = s .zero; one = m }
 
 unfoldable pub withSlot : Group → ℕ → Bool → Image → Group
 withSlot g i v m =
     withSlots g i
-    (cond v (record { zero = getD (g .store) i blankSlots .zero; one = m }) (record { zero = m; one = getD (g .store) i blankSlots .one }))
+    (cond v (withOne (getD (g .store) i blankSlots) m) (withZero (getD (g .store) i blankSlots) m))
 
 -- ---- links: "one row of eight marks for each cabinet"
 
@@ -81,7 +101,7 @@ unfoldable pub ofRows : Rows → List Row
 ofRows rs = rowAt rs 0 ∷ rowAt rs 1 ∷ rowAt rs 2 ∷ rowAt rs 3 ∷ rowAt rs 4 ∷ rowAt rs 5 ∷ rowAt rs 6 ∷ rowAt rs 7 ∷ []
 
 unfoldable pub withSound : Group → Rows → Group
-withSound g rs = record { n = g .n; cabinets = g .cabinets; links = g .links; sound = ofRows rs; outgoing = g .outgoing; store = g .store }
+withSound g rs = withSoundRows g (ofRows rs)
 
 -- ---- asked of all cabinets
 
@@ -118,15 +138,10 @@ abbrev pub taken : Group → Outcome
 taken g = answering 0 g
 
 unfoldable pub crashAll : Group → Group
-crashAll g = record {
-  n = g .n;
-  cabinets = crashing (cabinet g 0) ∷ crashing (cabinet g 1) ∷ crashing (cabinet g 2) ∷ crashing (cabinet g 3) ∷ crashing (cabinet g 4)
-      ∷ crashing (cabinet g 5) ∷ crashing (cabinet g 6) ∷ crashing (cabinet g 7) ∷ [];
-  links = g .links;
-  sound = g .sound;
-  outgoing = g .outgoing;
-  store = g .store;
-}
+crashAll g =
+    withCabinets g
+    (crashing (cabinet g 0) ∷ crashing (cabinet g 1) ∷ crashing (cabinet g 2) ∷ crashing (cabinet g 3) ∷ crashing (cabinet g 4)
+    ∷ crashing (cabinet g 5) ∷ crashing (cabinet g 6) ∷ crashing (cabinet g 7) ∷ [])
 
 abbrev pub crashed : Group → Outcome
 crashed g = answering 50 (crashAll g)

@@ -115,8 +115,8 @@ perform g (Fail a) = failStep g (a - 1)
 perform g (Damage a b p q) = damageStep g (a - 1) (b - 1) p q
 
 abbrev pub stepDecoded : Group → Decoded → Outcome
-stepDecoded g Malformed = answering 8 g
-stepDecoded g Unused = answering 9 g
+stepDecoded g Malformed = answering (decodedNumber Malformed) g
+stepDecoded g Unused = answering (decodedNumber Unused) g
 stepDecoded g (Taken s) = orRefuse (entryRefusal g s) g (perform g s)
 
 unfoldable pub step : Group → List ℕ → Outcome

@@ -99,9 +99,14 @@ abbrev pub passOver : ℕ → List Save → List Save
 passOver a [] = []
 passOver a (x ∷ xs) = cond (eqb (x .by) a && not (x .known)) xs (x ∷ xs)
 
+abbrev pub withKnown : Save → Bool → Save
+withKnown s k = record { by = s .by; cut = s .cut; known = k }
+
 abbrev pub markKnown : List Save → List Save
 markKnown [] = []
-markKnown (x ∷ xs) = record { by = x .by; cut = x .cut; known = true } ∷ xs
+markKnown (x ∷ xs) = withKnown x true ∷ xs
+
+-- ---- the parts of a history, each replaced by one function
 
 abbrev pub withSent : History → Log → History
 withSent h l = record { sent = l; taken = h .taken; cuts = h .cuts; saves = h .saves; start = h .start; lost = h .lost; hurt = h .hurt }
@@ -114,6 +119,12 @@ withCuts h c = record { sent = h .sent; taken = h .taken; cuts = c; saves = h .s
 
 abbrev pub withSaves : History → List Save → History
 withSaves h s = record { sent = h .sent; taken = h .taken; cuts = h .cuts; saves = s; start = h .start; lost = h .lost; hurt = h .hurt }
+
+abbrev pub withLost : History → (ℕ → Option Image) → History
+withLost h l = record { sent = h .sent; taken = h .taken; cuts = h .cuts; saves = h .saves; start = h .start; lost = l; hurt = h .hurt }
+
+abbrev pub withHurt : History → Bool → History
+withHurt h t = record { sent = h .sent; taken = h .taken; cuts = h .cuts; saves = h .saves; start = h .start; lost = h .lost; hurt = t }
 
 -- ---- what a taken step adds to the history; g is the group before it and g′ after it
 
@@ -148,7 +159,7 @@ noteCommit false h k = h
 
 -- damage hits a normal packet
 abbrev pub noteHurt : Bool → History → History
-noteHurt true h = record { sent = h .sent; taken = h .taken; cuts = h .cuts; saves = h .saves; start = h .start; lost = h .lost; hurt = true }
+noteHurt true h = withHurt h true
 noteHurt false h = h
 
 abbrev pub imageIn : Option Cut → Option Image
@@ -163,15 +174,7 @@ lostNow h g i none = cond (works (stateOf g i)) none (imageIn (latest h .cut i))
 -- "Packets for a cut count from the start or the end of the last recovery before that save's begin": they count anew at every end, and
 -- a save begun before one has no cut after it. The cabinets failed since the last end have their image now.
 abbrev pub noteEnd : Bool → History → Group → History
-noteEnd true h g = record {
-  sent = noLog;
-  taken = noLog;
-  cuts = λ i. none;
-  saves = h .saves;
-  start = h .start;
-  lost = λ i. lostNow h g i (h .lost i);
-  hurt = false;
-}
+noteEnd true h g = withHurt (withLost (withCuts (withTaken (withSent h noLog) noLog) (λ i. none)) (λ i. lostNow h g i (h .lost i))) false
 noteEnd false h g = h
 
 -- "a recovery ends in the step that takes a coordinator from recovered to normal": the coordinator in the table of cabinet j
