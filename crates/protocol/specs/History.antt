@@ -66,6 +66,10 @@ pub record History : Type 0 where
   pub lost : ℕ → Option Image
   -- a normal packet was damaged since the start or the last recovery's end: no matter to demand 3, it is for `NeverWraps`
   pub hurt : Bool
+  -- what `Saves` speaks of, no matter to demand 3 either: a begin was taken since the start or the last recovery's end, and a save
+  -- committed since then stands, that is, was not passed over
+  pub begun : Bool
+  pub standing : Bool
 
 abbrev pub noLog : Log
 noLog a b = []
@@ -79,7 +83,7 @@ abbrev pub startSave : Group → Save
 startSave g = record { by = 8; cut = startCut g; known = true }
 
 abbrev pub atStart : Group → History
-atStart g = record { sent = noLog; taken = noLog; cuts = λ i. none; saves = []; start = startSave g; lost = λ i. none; hurt = false }
+atStart g = record { sent = noLog; taken = noLog; cuts = λ i. none; saves = []; start = startSave g; lost = λ i. none; hurt = false; begun = false; standing = false }
 
 -- ---- which save
 
@@ -95,9 +99,13 @@ abbrev pub latest : History → Save
 latest h = newest (h .saves) (h .start)
 
 -- coordinator a fails
+abbrev pub passesOver : ℕ → List Save → Bool
+passesOver a [] = false
+passesOver a (x ∷ xs) = eqb (x .by) a && not (x .known)
+
 abbrev pub passOver : ℕ → List Save → List Save
 passOver a [] = []
-passOver a (x ∷ xs) = cond (eqb (x .by) a && not (x .known)) xs (x ∷ xs)
+passOver a (x ∷ xs) = cond (passesOver a (x ∷ xs)) xs (x ∷ xs)
 
 abbrev pub withKnown : Save → Bool → Save
 withKnown s k = record { by = s .by; cut = s .cut; known = k }
@@ -109,22 +117,25 @@ markKnown (x ∷ xs) = withKnown x true ∷ xs
 -- ---- the parts of a history, each replaced by one function
 
 abbrev pub withSent : History → Log → History
-withSent h l = record { sent = l; taken = h .taken; cuts = h .cuts; saves = h .saves; start = h .start; lost = h .lost; hurt = h .hurt }
+withSent h l = record { sent = l; taken = h .taken; cuts = h .cuts; saves = h .saves; start = h .start; lost = h .lost; hurt = h .hurt; begun = h .begun; standing = h .standing }
 
 abbrev pub withTaken : History → Log → History
-withTaken h l = record { sent = h .sent; taken = l; cuts = h .cuts; saves = h .saves; start = h .start; lost = h .lost; hurt = h .hurt }
+withTaken h l = record { sent = h .sent; taken = l; cuts = h .cuts; saves = h .saves; start = h .start; lost = h .lost; hurt = h .hurt; begun = h .begun; standing = h .standing }
 
 abbrev pub withCuts : History → (ℕ → Option Cut) → History
-withCuts h c = record { sent = h .sent; taken = h .taken; cuts = c; saves = h .saves; start = h .start; lost = h .lost; hurt = h .hurt }
+withCuts h c = record { sent = h .sent; taken = h .taken; cuts = c; saves = h .saves; start = h .start; lost = h .lost; hurt = h .hurt; begun = h .begun; standing = h .standing }
 
 abbrev pub withSaves : History → List Save → History
-withSaves h s = record { sent = h .sent; taken = h .taken; cuts = h .cuts; saves = s; start = h .start; lost = h .lost; hurt = h .hurt }
-
-abbrev pub withLost : History → (ℕ → Option Image) → History
-withLost h l = record { sent = h .sent; taken = h .taken; cuts = h .cuts; saves = h .saves; start = h .start; lost = l; hurt = h .hurt }
+withSaves h s = record { sent = h .sent; taken = h .taken; cuts = h .cuts; saves = s; start = h .start; lost = h .lost; hurt = h .hurt; begun = h .begun; standing = h .standing }
 
 abbrev pub withHurt : History → Bool → History
-withHurt h t = record { sent = h .sent; taken = h .taken; cuts = h .cuts; saves = h .saves; start = h .start; lost = h .lost; hurt = t }
+withHurt h t = record { sent = h .sent; taken = h .taken; cuts = h .cuts; saves = h .saves; start = h .start; lost = h .lost; hurt = t; begun = h .begun; standing = h .standing }
+
+abbrev pub withBegun : History → Bool → History
+withBegun h t = record { sent = h .sent; taken = h .taken; cuts = h .cuts; saves = h .saves; start = h .start; lost = h .lost; hurt = h .hurt; begun = t; standing = h .standing }
+
+abbrev pub withStanding : History → Bool → History
+withStanding h t = record { sent = h .sent; taken = h .taken; cuts = h .cuts; saves = h .saves; start = h .start; lost = h .lost; hurt = h .hurt; begun = h .begun; standing = t }
 
 -- ---- what a taken step adds to the history; g is the group before it and g′ after it
 
@@ -143,8 +154,7 @@ noteTaken true h a b (Fault p) = h
 noteTaken true h a b Invalid = h
 noteTaken false h a b p = h
 
--- a resume taken in checkpointed, or the last piece fetched. It is the newest save's: a resume of an older one stands before the checkp
--- that the cut waited for, and every version that is known names the newest.
+-- a resume taken in checkpointed, or the last piece fetched: it is the newest save's (`Saves.ResumeOfNewest`, `Saves.VersionsNameNewest`)
 abbrev pub noteKnown : Bool → History → History
 noteKnown true h = withSaves h (markKnown (h .saves))
 noteKnown false h = h
@@ -154,13 +164,17 @@ abbrev pub commits : Group → Group → ℕ → Bool
 commits g g′ k = inSaving (stateOf g k) && isIn (stateOf g′ k) Normal
 
 abbrev pub noteCommit : Bool → History → ℕ → History
-noteCommit true h k = withSaves h (record { by = k; cut = h .cuts; known = false } ∷ h .saves)
+noteCommit true h k = withStanding (withSaves h (record { by = k; cut = h .cuts; known = false } ∷ h .saves)) true
 noteCommit false h k = h
 
 -- damage hits a normal packet
 abbrev pub noteHurt : Bool → History → History
 noteHurt true h = withHurt h true
 noteHurt false h = h
+
+-- a save whose coordinator fails before it is known is passed over
+abbrev pub notePassed : History → ℕ → History
+notePassed h a = withStanding (withSaves h (passOver a (h .saves))) (h .standing && not (passesOver a (h .saves)))
 
 abbrev pub imageIn : Option Cut → Option Image
 imageIn none = none
@@ -171,10 +185,20 @@ abbrev pub lostNow : History → Group → ℕ → Option Image → Option Image
 lostNow h g i (some m) = some m
 lostNow h g i none = cond (works (stateOf g i)) none (imageIn (latest h .cut i))
 
--- "Packets for a cut count from the start or the end of the last recovery before that save's begin": they count anew at every end, and
--- a save begun before one has no cut after it. The cabinets failed since the last end have their image now.
+-- "Packets for a cut count from the start or the end of the last recovery before that save's begin": they count anew at every end,
+-- and a save begun before one has no cut after it (`Saves.CutsSinceBegin`). The cabinets failed since the last end have their image now.
 abbrev pub noteEnd : Bool → History → Group → History
-noteEnd true h g = withHurt (withLost (withCuts (withTaken (withSent h noLog) noLog) (λ i. none)) (λ i. lostNow h g i (h .lost i))) false
+noteEnd true h g = record {
+  sent = noLog;
+  taken = noLog;
+  cuts = λ i. none;
+  saves = h .saves;
+  start = h .start;
+  lost = λ i. lostNow h g i (h .lost i);
+  hurt = false;
+  begun = false;
+  standing = false;
+}
 noteEnd false h g = h
 
 -- "a recovery ends in the step that takes a coordinator from recovered to normal": the coordinator in the table of cabinet j
@@ -184,7 +208,7 @@ ends g g′ j = goes g g′ (coordinator (cabinet g j)) Recovered Normal
 abbrev pub observe : History → Group → Group → Step → History
 observe h g g′ (Send a b q) = withSent h (logged (h .sent) (a - 1) (b - 1) (record { amount = q }))
 observe h g g′ (Note a p q) = h
-observe h g g′ (Begin a) = withCuts h (λ i. none)
+observe h g g′ (Begin a) = withBegun (withCuts h (λ i. none)) true
 observe h g g′ (Deliver a b) =
     noteKnown (goes g g′ (b - 1) Checkpointed Normal)
     (noteTaken (marked (inUse (cabinet g (b - 1))) (a - 1) && takesFrom (cabinet g (b - 1)) (a - 1)) h (a - 1) (b - 1)
@@ -195,7 +219,7 @@ observe h g g′ (Saved a) =
 observe h g g′ (Fetch a) = noteKnown (goes g g′ (a - 1) Recovering Recovered) h
 observe h g g′ (Restored a) = noteEnd (ends g g′ (a - 1)) h g′
 observe h g g′ (WaitOver a) = h
-observe h g g′ (Fail a) = withSaves h (passOver (a - 1) (h .saves))
+observe h g g′ (Fail a) = notePassed h (a - 1)
 observe h g g′ (Damage a b p q) = noteHurt (isNormal (packetAt (line g (a - 1) (b - 1)) p)) h
 
 -- "A cut belongs to the last begin taken by then, and its image is the cabinet's as that step leaves it."

@@ -8,6 +8,8 @@ pub mod Listing
 pub mod History
 pub mod Restored
 pub mod Bounds
+pub mod Fifo
+pub mod Saves
 pub mod Marked
 pub mod Examples
 pub mod Answers

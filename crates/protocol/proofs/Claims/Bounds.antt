@@ -31,7 +31,7 @@ use Rattle.protocol.specs.Receive.{takesFrom}
 use Rattle.protocol.specs.Kinds.{reportSaved, reportRestored}
 use Rattle.protocol.specs.History.{History, run, opening}
 use Rattle.protocol.specs.Restored.{Octets, Records}
-use Rattle.protocol.specs.Bounds.{packetsIn, LinesBounded, HasPlace, Puts, stands, takes, saves, restores, faults, recovers, FindsPlace, NeverWraps}
+use Rattle.protocol.specs.Bounds.{packetsIn, LinesBounded, NeverWraps}
 use Rattle.protocol.proofs.State.Fun.{never, is-true, and-true, sum, sum-add, sum-swap}
 use Rattle.protocol.proofs.State.Every.{getD-set, getD-repeated}
 use Rattle.protocol.proofs.State.View.{View, content, used, view}
@@ -66,126 +66,6 @@ running : (f : List ℕ) → Octets f → load f .answer ≡ 0 → (rs : List (L
     → isCrashed (run (opening (load f .group)) rs .group) ≡ false
     → Runs (feederTotal f) (run (opening (load f .group)) rs .group) (run (opening (load f .group)) rs .history)
 running f of e rs o c = ⊎-elim (λ x. absurd (never x c)) (λ w. w) (every-list f of e rs o)
-
--- ---- a line with fewer packets than cells ends in an empty cell
-
-past-packets : (cs : List Cell) (k : ℕ) → Packed cs → length (content cs) ≤ k → isEmpty (getD cs k emptyCell .packet) ≡ true
-unfolding content Packed
-past-packets [] k h l = refl
-past-packets (c ∷ cs) zero h l = go (isEmpty (c .packet)) refl
-  where
-    go : (t : Bool) → isEmpty (c .packet) ≡ t → isEmpty (c .packet) ≡ true
-    go true e = e
-    go false e = absurd (omega (arith, ap length (full-is (c .packet) (content cs) e)))
-past-packets (c ∷ cs) (suc k) h l = past-packets cs k (h .1) (go (isEmpty (c .packet)) refl)
-  where
-    go : (t : Bool) → isEmpty (c .packet) ≡ t → length (content cs) ≤ k
-    go true e = omega (arith, ap length (h .0 e))
-    go false e = omega (arith, ap length (full-is (c .packet) (content cs) e))
-
-module _ (total : ℕ) (g : Group) (h : History) (w : Runs total g h) where
-  abbrev γ : Ghost
-  γ = w .ghost
-
-  -- a line that is not in use between working cabinets is empty
-  below-twelve : (a b : ℕ) → length (view g .lines a b) < 12
-  below-twelve a b = go (works (stateOf g a) && (works (stateOf g b) && used (view g .side a b))) refl
-    where
-      go : (t : Bool) → works (stateOf g a) && (works (stateOf g b) && used (view g .side a b)) ≡ t → length (view g .lines a b) < 12
-      go true e =
-          let x = and-true {s = works (stateOf g a)} e in
-          let us = and-true {s = works (stateOf g b)} (x .1) .1 in
-          ⊎-elim (λ un. room-calm (g .n) total g γ (w .fit) (w .inv .core) a un b us)
-          (λ aw. room-aware (g .n) total (view g) γ (w .inv .core) a aw b us) (un-or-aware (γ .big) (view g .own a) (x .0))
-      go false e = omega (arith, ap length (w .inv .core .pairs a b .silent e))
-
-  has-place : (a b : ℕ) → HasPlace (line g a b)
-  has-place a b = past-packets (line g a b .cells) 11 (w .fit .lines a b .packed) (omega (arith, below-twelve a b))
-
--- ---- entering error: its lines are emptied, and then hold the fault packet at most
-
-module _ (m : Marks) (ps : List Cell) where
-  abbrev row : ℕ → Outgoing
-  row n = putRowTo n m ps emptyLines
-
-  none-yet : (n b : ℕ) → n ≤ b → lineTo (row n) b ≡ emptyLine
-  unfolding emptyLines lineTo withLineTo
-  none-yet zero b l = getD-repeated (λ (x : Line). x ≡ emptyLine) 8 b emptyLine emptyLine refl refl
-  none-yet (suc n) b l = go (marked m n) (none-yet n b (omega arith))
-    where
-      go : (t : Bool) → lineTo (row n) b ≡ emptyLine → lineTo (putIf t (row n) n (getD ps n emptyCell .packet)) b ≡ emptyLine
-      go true e = getD-set-other (row n .lines) n b _ emptyLine (omega arith) ∙ e
-      go false e = e
-
-  one-put : (n b : ℕ) → HasPlace (lineTo (row n) b)
-  unfolding lineTo withLineTo
-  one-put zero b = ap (λ (x : Line). isEmpty (packetAt x 11)) (none-yet zero b (omega arith))
-  one-put (suc n) b = go (marked m n) (one-put n b)
-    where
-      go : (t : Bool) → HasPlace (lineTo (row n) b) → HasPlace (lineTo (putIf t (row n) n (getD ps n emptyCell .packet)) b)
-      go true h =
-          getD-set HasPlace (row n .lines) n b _ emptyLine
-          (ap (λ (x : Line). isEmpty (packetAt (put x (getD ps n emptyCell .packet)) 11)) (none-yet n n (omega arith))) h
-      go false h = h
-
-set-own : {A : Type 0} (P : A → Type 0) (l : List A) (i : ℕ) (v d : A) → P v → P d → P (getD (set l i v) i d)
-set-own P [] i v d new past = past
-set-own P (x ∷ l) zero v d new past = new
-set-own P (x ∷ l) (suc i) v d new past = set-own P l i v d new past
-
--- the lines of i, replaced; past the eighth cabinet there are none
-lines-own : (P : Outgoing → Type 0) (g : Group) (i : ℕ) (o : Outgoing) → P o → P emptyLines → P (outgoing (withOutgoing g i o) i)
-unfolding outgoing withOutgoing
-lines-own P g i o new past = set-own P (g .outgoing) i o emptyLines new past
-
-abbrev silenced : Group → ℕ → Place → Group
-silenced g i p = withOutgoing (withCabinet g i (alarmed (cabinet g i) i p)) i emptyLines
-
-after-fault : (g : Group) (i : ℕ) (p : Place) (b : ℕ) → HasPlace (line (raise g i p) i b)
-unfolding raise broadcast putAll line
-after-fault g i p b =
-    let m = inUse (cabinet (silenced g i p) i) in
-    let ps : List Cell = replicate 8 (record { packet = Fault p }) in
-    let emptied : outgoing (silenced g i p) i ≡ emptyLines = lines-own (λ (o : Outgoing). o ≡ emptyLines) _ i emptyLines refl refl in
-    lines-own (λ (o : Outgoing). HasPlace (lineTo o b)) (silenced g i p) i _
-    (subst (λ (o : Outgoing). HasPlace (lineTo (putRowTo 8 m ps o) b)) (sym emptied) (one-put m ps 8 b)) (one-put m ps 0 b)
-
--- ---- every put of a step
-
-no-packets : (b : ℕ) → HasPlace (lineTo emptyLines b)
-unfolding emptyLines lineTo
-no-packets b = getD-repeated HasPlace 8 b emptyLine emptyLine refl refl
-
-pad-last : (cs : List Cell) (k : ℕ) → length cs ≤ k → isEmpty (getD (cs ++ (emptyCell ∷ [])) k emptyCell .packet) ≡ true
-pad-last [] zero l = refl
-pad-last [] (suc k) l = refl
-pad-last (c ∷ cs) zero l = absurd (omega arith)
-pad-last (c ∷ cs) (suc k) l = pad-last cs k (omega arith)
-
--- a line from which a packet was taken
-off-place : (cs : List Cell) → length cs ≡ 12 → isEmpty (getD (restCells cs) 11 emptyCell .packet) ≡ true
-off-place [] e = refl
-off-place (c ∷ cs) e = pad-last cs 11 (omega arith)
-
-module _ (total : ℕ) (g : Group) (h : History) (w : Runs total g h) where
-  off-lines : (a b c : ℕ) → HasPlace (line (withLine g a b (rest (line g a b))) b c)
-  unfolding line withLine outgoing withOutgoing lineTo withLineTo
-  off-lines a b c =
-      let off : HasPlace (rest (line g a b)) = off-place (line g a b .cells) (w .fit .lines a b .twelve) in
-      getD-set (λ (x : Outgoing). HasPlace (getD (x .lines) c emptyLine)) (g .outgoing) a b _ emptyLines
-      (getD-set HasPlace (outgoing g a .lines) b c _ emptyLine off (has-place total g h w a c)) (has-place total g h w b c)
-
-  every-put : (s : Group) (i : ℕ) → Puts g s i → (b : ℕ) → HasPlace (line s i b)
-  unfolding line outgoing withCabinet reportSaved reportRestored
-  every-put s i (stands j) b = has-place total g h w i b
-  every-put s i (takes a j) b = off-lines a i b
-  every-put s i (saves a j k) b = has-place total g h w i b
-  every-put s i (restores a k) b = has-place total g h w i b
-  every-put s i (faults u j) b = lines-own (λ (o : Outgoing). HasPlace (lineTo o b)) u i emptyLines (no-packets b) (no-packets b)
-  every-put s i (recovers u j p) b = after-fault u i p b
-
-pub finds-place : FindsPlace
-finds-place f of e rs o c = every-put _ _ _ (running f of e rs o c)
 
 -- ---- additions
 

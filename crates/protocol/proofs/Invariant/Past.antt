@@ -12,7 +12,7 @@ use Rattle.cabinet.specs.Cabinet.{booked}
 use Rattle.group.specs.declared.Group.{Group}
 use Rattle.group.specs.Group.{stateOf}
 use Rattle.protocol.specs.declared.Step.{Step}
-use Rattle.protocol.specs.History.{Cut, Save, History, latest, newest, observe, noteCuts, cutIn}
+use Rattle.protocol.specs.History.{Cut, Save, History, latest, newest, withCuts, observe, noteCuts, cutIn}
 use Rattle.protocol.specs.Restored.{Balanced, Restored}
 use Rattle.protocol.proofs.State.Fun.{and-true}
 use Rattle.protocol.proofs.State.View.{View, Own, view}
@@ -64,15 +64,7 @@ pub record Kept (total : ℕ) (g : Group) (γ : Ghost) (g′ : Group) (h′ : Hi
 -- ---- the history where no cabinet has its cut in the step, and where no cabinet's work changes
 
 pub no-cuts : (h : History) (g g′ : Group) → ((i : ℕ) → isIn (stateOf g′ i) Checkpointing ≡ true → isIn (stateOf g i) Checkpointing ≡ true) → noteCuts h g g′ ≡ h
-no-cuts h g g′ e = λ t. record {
-  sent = h .sent;
-  taken = h .taken;
-  cuts = same t;
-  saves = h .saves;
-  start = h .start;
-  lost = h .lost;
-  hurt = h .hurt;
-}
+no-cuts h g g′ e = λ t. withCuts h (same t)
   where
     one : (i : ℕ) (s u : Bool) → (s ≡ true → u ≡ true) → cond (s && not u) (some (cutIn h g′ i)) (h .cuts i) ≡ h .cuts i
     one i true true f = refl

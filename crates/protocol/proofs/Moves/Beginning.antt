@@ -27,7 +27,7 @@ use Rattle.group.specs.Group.{cabinet, withCabinet, stateOf, line, withLine}
 use Rattle.protocol.specs.Moves.{join, cutIfAll, takeCheckp}
 use Rattle.protocol.specs.Receive.{joinIf}
 use Rattle.protocol.specs.Kinds.{beginRefusal}
-use Rattle.protocol.specs.History.{upd, Cut, History, withCuts, noteCuts, cutIn}
+use Rattle.protocol.specs.History.{upd, Cut, History, withCuts, withBegun, noteCuts, cutIn}
 use Rattle.protocol.proofs.State.Fun.{never, is-true, and-true, upd-elim, upd-same, upd-other, upd-id, kept-at, kept-pair}
 use Rattle.protocol.proofs.State.Every.{passed, with-cabinet, with-line, ok-join}
 use Rattle.protocol.proofs.State.View.{View, Own, Side, used, content, view, setLine}
@@ -85,14 +85,31 @@ past-join n v γ h c begun p =
     one : {A : Type 0} (f : Mind → A) → f (mJoined (γ .mind c)) ≡ f (γ .mind c) → (x : ℕ) → f (gJoin γ c .mind x) ≡ f (γ .mind x)
     one f e x = kept-at f (γ .mind) c (mJoined (γ .mind c)) e x
 
+-- a begin is noted
+past-begun : {n : ℕ} {v : View} {γ : Ghost} {h : History} → Past n v γ h → Past n v γ (withBegun h true)
+past-begun p = record {
+  sent = p .sent;
+  taken = p .taken;
+  hurt = p .hurt;
+  cuts = p .cuts;
+  noCut = p .noCut;
+  known = p .known;
+  tops = p .tops;
+  balanced = p .balanced;
+  present = p .present;
+  gone = p .gone;
+  beyond = p .beyond;
+  below = p .below;
+}
+
 -- a new save begins: no cabinet has a cut in it
 pub past-begin : (n total : ℕ) (v : View) (γ : Ghost) (h : History) (c : ℕ) → Inv n total v γ → γ .big .begun ≡ false → Past n v γ h
-    → Past n v (gJoin γ c) (withCuts h (λ i. none))
+    → Past n v (gJoin γ c) (withBegun (withCuts h (λ i. none)) true)
 past-begin n total v γ h c i fresh p =
-    past-ghost n v γ (gJoin γ c) h (λ x y. refl) (λ x y. refl) refl refl refl refl (one (λ m. m .tab) refl) (one (λ m. m .top) refl)
+    past-ghost n v γ (gJoin γ c) (withBegun h true) (λ x y. refl) (λ x y. refl) refl refl refl refl (one (λ m. m .tab) refl) (one (λ m. m .top) refl)
     (one (λ m. m .prev) refl) (λ x. none)
     (λ a x e. absurd (never (i .core .nodes x .joinedBegun (i .core .nodes x .doneJoined (sym (one (λ m. m .done) refl x) ∙ e))) fresh))
-    (λ a e x f. refl) p
+    (λ a e x f. refl) (past-begun p)
   where
     one : {A : Type 0} (f : Mind → A) → f (mJoined (γ .mind c)) ≡ f (γ .mind c) → (x : ℕ) → f (gJoin γ c .mind x) ≡ f (γ .mind x)
     one f e x = kept-at f (γ .mind) c (mJoined (γ .mind c)) e x
@@ -266,9 +283,9 @@ module _ (total : ℕ) (g : Group) (h : History) (γ : Ghost) (w : Fit g) (i : I
       ap (λ (x : View). works (x .own d .state)) begin-seen
       ∙ kept-at (λ (o : Own). works (o .state)) (view g .own) a _ (sym (un-works (γ .big) (view g .own a) calm)) d
 
-  pub keeps-begin : Kept total g γ (cutIfAll (join g a) a) (noteCuts (withCuts h (λ i. none)) g (cutIfAll (join g a) a))
+  pub keeps-begin : Kept total g γ (cutIfAll (join g a) a) (noteCuts (withBegun (withCuts h (λ i. none)) true) g (cutIfAll (join g a) a))
   keeps-begin =
-      keeps-cut total g γ (withCuts h (λ i. none)) (join g a) (ok-join Shaped Lined Pictured shaped g a w) (gJoin γ a)
+      keeps-cut total g γ (withBegun (withCuts h (λ i. none)) true) (join g a) (ok-join Shaped Lined Pictured shaped g a w) (gJoin γ a)
       (subst (λ (x : View). Inv (g .n) total x (gJoin γ a)) (sym begin-seen) (join-inv (g .n) total (view g) γ i a calm normal (inl (chief, fresh))))
       (past-view begin-work (past-begin (g .n) total (view g) γ h a i fresh past))
       (λ d e. elim (ℕ-discrete d a) [

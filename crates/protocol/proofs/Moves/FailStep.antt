@@ -2,7 +2,7 @@
 use Prim.Native.Nat.{ℕ, _<_}
 use mathlib.Core.Path.{_≡_, refl, sym, ap, _∙_, subst}
 use mathlib.Core.Logic.{_≢_, inl, inr}
-use mathlib.Core.Bool.{Bool, true, false, cond, not, _||_, false≢true, true≢false}
+use mathlib.Core.Bool.{Bool, true, false, cond, not, _||_, false≢true, true≢false, _&&_}
 use mathlib.Core.List.{List, [], _∷_}
 use mathlib.Core.Option.{some as just}
 use lib.ListN.{length, set}
@@ -21,7 +21,7 @@ use Rattle.group.specs.declared.Group.{Group}
 use Rattle.group.specs.Group.{cabinet, stateOf, rowsOf, working, some, recoveringOnes}
 use Rattle.protocol.specs.Moves.{markFailed, alarmTo}
 use Rattle.protocol.specs.Kinds.{failCrashes}
-use Rattle.protocol.specs.History.{Save, History, newest, passOver, withSaves, noteCuts}
+use Rattle.protocol.specs.History.{Save, History, newest, passesOver, passOver, withSaves, withStanding, notePassed, noteCuts}
 use Rattle.protocol.proofs.State.Fun.{never, is-false, and-true, and-not}
 use Rattle.protocol.proofs.State.Every.{ok-markFailed}
 use Rattle.protocol.proofs.State.View.{View, Own, used, view}
@@ -64,32 +64,43 @@ past-big n v w γ b h clean adopted chief begun alive fewer p = record {
 }
 
 -- a save that some know of is not passed over, nor one by another coordinator
-known-stays : (a : ℕ) (l : List Save) (s : Save) → newest l s .known ≡ true → passOver a l ≡ l
+known-stays : (a : ℕ) (l : List Save) (s : Save) → newest l s .known ≡ true → passesOver a l ≡ false
 known-stays a [] s e = refl
-known-stays a (x ∷ xs) s e = ap (λ (t : Bool). cond t xs (x ∷ xs)) (and-not (eqb (x .by) a) (x .known) e)
+known-stays a (x ∷ xs) s e = and-not (eqb (x .by) a) (x .known) e
 
-other-stays : (a : ℕ) (l xs : List Save) (x : Save) → l ≡ x ∷ xs → x .by ≢ a → passOver a l ≡ l
+other-stays : (a : ℕ) (l xs : List Save) (x : Save) → l ≡ x ∷ xs → x .by ≢ a → passesOver a l ≡ false
 other-stays a l xs x e d = rw (e, ne-eqb (x .by) a d)
+
+all-stay : (a : ℕ) (l : List Save) → passesOver a l ≡ false → passOver a l ≡ l
+all-stay a [] e = refl
+all-stay a (x ∷ xs) e = ap (λ (t : Bool). cond t xs (x ∷ xs)) e
+
+still-standing : (s t : Bool) → t ≡ false → (s && not t) ≡ s
+still-standing true t e = ap not e
+still-standing false t e = refl
+
+none-passed : (h : History) (a : ℕ) → passesOver a (h .saves) ≡ false → notePassed h a ≡ h
+none-passed h a e = λ t. withStanding (withSaves h (all-stay a (h .saves) e t)) (still-standing (h .standing) (passesOver a (h .saves)) e t)
 
 mine-goes : (a : ℕ) (l xs : List Save) (x : Save) → l ≡ x ∷ xs → x .by ≡ a → x .known ≡ false → passOver a l ≡ xs
 mine-goes a l xs x e b k = rw (e, eq-eqb (x .by) a b, k)
 
 module _ (n : ℕ) (v : View) (γ : Ghost) (h : History) (p : Past n v γ h) (a : ℕ) where
-  kept-known : γ .big .adopted ≡ true → withSaves h (passOver a (h .saves)) ≡ h
-  kept-known e = ap (withSaves h) (known-stays a (h .saves) (h .start) (p .known ∙ e))
+  kept-known : γ .big .adopted ≡ true → notePassed h a ≡ h
+  kept-known e = none-passed h a (known-stays a (h .saves) (h .start) (p .known ∙ e))
 
-  kept-other : a ≢ γ .big .chief → withSaves h (passOver a (h .saves)) ≡ h
+  kept-other : a ≢ γ .big .chief → notePassed h a ≡ h
   kept-other d = go (γ .big .adopted) refl
     where
-      go : (t : Bool) → γ .big .adopted ≡ t → withSaves h (passOver a (h .saves)) ≡ h
+      go : (t : Bool) → γ .big .adopted ≡ t → notePassed h a ≡ h
       go true e = kept-known e
-      go false e = let x = p .below e in ap (withSaves h) (other-stays a (h .saves) (x .1) (x .0) (x .2) (λ q. d (sym q ∙ x .3)))
+      go false e = let x = p .below e in none-passed h a (other-stays a (h .saves) (x .1) (x .0) (x .2) (λ q. d (sym q ∙ x .3)))
 
   -- the newest save is passed over: the rule gives the one before
   pub past-undone : γ .big .adopted ≡ false → a ≡ γ .big .chief → (j : ℕ) → j ≢ γ .big .chief → workOf v j ≡ true
       → ((c : ℕ) → γ .mind c .tab ≡ false → γ .mind c .prev ≡ γ .mind c .top) → ((c : ℕ) → γ .mind c .tab ≡ true → c < n)
       → (w : View) (b : Big) → b .clean ≡ γ .big .clean → b .adopted ≡ true → b .alive ≡ false
-      → Past n w (gBig (gUndo γ) b) (withSaves h (passOver a (h .saves)))
+      → Past n w (gBig (gUndo γ) b) (notePassed h a)
   past-undone fresh chief j other works same within w b clean adopted dead =
       let x = p .below fresh in
       let unknown : x .0 .known ≡ false = ap (λ (l : List Save). newest l (h .start) .known) (sym (x .2)) ∙ p .known ∙ fresh in
@@ -147,7 +158,7 @@ module _ (total : ℕ) (g : Group) (h : History) (γ : Ghost) (fit : Fit g) (i :
   g′ = alarmTo 8 (markFailed g a) a
 
   abbrev h′ : History
-  h′ = withSaves h (passOver a (h .saves))
+  h′ = notePassed h a
 
   checks : (cabinet g a .store ≡ false) × (some (recoveringOnes g) ≡ false) × (connected (rowsOf (g .sound)) (set (working g) a false) ≡ true)
   checks = split-or (cabinet g a .store) (some (recoveringOnes g)) (connected (rowsOf (g .sound)) (set (working g) a false)) fine

@@ -19,6 +19,7 @@ use Rattle.cabinet.specs.declared.Cabinet.{Cabinet}
 use Rattle.group.specs.declared.Group.{Group}
 use Rattle.group.specs.Group.{cabinet, line, slot, rowsOf}
 use Rattle.protocol.specs.History.{upd}
+unfoldable pub use Rattle.protocol.specs.Fifo.{packetOf, content}
 
 pub record Own : Type 0 where
   pub state : State
@@ -69,21 +70,6 @@ sideOf c j = record {
 -- the line towards the other is in use
 abbrev pub used : Side → Bool
 used s = s .link && s .cab
-
--- ---- a line as the list of its packets
-
-abbrev pub packetOf : Packet → List Packet → List Packet
-packetOf Empty l = l
-packetOf (NormalPacket p) l = NormalPacket p ∷ l
-packetOf (Checkp v) l = Checkp v ∷ l
-packetOf Resume l = Resume ∷ l
-packetOf (Recover v) l = Recover v ∷ l
-packetOf (Fault p) l = Fault p ∷ l
-packetOf Invalid l = Invalid ∷ l
-
-unfoldable pub content : List Cell → List Packet
-content [] = []
-content (c ∷ cs) = packetOf (c .packet) (content cs)
 
 pub record View : Type 0 where
   pub own : ℕ → Own

@@ -1,0 +1,99 @@
+-- What the history takes for granted of saves, and what a reader would ask of them, as claims about every run: which save a resume and a
+-- slot belong to, that a cut belongs to a begin since the last recovery's end, that a version is known where it is used, and what a
+-- committed save holds.
+use Prim.Native.Nat.{ℕ, zero, suc, _+_, _-_, _<_}
+use mathlib.Core.Path.{_≡_}
+use mathlib.Core.Bool.{true, false}
+use mathlib.Core.List.{List, _∷_}
+use mathlib.Core.Option.{Option, none, some}
+use Rattle.marks.specs.Marks.{marked}
+use Rattle.line.specs.declared.Packet.the-variants.{Resume}
+use Rattle.line.specs.Line.{oldest, packetAt}
+use Rattle.cabinet.specs.declared.State.the-variants.{Checkpointing, Checkpointed}
+use Rattle.cabinet.specs.declared.Version.the-variants.{Known}
+use Rattle.cabinet.specs.declared.Image.{Image}
+use Rattle.cabinet.specs.State.{works, isUnknown}
+use Rattle.cabinet.specs.Cabinet.{inUse, coordinator}
+use Rattle.group.specs.declared.Group.{Group}
+use Rattle.group.specs.Group.{cabinet, stateOf, line, slot, isCrashed}
+use Rattle.load.specs.Load.{load, cabinetCount, feederTotal}
+use Rattle.protocol.specs.declared.Step.the-variants.{Saved}
+use Rattle.protocol.specs.declared.Decoded.the-variants.{Taken}
+use Rattle.protocol.specs.Kinds.{writeRefusal, fetchRefusal}
+use Rattle.protocol.specs.Entry.{decode, step}
+use Rattle.protocol.specs.History.{Cut, Save, History, World, advance, commits, latest, imageIn}
+use Rattle.protocol.specs.Restored.{Octets, Records, worldAfter, Balanced, amperes}
+use Rattle.protocol.specs.Bounds.{Always}
+
+-- of every group that has not crashed, and its history
+abbrev pub Running : (Group → History → Type 0) → Type 0
+Running P = Always (λ g h. isCrashed g ≡ false → P g h)
+
+-- ---- a commit
+
+-- record r is taken, and in its step a save is committed
+pub record Commits (g : Group) (r : List ℕ) : Type 0 where
+  pub about : ℕ
+  pub saved : decode r ≡ Taken (Saved about)
+  pub taken : step g r .answer ≡ 0
+  pub commit : commits g (step g r .group) (coordinator (cabinet g (cabinet g (about - 1) .home))) ≡ true
+
+-- of the group before a commit, and the history after it
+abbrev pub EveryCommit : (ℕ → ℕ → Group → History → Type 0) → Type 0
+EveryCommit P =
+    (f : List ℕ) → Octets f → load f .answer ≡ 0 → (rs : List (List ℕ)) → Records rs → (r : List ℕ) → Octets r
+    → Commits (worldAfter f rs .group) r → P (cabinetCount f) (feederTotal f) (worldAfter f rs .group) (advance (worldAfter f rs) r .history)
+
+-- the image that the newest save has of a cabinet: of its cut, or for one lost before it, the image that it was lost with
+abbrev pub savedImage : Option Image → Option Image → Option Image
+savedImage none m = m
+savedImage (some x) m = some x
+
+abbrev pub savedTo : ℕ → History → ℕ
+savedTo zero h = 0
+savedTo (suc n) h = savedTo n h + amperes (savedImage (h .lost n) (imageIn (latest h .cut n)))
+
+-- at its cuts what each had taken from each other one is what that one had sent it, all, in order and undamaged; every cabinet has an
+-- image in it or was lost with one; and these add up to the feeder's total
+abbrev pub CommitsWhole : Type 0
+CommitsWhole =
+    EveryCommit (λ n total g h.
+    Balanced (latest h) × ((c : ℕ) → c < n → (m : Image) × (savedImage (h .lost c) (imageIn (latest h .cut c)) ≡ some m)) × (savedTo n h ≡ total))
+
+-- ---- which save a resume belongs to: the one last committed when it was put
+
+-- where a save is committed no line holds a resume, so that every resume on a line belongs to the save last committed
+abbrev pub CommitsBetweenResumes : Type 0
+CommitsBetweenResumes = EveryCommit (λ n total g h. (a b k : ℕ) → packetAt (line g a b) k ≡ Resume → ⊥)
+
+-- b takes the oldest packet from a, a resume, in checkpointed
+pub record TakesResume (g : Group) (a b : ℕ) : Type 0 where
+  pub waits : stateOf g b ≡ Checkpointed
+  pub uses : marked (inUse (cabinet g b)) a ≡ true
+  pub resume : oldest (line g a b) ≡ Resume
+
+-- that save is the newest: it stands, and b has its cut in it. And b's version is unknown.
+abbrev pub ResumeOfNewest : Type 0
+ResumeOfNewest =
+    Running (λ g h. (a b : ℕ) → TakesResume g a b
+    → (h .standing ≡ true) × ((x : Save) × (xs : List Save) × (y : Cut) × (h .saves ≡ x ∷ xs) × (x .cut b ≡ some y)) × (isUnknown (cabinet g b .phase .version) ≡ true))
+
+-- ---- which save a slot belongs to: the one whose image of the cabinet it holds
+
+-- every version that is known, of whichever working cabinet, names the newest save in the slots of every working cabinet
+abbrev pub VersionsNameNewest : Type 0
+VersionsNameNewest =
+    Running (λ g h. (c d : ℕ) → works (stateOf g c) ≡ true → works (stateOf g d) ≡ true
+    → (v : _) → cabinet g d .phase .version ≡ Known v → (y : Cut) × (latest h .cut c ≡ some y) × (slot g c v ≡ y .image))
+
+-- a version is known wherever a slot is written by it or read by it
+abbrev pub KnownWhereUsed : Type 0
+KnownWhereUsed =
+    Running (λ g h. (a : ℕ) → (writeRefusal g a ≡ 0 → isUnknown (cabinet g a .phase .version) ≡ false)
+    × (fetchRefusal g a ≡ 0 → isUnknown (cabinet g (cabinet g a .home) .phase .version) ≡ false))
+
+-- ---- which begin a cut belongs to
+
+-- a save begun before a recovery's end has no cut after it: who is past its cut is so since a begin after that end
+abbrev pub CutsSinceBegin : Type 0
+CutsSinceBegin = Running (λ g h. (c : ℕ) → stateOf g c ≡ Checkpointing → h .begun ≡ true)
