@@ -10,5 +10,6 @@ pub mod Restored
 pub mod Bounds
 pub mod Marked
 pub mod Examples
+pub mod Tempting
 pub mod Answers
 pub mod Crash
