@@ -1,12 +1,13 @@
 -- Runs with the answer to each record, in which a wrong rule would answer otherwise: first those that document 01 calls tempting on the
--- rack, then others that no marked case shows. A run ends in the record that the wrong rule would take.
+-- rack, then others that no marked case shows.
 use Prim.Native.Nat.{ℕ}
+use mathlib.Core.Path.{_≡_}
 use mathlib.Core.List.{List, [], _∷_, _++_}
 use lib.ListN.{length, replicate}
 use Rattle.group.specs.declared.Group.{Group}
 use Rattle.load.specs.Load.{load}
 use Rattle.protocol.specs.Entry.{step}
-use Rattle.protocol.specs.Marked.{twoCabinets, recordOf, send, begin, deliver, fetch, restored, fail}
+use Rattle.protocol.specs.Marked.{rowOf, twoCabinets, recordOf, send, begin, deliver, fetch, restored, fail}
 use Rattle.protocol.specs.Examples.{fileOf, writes, saved, fetches, waitOver, damage}
 
 -- a run, and the answers that the paper gives
@@ -23,6 +24,9 @@ answersFrom g (r ∷ rs) = step g r .answer ∷ answersFrom (step g r .group) rs
 -- what the definitions answer
 unfoldable pub answered : Run → List ℕ
 answered r = answersFrom (load (r .file) .group) (r .records)
+
+abbrev pub AsWritten : Run → Type 0
+AsWritten r = answered r ≡ r .answers
 
 -- every record is taken but the last, which gets another answer
 abbrev pub lastOf : List ℕ → List (List ℕ) → List ℕ → ℕ → Run
@@ -78,6 +82,10 @@ triangle = fileOf 1 (10 ∷ 20 ∷ 30 ∷ []) (1 ∷ 2 ∷ 1 ∷ 3 ∷ 2 ∷ 3 �
 abbrev pub heard : Run
 heard = lastOf triangle (fail 3 ∷ fetches 1) (restored 1) 19
 
+-- 1, the coordinator, has heard 2; but 2 has not heard 1
+abbrev pub heardOneWay : Run
+heardOneWay = lastOf triangle (fail 3 ∷ deliver 2 1 ∷ fetches 2) (restored 2) 19
+
 -- ---- "In error, recovering and recovered everything from a neighbour is dropped until its fault packet has come"
 
 -- 3, the store and home of all, has the resume of a save from 2; that from 1 is still on its line when 4 fails, and 1 does not know of
@@ -94,11 +102,8 @@ oldResume =
 
 -- ---- "A failing cabinet's lines are emptied both ways"
 
-abbrev pub emptiedFrom : Run
-emptiedFrom = lastOf triangle (send 3 2 7 ∷ fail 3 ∷ []) (deliver 3 2) 18
-
-abbrev pub emptiedTo : Run
-emptiedTo = lastOf triangle (send 2 3 5 ∷ fail 3 ∷ []) (damage 2 3 0 1) 18
+abbrev pub emptied : Run
+emptied = lastOf triangle (send 3 2 7 ∷ fail 3 ∷ []) (deliver 3 2) 18
 
 -- ---- "20 a normal packet, and a normal packet of that line was hurt since the receiver's register restarted"
 
@@ -113,14 +118,39 @@ fullLine = lastOf (twoCabinets 100 50) (replicate 8 (send 1 2 1)) (send 1 2 1) 1
 
 -- ---- "The group crashes when, and only when"
 
+-- "a store cabinet fails;"
 abbrev pub storeFails : Run
 storeFails = lastOf triangle [] (fail 1) 50
+
+-- "a cabinet fails, or damage is done, while some working cabinet is in error, recovering or recovered;"
+abbrev pub failsInRecovery : Run
+failsInRecovery = lastOf triangle (fail 3 ∷ []) (fail 2) 50
+
+abbrev pub damageInRecovery : Run
+damageInRecovery = lastOf triangle (fail 3 ∷ []) (damage 1 2 0 1) 50
 
 -- "two fault places meet": 2 and 3 find the links to 1 faulty, and 4 hears of both
 abbrev pub placesMeet : Run
 placesMeet =
     lastOf (fileOf 4 (10 ∷ 20 ∷ 30 ∷ 40 ∷ []) (1 ∷ 2 ∷ 1 ∷ 3 ∷ 1 ∷ 4 ∷ 2 ∷ 4 ∷ 3 ∷ 4 ∷ []))
     (begin 1 ∷ damage 1 2 0 1 ∷ damage 1 3 0 1 ∷ deliver 1 2 ∷ deliver 1 3 ∷ deliver 2 4 ∷ []) (deliver 3 4) 50
+
+-- "at a fail (the failing one left out) .. some working cabinet is not reached"
+abbrev pub failParts : Run
+failParts = lastOf (rowOf 10 (20 ∷ 30 ∷ [])) [] (fail 2) 50
+
+-- "at the finding of a link fault (that link left out) some working cabinet is not reached": a hit checkp over the one link
+abbrev pub linkParts : Run
+linkParts = lastOf (twoCabinets 100 50) (begin 1 ∷ damage 1 2 0 1 ∷ []) (deliver 1 2) 50
+
+-- "over links not found faulty": the link of 2, the store, and 3 was found so, and the group came back without it
+abbrev pub faultyLinkParts : Run
+faultyLinkParts =
+    lastOf (fileOf 2 (10 ∷ 20 ∷ 30 ∷ []) (1 ∷ 2 ∷ 1 ∷ 3 ∷ 2 ∷ 3 ∷ []))
+    (begin 1 ∷ deliver 1 2 ∷ damage 2 3 0 1 ∷ deliver 2 3 ∷ deliver 3 1 ∷ deliver 1 2 ∷ deliver 1 3 ∷ deliver 2 1
+    ∷ fetches 1 ++ fetches 2 ++ fetches 3
+    ++ restored 1 ∷ restored 2 ∷ restored 3 ∷ deliver 1 2 ∷ deliver 1 2 ∷ deliver 1 3 ∷ deliver 1 3 ∷ [])
+    (fail 1) 50
 
 -- ---- "Every step first": 8 to 12, "the first in the order written"
 
@@ -133,7 +163,11 @@ inOrder = record {
   answers = 11 ∷ 0 ∷ 12 ∷ 50 ∷ 10 ∷ 10 ∷ 9 ∷ 8 ∷ [];
 }
 
-abbrev pub tempting : List Run
-tempting =
-    hole ∷ holeLate ∷ wait ∷ homeInDoubt ∷ heard ∷ oldResume ∷ emptiedFrom ∷ emptiedTo ∷ hurtTwice ∷ fullLine ∷ storeFails
-    ∷ placesMeet ∷ inOrder ∷ []
+-- ---- the table
+
+abbrev pub AllAsWritten : Type 0
+AllAsWritten =
+    AsWritten hole × AsWritten holeLate × AsWritten wait × AsWritten homeInDoubt × AsWritten heard × AsWritten heardOneWay
+    × AsWritten oldResume × AsWritten emptied × AsWritten hurtTwice × AsWritten fullLine × AsWritten storeFails
+    × AsWritten failsInRecovery × AsWritten damageInRecovery × AsWritten placesMeet × AsWritten failParts × AsWritten linkParts
+    × AsWritten faultyLinkParts × AsWritten inOrder
