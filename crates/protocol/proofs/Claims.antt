@@ -3,3 +3,4 @@ pub mod Stepping
 pub mod Demand
 pub mod Bounds
 pub mod Examples
+pub mod Tempting

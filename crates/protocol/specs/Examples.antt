@@ -1,7 +1,8 @@
--- Three runs in which a coordinator ends a recovery, so that the claim of `Restored` is about something: each as a file and records,
+-- Five runs in which a coordinator ends a recovery, so that the claim of `Restored` is about something: each as a file and records,
 -- with what is found in it. The first restores a committed save, the second the save before one that is passed over, the third
--- follows a link fault that the check finds. None restores the start.
-use Prim.Native.Nat.{ℕ, suc, _/_}
+-- follows a link fault that the check finds, the fourth is a second recovery, of a save made after the first one, and the fifth
+-- restores a save that was restored once before its coordinator failed. None restores the start.
+use Prim.Native.Nat.{ℕ, zero, suc, _/_}
 use mathlib.Core.Bool.{Bool, true, cond, _&&_}
 use mathlib.Core.List.{List, [], _∷_, _++_, map}
 use mathlib.Core.Option.{Option, none, some}
@@ -15,9 +16,9 @@ use Rattle.cabinet.specs.declared.Image.{Image}
 use Rattle.cabinet.specs.State.{works}
 use Rattle.group.specs.declared.Group.{Group}
 use Rattle.group.specs.Group.{cabinet, stateOf}
-use Rattle.load.specs.Load.{load}
+use Rattle.load.specs.Load.{load, cabinetCount}
 use Rattle.protocol.specs.Entry.{step}
-use Rattle.protocol.specs.History.{History, World, advance, ends, latest}
+use Rattle.protocol.specs.History.{Cut, History, World, advance, ends, latest}
 use Rattle.protocol.specs.Restored.{takenIn, counted, worldAfter}
 use Rattle.protocol.specs.Marked.{twoOctets, header, recordOf, send, begin, deliver, fetch, restored, fail}
 
@@ -70,7 +71,7 @@ worldTo e rs = worldAfter (e .file) rs
 abbrev pub worldAtEnd : Example → World
 worldAtEnd e = advance (worldTo e (records e)) (e .last)
 
--- what is found; a list has one place for each of the three cabinets
+-- what is found; a list has one place for each cabinet
 pub record Found : Type 0 where
   -- the answer of load, whether every record is taken, and whether the last one ends the recovery
   pub loaded : ℕ
@@ -93,10 +94,14 @@ abbrev pub allTaken : Group → List (List ℕ) → Bool
 allTaken g [] = true
 allTaken g (r ∷ rs) = eqb (step g r .answer) 0 && allTaken (step g r .group) rs
 
--- the amounts that cabinet c had taken by its cut, those from 1 first
-abbrev pub tookIn : History → ℕ → List ℕ
-tookIn h c =
-    map (λ (p : Payload). p .amount) (takenIn (latest h .cut c) 0 ++ takenIn (latest h .cut c) 1 ++ takenIn (latest h .cut c) 2)
+-- what was taken by a cut from the first n cabinets, from the first one first
+abbrev pub takenFrom : ℕ → Option Cut → List Payload
+takenFrom zero x = []
+takenFrom (suc n) x = takenFrom n x ++ takenIn x n
+
+-- the amounts that cabinet c of n had taken by its cut
+abbrev pub tookIn : ℕ → History → ℕ → List ℕ
+tookIn n h c = map (λ (p : Payload). p .amount) (takenFrom n (latest h .cut c))
 
 abbrev pub heldBy : Group → ℕ → Option Image
 heldBy g c = cond (works (stateOf g c)) (some (cabinet g c .image)) none
@@ -104,8 +109,10 @@ heldBy g c = cond (works (stateOf g c)) (some (cabinet g c .image)) none
 abbrev pub goneOf : History → Group → ℕ → Option Image
 goneOf h g c = cond (works (stateOf g c)) none (counted h g c)
 
-abbrev pub three : {A : Type 0} → (ℕ → A) → List A
-three f = f 0 ∷ f 1 ∷ f 2 ∷ []
+-- one for each of the first n cabinets
+abbrev pub forEach : {A : Type 0} → ℕ → (ℕ → A) → List A
+forEach zero f = []
+forEach (suc n) f = forEach n f ++ f n ∷ []
 
 abbrev pub foundIn : Example → World → World → World → Found
 foundIn e fault near end = record {
@@ -116,10 +123,10 @@ foundIn e fault near end = record {
   committed = length (fault .history .saves);
   left = length (end .history .saves);
   by = latest (end .history) .by;
-  took = three (tookIn (end .history));
-  standing = three (λ c. cabinet (fault .group) c .image);
-  held = three (heldBy (end .group));
-  gone = three (goneOf (end .history) (end .group));
+  took = forEach (cabinetCount (e .file)) (tookIn (cabinetCount (e .file)) (end .history));
+  standing = forEach (cabinetCount (e .file)) (λ c. cabinet (fault .group) c .image);
+  held = forEach (cabinetCount (e .file)) (heldBy (end .group));
+  gone = forEach (cabinetCount (e .file)) (goneOf (end .history) (end .group));
 }
 
 -- at the fault, before the last record and after it
@@ -277,4 +284,109 @@ link-fault-finds = record {
   standing = imageWith 80 0 ∷ imageWith 69 9 ∷ imageWith 22 0 ∷ [];
   held = some (imageWith 80 0) ∷ some (imageWith 75 9) ∷ some (imageWith 15 0) ∷ [];
   gone = none ∷ none ∷ none ∷ [];
+}
+
+-- ---- 4: a second recovery
+
+-- four cabinets, 1 the store and home of all; 3 hangs on 1 alone
+abbrev pub fourCabinets : List ℕ
+fourCabinets = fileOf 1 (100 ∷ 50 ∷ 20 ∷ 30 ∷ []) (1 ∷ 2 ∷ 1 ∷ 3 ∷ 1 ∷ 4 ∷ 2 ∷ 4 ∷ [])
+
+-- a save of all four with 75, 45, 50 and 30, and its resume taken
+abbrev pub fourSaved : List (List ℕ)
+fourSaved =
+    send 1 3 30 ∷ deliver 1 3 ∷ send 2 1 5 ∷ deliver 2 1
+    ∷ begin 1 ∷ deliver 1 2 ∷ deliver 1 3 ∷ deliver 1 4 ∷ deliver 2 1 ∷ deliver 3 1 ∷ deliver 4 1 ∷ deliver 4 2 ∷ deliver 2 4
+    ∷ writes 1 ++ writes 2 ++ writes 3 ++ writes 4
+    ++ saved 1 ∷ saved 2 ∷ saved 3 ∷ saved 4
+    ∷ deliver 1 2 ∷ deliver 1 3 ∷ deliver 1 4 ∷ deliver 2 4 ∷ deliver 4 2
+    ∷ []
+
+-- 3 fails and the others come back from that save; its last sending, 7 to 1, is undone
+abbrev pub thirdLost : List (List ℕ)
+thirdLost =
+    send 3 1 7 ∷ deliver 3 1 ∷ fail 3
+    ∷ deliver 1 2 ∷ deliver 1 4 ∷ deliver 2 1 ∷ deliver 4 1 ∷ deliver 4 2 ∷ deliver 2 4
+    ∷ fetches 1 ++ fetches 2 ++ fetches 4
+    ++ restored 2 ∷ restored 4 ∷ restored 1
+    -- on each line a recover, which is dropped, and the resume that ends the recovery at 2 and 4
+    ∷ deliver 1 2 ∷ deliver 1 2 ∷ deliver 1 4 ∷ deliver 1 4
+    ∷ deliver 2 1 ∷ deliver 2 1 ∷ deliver 4 1 ∷ deliver 4 1 ∷ deliver 2 4 ∷ deliver 2 4 ∷ deliver 4 2 ∷ deliver 4 2
+    ∷ []
+
+-- a save of the three that are left with 66, 53 and 31
+abbrev pub threeSaved : List (List ℕ)
+threeSaved =
+    send 1 2 11 ∷ deliver 1 2 ∷ send 2 4 3 ∷ deliver 2 4 ∷ send 4 1 2
+    ∷ begin 1 ∷ deliver 4 1 ∷ deliver 1 2 ∷ deliver 1 4 ∷ deliver 2 1 ∷ deliver 4 1 ∷ deliver 2 4 ∷ deliver 4 2
+    ∷ writes 1 ++ writes 2 ++ writes 4
+    ++ saved 1 ∷ saved 2 ∷ saved 4
+    ∷ deliver 1 2 ∷ deliver 1 4 ∷ deliver 2 4 ∷ deliver 4 2
+    ∷ []
+
+abbrev pub second-recovery : Example
+second-recovery = record {
+  file = fourCabinets;
+  before = fourSaved ++ thirdLost ++ threeSaved ++ send 2 1 4 ∷ deliver 2 1 ∷ [];
+  since = fail 4 ∷ deliver 1 2 ∷ deliver 2 1 ∷ fetches 1 ++ fetches 2 ++ restored 2 ∷ [];
+  last = restored 1;
+  coordinator = 0;
+}
+
+abbrev pub second-recovery-finds : Found
+second-recovery-finds = record {
+  loaded = 0;
+  taken = true;
+  ended = true;
+  place = Fault (AtCabinet 3);
+  committed = 2;
+  left = 2;
+  by = 0;
+  -- "Packets for a cut count from the start or the end of the last recovery before that save's begin": not the 30 and the 5
+  took = (2 ∷ []) ∷ (11 ∷ []) ∷ [] ∷ (3 ∷ []) ∷ [];
+  standing = imageWith 70 0 ∷ imageWith 49 0 ∷ imageWith 43 0 ∷ imageWith 31 0 ∷ [];
+  held = some (imageWith 66 0) ∷ some (imageWith 53 0) ∷ none ∷ none ∷ [];
+  -- "A failed cabinet's image is its image in the save restored after it failed": that of 3 is in the first save
+  gone = none ∷ none ∷ some (imageWith 50 0) ∷ some (imageWith 31 0) ∷ [];
+}
+
+-- ---- 5: a save restored once, and then its coordinator fails
+
+-- as `ring`, but 2 is the store and home of all
+abbrev pub otherRing : List ℕ
+otherRing = fileOf 2 (100 ∷ 50 ∷ 20 ∷ []) (1 ∷ 2 ∷ 1 ∷ 3 ∷ 2 ∷ 3 ∷ [])
+
+abbrev pub restored-before : Example
+restored-before = record {
+  file = otherRing;
+  before =
+      -- a save with 75, 80 and 15, up to its commit
+      send 1 2 30 ∷ deliver 1 2 ∷ send 3 1 5 ∷ deliver 3 1
+      ∷ begin 1 ∷ deliver 1 2 ∷ deliver 1 3 ∷ deliver 2 1 ∷ deliver 3 1 ∷ deliver 3 2 ∷ deliver 2 3
+      ∷ writes 1 ++ writes 2 ++ writes 3
+      ++ saved 1 ∷ saved 2 ∷ saved 3
+      -- 3 fails before anybody takes the resume; 2 has the version from the recover of 1
+      ∷ fail 3 ∷ deliver 1 2 ∷ deliver 1 2 ∷ deliver 2 1
+      ∷ fetches 1 ++ fetches 2
+      ++ restored 2 ∷ restored 1 ∷ deliver 1 2
+      ∷ send 1 2 6 ∷ deliver 1 2 ∷ [];
+  -- "If its coordinator failed before any working cabinet took that resume or was restored from that save": it was restored
+  since = fail 1 ∷ fetches 2;
+  last = restored 2;
+  coordinator = 1;
+}
+
+abbrev pub restored-before-finds : Found
+restored-before-finds = record {
+  loaded = 0;
+  taken = true;
+  ended = true;
+  place = Fault (AtCabinet 0);
+  committed = 1;
+  left = 1;
+  by = 0;
+  took = (5 ∷ []) ∷ (30 ∷ []) ∷ [] ∷ [];
+  standing = imageWith 69 0 ∷ imageWith 86 0 ∷ imageWith 15 0 ∷ [];
+  held = none ∷ some (imageWith 80 0) ∷ none ∷ [];
+  gone = some (imageWith 75 0) ∷ none ∷ some (imageWith 15 0) ∷ [];
 }

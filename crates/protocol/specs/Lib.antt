@@ -12,5 +12,6 @@ pub mod Fifo
 pub mod Saves
 pub mod Marked
 pub mod Examples
+pub mod Tempting
 pub mod Answers
 pub mod Crash

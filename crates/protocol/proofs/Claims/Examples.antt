@@ -19,15 +19,15 @@ use Rattle.protocol.specs.Kinds.{sent, sendStep, noteStep, beginStep, de
 use Rattle.protocol.specs.Entry.{step}
 use Rattle.protocol.specs.History.{upd, logged, advance, run}
 use Rattle.protocol.specs.Restored.{Restored, Octets, Records}
-use Rattle.protocol.specs.Examples.{Example, Found, records, worldTo, worldAtEnd, found, after-save, after-save-finds, passed-over, passed-over-finds, link-fault, link-fault-finds}
+use Rattle.protocol.specs.Examples.{Example, Found, records, worldTo, worldAtEnd, found, after-save, after-save-finds, passed-over, passed-over-finds, link-fault, link-fault-finds, second-recovery, second-recovery-finds, restored-before, restored-before-finds}
 use Rattle.protocol.proofs.State.Fun.{and-true}
 use Rattle.protocol.proofs.Claims.Demand.{demand-three}
 
 -- ---- what the runs come to
 
-pub runs-found : (found after-save ≡ after-save-finds) × (found passed-over ≡ passed-over-finds) × (found link-fault ≡ link-fault-finds)
+pub runs-found : (found after-save ≡ after-save-finds) × (found passed-over ≡ passed-over-finds) × (found link-fault ≡ link-fault-finds) × (found second-recovery ≡ second-recovery-finds) × (found restored-before ≡ restored-before-finds)
 unfolding crcBit crcBits crcOctet crcFrom lowest covers both struck connected emptyLines lineTo withLineTo putAll putCheckps cabinet withCabinet outgoing withOutgoing line withLine blankSlots slot withSlots withSlot rowsOf ofRows withSound some working recoveringOnes unsure isCrashed load broadcast join cutIfAll takeCheckp resumeWith commit adopt recoverWith raise enterError hear findLinkFault markFailed alarmTo endRecovery receiveNormal receiveCheckp receiveResume receiveRecover receiveFault sent sendStep noteStep beginStep delivered deliverStep writePiece writeStep reportSaved commitIfAll savedStep fetchPiece fetchStep reportRestored endIfAll restoredStep waitOverStep failStep hurt damageStep step upd logged advance run found
-runs-found = (refl, refl, refl)
+runs-found = (refl, refl, refl, refl, refl)
 
 -- ---- octets
 
@@ -73,3 +73,9 @@ passed-over-restored = demanded passed-over passed-over-finds (runs-found .1) re
 
 pub link-fault-restored : Demanded link-fault
 link-fault-restored = demanded link-fault link-fault-finds (runs-found .2) refl refl refl refl refl
+
+pub second-recovery-restored : Demanded second-recovery
+second-recovery-restored = demanded second-recovery second-recovery-finds (runs-found .3) refl refl refl refl refl
+
+pub restored-before-restored : Demanded restored-before
+restored-before-restored = demanded restored-before restored-before-finds (runs-found .4) refl refl refl refl refl

@@ -1,0 +1,173 @@
+-- Runs with the answer to each record, in which a wrong rule would answer otherwise: first those that document 01 calls tempting on the
+-- rack, then others that no marked case shows.
+use Prim.Native.Nat.{ℕ}
+use mathlib.Core.Path.{_≡_}
+use mathlib.Core.List.{List, [], _∷_, _++_}
+use lib.ListN.{length, replicate}
+use Rattle.group.specs.declared.Group.{Group}
+use Rattle.load.specs.Load.{load}
+use Rattle.protocol.specs.Entry.{step}
+use Rattle.protocol.specs.Marked.{rowOf, twoCabinets, recordOf, send, begin, deliver, fetch, restored, fail}
+use Rattle.protocol.specs.Examples.{fileOf, writes, saved, fetches, waitOver, damage}
+
+-- a run, and the answers that the paper gives
+pub record Run : Type 0 where
+  pub file : List ℕ
+  pub records : List (List ℕ)
+  pub answers : List ℕ
+
+-- the answers to steps taken one after the other
+abbrev pub answersFrom : Group → List (List ℕ) → List ℕ
+answersFrom g [] = []
+answersFrom g (r ∷ rs) = step g r .answer ∷ answersFrom (step g r .group) rs
+
+-- what the definitions answer
+unfoldable pub answered : Run → List ℕ
+answered r = answersFrom (load (r .file) .group) (r .records)
+
+abbrev pub AsWritten : Run → Type 0
+AsWritten r = answered r ≡ r .answers
+
+-- every record is taken but the last, which gets another answer
+abbrev pub lastOf : List ℕ → List (List ℕ) → List ℕ → ℕ → Run
+lastOf file before last answer =
+    record { file = file; records = before ++ last ∷ []; answers = replicate (length before) 0 ++ answer ∷ [] }
+
+-- ---- "Dropping a failed cabinet from the coordinator's list before the fault packet arrives: it would commit a save with a hole."
+
+-- four in a ring, 1 the store and home of all; 3, which 1 has no link to, joins the save and has not its cut yet
+abbrev pub farFromThree : List ℕ
+farFromThree = fileOf 1 (10 ∷ 20 ∷ 30 ∷ 40 ∷ []) (1 ∷ 2 ∷ 1 ∷ 4 ∷ 2 ∷ 3 ∷ 3 ∷ 4 ∷ [])
+
+abbrev pub writtenButThree : List (List ℕ)
+writtenButThree =
+    begin 1 ∷ deliver 1 2 ∷ deliver 1 4 ∷ deliver 2 3 ∷ deliver 3 2 ∷ deliver 3 4 ∷ deliver 2 1 ∷ deliver 4 1
+    ∷ writes 1 ++ writes 2 ++ writes 4
+
+-- no report is owed on 3, which has written nothing
+abbrev pub hole : Run
+hole = lastOf farFromThree (writtenButThree ++ saved 1 ∷ saved 2 ∷ saved 4 ∷ fail 3 ∷ []) (saved 3) 19
+
+-- the coordinator, with a report on each other one, goes on waiting for that on 3: it is not in normal
+abbrev pub holeLate : Run
+holeLate = lastOf farFromThree (writtenButThree ++ saved 1 ∷ saved 2 ∷ fail 3 ∷ saved 4 ∷ []) (begin 1) 14
+
+-- ---- "Taking wait over while one cabinet has had resume: two versions."
+
+-- four in a ring, 4 the store and home of all; the save is committed, 2 takes its resume, then 1 fails: 2 has the new version, and
+-- 3 and 4, which do not know, are in error
+abbrev pub resumeAtTwo : List (List ℕ)
+resumeAtTwo =
+    begin 1 ∷ deliver 1 2 ∷ deliver 1 3 ∷ deliver 2 4 ∷ deliver 3 4 ∷ deliver 4 2 ∷ deliver 4 3 ∷ deliver 2 1 ∷ deliver 3 1
+    ∷ writes 1 ++ writes 2 ++ writes 3 ++ writes 4
+    ++ saved 1 ∷ saved 2 ∷ saved 3 ∷ saved 4
+    ∷ deliver 1 2 ∷ fail 1 ∷ deliver 3 4 ∷ []
+
+abbrev pub farFromOne : List ℕ
+farFromOne = fileOf 4 (10 ∷ 20 ∷ 30 ∷ 40 ∷ []) (1 ∷ 2 ∷ 1 ∷ 3 ∷ 2 ∷ 4 ∷ 3 ∷ 4 ∷ [])
+
+abbrev pub wait : Run
+wait = lastOf farFromOne resumeAtTwo (waitOver 3) 19
+
+-- "19 home not recovering or recovered": its old version is not that of the save which 2 is to come back from
+abbrev pub homeInDoubt : Run
+homeInDoubt = lastOf farFromOne resumeAtTwo (fetch 2) 19
+
+-- ---- "Restoring before all faults are heard: a late one starts a second recovery."
+
+abbrev pub triangle : List ℕ
+triangle = fileOf 1 (10 ∷ 20 ∷ 30 ∷ []) (1 ∷ 2 ∷ 1 ∷ 3 ∷ 2 ∷ 3 ∷ [])
+
+-- the fault of 2 is still on its line
+abbrev pub heard : Run
+heard = lastOf triangle (fail 3 ∷ fetches 1) (restored 1) 19
+
+-- 1, the coordinator, has heard 2; but 2 has not heard 1
+abbrev pub heardOneWay : Run
+heardOneWay = lastOf triangle (fail 3 ∷ deliver 2 1 ∷ fetches 2) (restored 2) 19
+
+-- ---- "In error, recovering and recovered everything from a neighbour is dropped until its fault packet has come"
+
+-- 3, the store and home of all, has the resume of a save from 2; that from 1 is still on its line when 4 fails, and 1 does not know of
+-- the fault. 3 stays in recovered.
+abbrev pub oldResume : Run
+oldResume =
+    lastOf (fileOf 3 (10 ∷ 20 ∷ 30 ∷ 40 ∷ []) (1 ∷ 2 ∷ 1 ∷ 3 ∷ 2 ∷ 3 ∷ 3 ∷ 4 ∷ []))
+    (begin 1 ∷ deliver 1 2 ∷ deliver 1 3 ∷ deliver 2 1 ∷ deliver 3 1 ∷ deliver 2 3 ∷ deliver 3 2 ∷ deliver 3 4 ∷ deliver 4 3
+    ∷ writes 1 ++ writes 2 ++ writes 3 ++ writes 4
+    ++ saved 1 ∷ saved 2 ∷ saved 3 ∷ saved 4
+    ∷ deliver 1 2 ∷ deliver 2 3 ∷ fail 4
+    ∷ fetches 3 ++ deliver 1 3 ∷ [])
+    (send 3 2 5) 14
+
+-- ---- "A failing cabinet's lines are emptied both ways"
+
+abbrev pub emptied : Run
+emptied = lastOf triangle (send 3 2 7 ∷ fail 3 ∷ []) (deliver 3 2) 18
+
+-- ---- "20 a normal packet, and a normal packet of that line was hurt since the receiver's register restarted"
+
+-- with both patterns 30 and 20 amperes would be 31 and 13,093, which have the same check value (`Claims.Tempting.same-value`)
+abbrev pub hurtTwice : Run
+hurtTwice = lastOf (twoCabinets 100 50) (send 1 2 30 ∷ send 1 2 20 ∷ damage 1 2 0 1 ∷ []) (damage 1 2 1 13105) 20
+
+-- ---- "17 eight normal packets in the line": not below eight
+
+abbrev pub fullLine : Run
+fullLine = lastOf (twoCabinets 100 50) (replicate 8 (send 1 2 1)) (send 1 2 1) 17
+
+-- ---- "The group crashes when, and only when"
+
+-- "a store cabinet fails;"
+abbrev pub storeFails : Run
+storeFails = lastOf triangle [] (fail 1) 50
+
+-- "a cabinet fails, or damage is done, while some working cabinet is in error, recovering or recovered;"
+abbrev pub failsInRecovery : Run
+failsInRecovery = lastOf triangle (fail 3 ∷ []) (fail 2) 50
+
+abbrev pub damageInRecovery : Run
+damageInRecovery = lastOf triangle (fail 3 ∷ []) (damage 1 2 0 1) 50
+
+-- "two fault places meet": 2 and 3 find the links to 1 faulty, and 4 hears of both
+abbrev pub placesMeet : Run
+placesMeet =
+    lastOf (fileOf 4 (10 ∷ 20 ∷ 30 ∷ 40 ∷ []) (1 ∷ 2 ∷ 1 ∷ 3 ∷ 1 ∷ 4 ∷ 2 ∷ 4 ∷ 3 ∷ 4 ∷ []))
+    (begin 1 ∷ damage 1 2 0 1 ∷ damage 1 3 0 1 ∷ deliver 1 2 ∷ deliver 1 3 ∷ deliver 2 4 ∷ []) (deliver 3 4) 50
+
+-- "at a fail (the failing one left out) .. some working cabinet is not reached"
+abbrev pub failParts : Run
+failParts = lastOf (rowOf 10 (20 ∷ 30 ∷ [])) [] (fail 2) 50
+
+-- "at the finding of a link fault (that link left out) some working cabinet is not reached": a hit checkp over the one link
+abbrev pub linkParts : Run
+linkParts = lastOf (twoCabinets 100 50) (begin 1 ∷ damage 1 2 0 1 ∷ []) (deliver 1 2) 50
+
+-- "over links not found faulty": the link of 2, the store, and 3 was found so, and the group came back without it
+abbrev pub faultyLinkParts : Run
+faultyLinkParts =
+    lastOf (fileOf 2 (10 ∷ 20 ∷ 30 ∷ []) (1 ∷ 2 ∷ 1 ∷ 3 ∷ 2 ∷ 3 ∷ []))
+    (begin 1 ∷ deliver 1 2 ∷ damage 2 3 0 1 ∷ deliver 2 3 ∷ deliver 3 1 ∷ deliver 1 2 ∷ deliver 1 3 ∷ deliver 2 1
+    ∷ fetches 1 ++ fetches 2 ++ fetches 3
+    ++ restored 1 ∷ restored 2 ∷ restored 3 ∷ deliver 1 2 ∷ deliver 1 2 ∷ deliver 1 3 ∷ deliver 1 3 ∷ [])
+    (fail 1) 50
+
+-- ---- "Every step first": 8 to 12, "the first in the order written"
+
+-- 4 is no cabinet and 3 fails; after the crash the same records, then one with a field that is not 0, then one of no kind
+abbrev pub inOrder : Run
+inOrder = record {
+  file = triangle;
+  records =
+      begin 4 ∷ fail 3 ∷ begin 3 ∷ fail 2 ∷ begin 4 ∷ begin 3 ∷ recordOf 3 4 1 0 0 ∷ recordOf 12 4 1 0 0 ∷ [];
+  answers = 11 ∷ 0 ∷ 12 ∷ 50 ∷ 10 ∷ 10 ∷ 9 ∷ 8 ∷ [];
+}
+
+-- ---- the table
+
+abbrev pub AllAsWritten : Type 0
+AllAsWritten =
+    AsWritten hole × AsWritten holeLate × AsWritten wait × AsWritten homeInDoubt × AsWritten heard × AsWritten heardOneWay
+    × AsWritten oldResume × AsWritten emptied × AsWritten hurtTwice × AsWritten fullLine × AsWritten storeFails
+    × AsWritten failsInRecovery × AsWritten damageInRecovery × AsWritten placesMeet × AsWritten failParts × AsWritten linkParts
+    × AsWritten faultyLinkParts × AsWritten inOrder
