@@ -10,7 +10,7 @@ use native.Mathlib.Decide.{ℕ-discrete, decLt}
 use Rattle.marks.specs.Marks.{Marks, marked, covers}
 use Rattle.marks.specs.MarksLaws.{covers-has, lowest-le-marked}
 use Rattle.cabinet.specs.declared.State.{State}
-use Rattle.cabinet.specs.declared.State.the-variants.{Normal, Checkpointing, Error, Recovering, Recovered}
+use Rattle.cabinet.specs.declared.State.the-variants.{Normal, Checkpointing, Error, Recovering, Recovered, Checkpointed}
 use Rattle.cabinet.specs.declared.Version.{Version}
 use Rattle.cabinet.specs.declared.Version.the-variants.{Known}
 use Rattle.cabinet.specs.declared.Image.{Image}
@@ -33,7 +33,7 @@ use Rattle.protocol.proofs.Answers.Tests.{in-state}
 use Rattle.protocol.proofs.Invariant.States.{restoring-one, restoring-works, known-is-known}
 use Rattle.protocol.proofs.Invariant.Facts.{Mind, Ghost, unaware}
 use Rattle.protocol.proofs.Invariant.Whole.{Inv, workOf, awareOf}
-use Rattle.protocol.proofs.Invariant.Past.{Past, HeldIn, Kept, Next, kept-next, no-cuts, aware-not-normal, past-view}
+use Rattle.protocol.proofs.Invariant.Past.{Past, HeldIn, Kept, Next, kept-next, no-cuts, aware-not-normal, past-same}
 use Rattle.protocol.proofs.Invariant.Words.{un-not-aware, un-or-aware, aware-works, aware-faulted, chief-of, room-aware}
 use Rattle.protocol.proofs.Invariant.Marking.{past-mind}
 use Rattle.protocol.proofs.Moves.Rousing.{oResumed, roused, seen-roused}
@@ -109,7 +109,7 @@ module _ (total : ℕ) (g : Group) (h : History) (γ : Ghost) (w : Fit g) (i : I
   state1 c = ap (λ (x : View). x .own c .state) seen1 ∙ kept-at (λ (x : Own). x .state) (view g .own) k (view g .own k) refl c
 
   past1 : Past (g .n) (view g1) γ1 h
-  past1 = past-view (λ c. ap works (state1 c)) (past-mind (g .n) (view g) γ h past a (mReady (γ .mind a)) refl refl refl refl refl)
+  past1 = past-same state1 (past-mind (g .n) (view g) γ h past a (mReady (γ .mind a)) refl refl refl refl refl refl)
 
   cab1 : (c j : ℕ) → view g1 .side c j .cab ≡ view g .side c j .cab
   cab1 c j =
@@ -235,6 +235,20 @@ module _ (total : ℕ) (g : Group) (h : History) (γ : Ghost) (w : Fit g) (i : I
         ap (lostNow h g2 c) (past1 .present c (inv1 .core .nodes c .placed v))
         ∙ ap (λ (t : Bool). cond t none (imageIn (latest h .cut c))) (work2 c ∙ v)
 
+    aware-at : (c : ℕ) → workOf (view g1) c ≡ true → awareOf (view g1) γ1 c ≡ true
+    aware-at = all-aware (g .n) total (view g1) γ1 inv1 k aware1 all-reported
+
+    recovered-at : (c : ℕ) → workOf (view g1) c ≡ true → view g1 .own c .state ≡ Recovered
+    recovered-at = all-recovered (g .n) total (view g1) γ1 inv1 k aware1 all-reported
+
+    kept2 : {A : Type 0} (f : Own → A) → f (oResumed (view g1 .own k) x) ≡ f (view g1 .own k) → (c : ℕ) → f (view g2 .own c) ≡ f (view g1 .own c)
+    kept2 f r c = ap (λ (y : View). f (y .own c)) seen2 ∙ kept-at f (view g1 .own) k (oResumed (view g1 .own k) x) r c
+
+    none-waits : (c : ℕ) → isIn (stateOf g2 c) Checkpointed ≡ true → ⊥
+    none-waits c s =
+        let e = sym (kept2 (λ (o : Own). isIn (o .state) Checkpointed) (rw recovered-k) c) ∙ s in
+        never e (ap (λ (y : State). isIn y Checkpointed) (recovered-at c (ap works (in-state (view g1 .own c .state) Checkpointed .0 e))))
+
     past2 : Past (g .n) (view g2) γ2 h2
     past2 = record {
       sent = λ c d. refl;
@@ -249,18 +263,11 @@ module _ (total : ℕ) (g : Group) (h : History) (γ : Ghost) (w : Fit g) (i : I
       gone = λ c l t. lost-now c (γ1 .mind c .top) (past1 .tops c l) (work2 c ∙ t);
       beyond = past1 .beyond;
       below = λ f. absurd (true≢false f);
+      begun = ⊎-elim (λ f. absurd (false≢true f)) (λ f. absurd (true≢false f));
+      waits = λ c s _. absurd (none-waits c s);
     }
 
     -- ---- demand 3 at the recovery's end
-
-    aware-at : (c : ℕ) → workOf (view g1) c ≡ true → awareOf (view g1) γ1 c ≡ true
-    aware-at = all-aware (g .n) total (view g1) γ1 inv1 k aware1 all-reported
-
-    recovered-at : (c : ℕ) → workOf (view g1) c ≡ true → view g1 .own c .state ≡ Recovered
-    recovered-at = all-recovered (g .n) total (view g1) γ1 inv1 k aware1 all-reported
-
-    kept2 : {A : Type 0} (f : Own → A) → f (oResumed (view g1 .own k) x) ≡ f (view g1 .own k) → (c : ℕ) → f (view g2 .own c) ≡ f (view g1 .own c)
-    kept2 f r c = ap (λ (y : View). f (y .own c)) seen2 ∙ kept-at f (view g1 .own) k (oResumed (view g1 .own k) x) r c
 
     one-version : (c : ℕ) → workOf (view g1) c ≡ true → cabinet g2 c .phase .version ≡ Known (γ .big .topv)
     one-version c v =

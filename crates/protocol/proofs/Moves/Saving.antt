@@ -30,7 +30,7 @@ use Rattle.protocol.proofs.State.ViewMoves.{Room, vBroadcast, vResumed,
 use Rattle.protocol.proofs.Invariant.States.{known-is-known, saving-works}
 use Rattle.protocol.proofs.Invariant.Facts.{Ghost, aware, unaware, linked}
 use Rattle.protocol.proofs.Invariant.Whole.{Inv, NodeAt, workOf}
-use Rattle.protocol.proofs.Invariant.Past.{Past, HeldIn, Kept, no-cuts, past-view, aware-not-normal}
+use Rattle.protocol.proofs.Invariant.Past.{Past, HeldIn, Kept, no-cuts, past-same, aware-not-normal}
 use Rattle.protocol.proofs.Invariant.Words.{un-of, un-works, un-not-aware, chief-of, room-calm}
 use Rattle.protocol.proofs.Invariant.Marking.{past-mind}
 use Rattle.protocol.proofs.Moves.Reporting.{gTold, mTold, vReported, report-inv, sim-report}
@@ -117,6 +117,8 @@ module _ (n total : ℕ) (v : View) (γ : Ghost) (h : History) (i : Inv n total 
     gone = λ c l e. p .gone c l e ∙ ap some (sym (top-out c e));
     beyond = λ c l. ap booked (top-out c (is-false (γ .mind c .tab) (λ e. omega (arith, i .core .ground .within c e)))) ∙ p .beyond c l;
     below = λ e. (record { by = k; cut = h .cuts; known = false }, h .saves, refl, refl, known-below, p .tops, p .balanced);
+    begun = λ _. p .begun (inl begun);
+    waits = λ c s j. (refl, (_, h .saves, refl));
   }
 
 -- ---- the step
@@ -179,7 +181,7 @@ module _ (total : ℕ) (g : Group) (h : History) (γ : Ghost) (w : Fit g) (i : I
       ∙ kept-at (λ (x : Own). x .state) (v .own) home (v .own home) refl c
 
   past1 : Past (g .n) (view g1) γ1 h
-  past1 = past-view (λ c. ap works (state1 c)) (past-mind (g .n) v γ h past a (mTold (γ .mind a)) refl refl refl refl refl)
+  past1 = past-same state1 (past-mind (g .n) v γ h past a (mTold (γ .mind a)) refl refl refl refl refl refl)
 
   keeps-report : Kept total g γ g1 (noteCuts h g g1)
   keeps-report = record {
