@@ -1,10 +1,11 @@
 -- How the ghost of the proof stands to the history that the claim speaks of, and what a step owes.
 use Prim.Native.Nat.{ℕ, _<_, _≤_}
 use mathlib.Core.Path.{_≡_, refl, sym, ap, _∙_, fun-ext}
-use mathlib.Core.Logic.{_≢_, _⊎_, inl}
+use mathlib.Core.Logic.{_≢_, _⊎_, inl, ⊎-elim}
 use mathlib.Core.Bool.{Bool, true, false, cond, not, _&&_, true≢false}
 use mathlib.Core.List.{List, _∷_}
 use mathlib.Core.Option.{Option, none, some}
+use native.Mathlib.Omega.{arith}
 use Rattle.cabinet.specs.declared.State.{State}
 use Rattle.cabinet.specs.declared.State.the-variants.{Normal, Checkpointing, Checkpointed}
 use Rattle.cabinet.specs.declared.Image.{Image}
@@ -15,7 +16,7 @@ use Rattle.group.specs.Group.{stateOf}
 use Rattle.protocol.specs.declared.Step.{Step}
 use Rattle.protocol.specs.History.{Cut, Save, History, upd, latest, newest, withCuts, observe, noteCuts, cutIn}
 use Rattle.protocol.specs.Restored.{Balanced, Restored}
-use Rattle.protocol.proofs.State.Fun.{never, is-false, and-true, or-left, or-right, upd-elim, kept-at}
+use Rattle.protocol.proofs.State.Fun.{never, is-false, and-true, or-left, or-right, upd-elim, kept-at, sum, sum-tail}
 use Rattle.protocol.proofs.State.View.{View, Own, view}
 use Rattle.protocol.proofs.Invariant.States.{apart}
 use Rattle.protocol.proofs.Invariant.Facts.{Big, Ghost, aware}
@@ -53,6 +54,22 @@ pub record Past (n : ℕ) (v : View) (γ : Ghost) (h : History) : Type 0 where
   pub begun : (γ .big .begun ≡ true) ⊎ (γ .big .adopted ≡ false) → h .begun ≡ true
   -- who waits for a resume in checkpointed waits for that of a save that stands
   pub waits : (c : ℕ) → isIn (v .own c .state) Checkpointed ≡ true → γ .mind c .joined ≡ false → Stands h
+
+-- ---- the save that the rule gives
+
+-- a working cabinet has its cut in it
+pub cut-held : {n total : ℕ} {v : View} {γ : Ghost} {h : History} → Inv n total v γ → Past n v γ h → (c : ℕ) → workOf v c ≡ true
+    → (y : Cut) × (latest h .cut c ≡ some y) × (y .image ≡ γ .mind c .top)
+cut-held i p c w =
+    let t = i .core .nodes c .placed w in
+    ⊎-elim (λ e. absurd (some-none (sym e ∙ p .present c t))) (λ e. e .1) (p .tops c (i .core .ground .within c t))
+  where
+    some-none : {m : Image} → some m ≡ none → ⊥
+    some-none e = let z : _≡_ {A = ℕ} 0 1 = cc in omega arith
+
+-- the images in it add up
+pub tops-add : {n total : ℕ} {v : View} {γ : Ghost} {h : History} → Inv n total v γ → Past n v γ h → sum (λ c. booked (γ .mind c .top)) n ≡ total
+tops-add {n} {γ} i p = sym (sum-tail (λ c. booked (γ .mind c .top)) n 8 (i .core .ground .most) (p .beyond)) ∙ i .core .sums .tops
 
 -- ---- what a taken step owes
 

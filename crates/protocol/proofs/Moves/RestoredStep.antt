@@ -22,7 +22,7 @@ use Rattle.protocol.specs.Moves.{endRecovery}
 use Rattle.protocol.specs.Kinds.{mayReport, restoredRefusal, reportRestored, endIfAll}
 use Rattle.protocol.specs.History.{Cut, History, latest, imageIn, lostNow, noteEnd, noteCuts, ends, goes}
 use Rattle.protocol.specs.Restored.{Restored, counted, countedTo, amperes}
-use Rattle.protocol.proofs.State.Fun.{never, is-false, and-true, and-intro, cond-elim, upd-elim, upd-same, upd-other, sum, kept-at, sum-tail}
+use Rattle.protocol.proofs.State.Fun.{never, is-false, and-true, and-intro, cond-elim, upd-elim, upd-same, upd-other, sum, kept-at}
 use Rattle.protocol.proofs.State.Every.{passed, with-cabinet}
 use Rattle.protocol.proofs.State.View.{View, Own, Side, view, used}
 use Rattle.protocol.proofs.State.Shape.{Shaped, Lined, Pictured, shaped}
@@ -33,7 +33,7 @@ use Rattle.protocol.proofs.Answers.Tests.{in-state}
 use Rattle.protocol.proofs.Invariant.States.{restoring-one, restoring-works, known-is-known}
 use Rattle.protocol.proofs.Invariant.Facts.{Mind, Ghost, unaware}
 use Rattle.protocol.proofs.Invariant.Whole.{Inv, workOf, awareOf}
-use Rattle.protocol.proofs.Invariant.Past.{Past, HeldIn, Kept, Next, kept-next, no-cuts, aware-not-normal, past-same}
+use Rattle.protocol.proofs.Invariant.Past.{Past, HeldIn, Kept, Next, kept-next, no-cuts, aware-not-normal, past-same, cut-held, tops-add}
 use Rattle.protocol.proofs.Invariant.Words.{un-not-aware, un-or-aware, aware-works, aware-faulted, chief-of, room-aware}
 use Rattle.protocol.proofs.Invariant.Marking.{past-mind}
 use Rattle.protocol.proofs.Moves.Rousing.{oResumed, roused, seen-roused}
@@ -277,19 +277,12 @@ module _ (total : ℕ) (g : Group) (h : History) (γ : Ghost) (w : Fit g) (i : I
     image-top : (c : ℕ) → workOf (view g1) c ≡ true → cabinet g2 c .image ≡ γ1 .mind c .top
     image-top c v = kept2 (λ (o : Own). o .image) refl c ∙ inv1 .core .nodes c .restored (aware-at c v) (recovered-at c v) .0
 
-    cut-of : (c : ℕ) → c < g .n → workOf (view g1) c ≡ true → (y : Cut) × (latest h .cut c ≡ some y) × (y .image ≡ γ1 .mind c .top)
-    cut-of c l v =
-        ⊎-elim (λ f. absurd (some-none (sym f ∙ past1 .present c (inv1 .core .nodes c .placed v)))) (λ f. f .1) (past1 .tops c l)
-      where
-        some-none : {m : Image} → some m ≡ none → ⊥
-        some-none f = let z : _≡_ {A = ℕ} 0 1 = cc in omega arith
-
     counts : (c : ℕ) → c < g .n → amperes (counted h2 g2 c) ≡ booked (γ1 .mind c .top)
     counts c l = go (workOf (view g1) c) refl
       where
         go : (t : Bool) → workOf (view g1) c ≡ t → amperes (counted h2 g2 c) ≡ booked (γ1 .mind c .top)
         go true v =
-            let y = cut-of c l v in
+            let y = cut-held inv1 past1 c v in
             ap (λ (t : Bool). amperes (cond t (imageIn (latest h .cut c)) (h2 .lost c))) (work2 c ∙ v)
             ∙ ap (λ (o : Option Cut). amperes (imageIn o)) (y .1) ∙ ap booked (y .2)
         go false v =
@@ -307,12 +300,11 @@ module _ (total : ℕ) (g : Group) (h : History) (γ : Ghost) (w : Fit g) (i : I
       known = λ c l v. one-version c (sym (work2 c) ∙ v);
       held = λ c l v.
           let u = sym (work2 c) ∙ v in
-          let y = cut-of c l u in
+          let y = cut-held inv1 past1 c u in
           (y .0, y .1, image-top c u ∙ sym (y .2));
       balanced = past1 .balanced;
       lost = λ c l v. (γ1 .mind c .top, lost-now c (γ1 .mind c .top) (past1 .tops c l) v);
-      adds = counted-sum (g .n) (omega arith)
-          ∙ sym (sum-tail (λ c. booked (γ1 .mind c .top)) (g .n) 8 (inv1 .core .ground .most) (past1 .beyond)) ∙ inv1 .core .sums .tops;
+      adds = counted-sum (g .n) (omega arith) ∙ tops-add inv1 past1;
     }
 
     pub ended-next : Next total g γ g2 (noteCuts (noteEnd (ends g g2 a) h g2) g g2)
