@@ -2,14 +2,15 @@
 -- and what a committed save holds.
 use Prim.Native.Nat.{ℕ, zero, suc, _-_, _<_, _≤_}
 use mathlib.Core.Path.{_≡_, refl, sym, ap, _∙_, subst}
-use mathlib.Core.Logic.{_≢_, inl, ⊎-elim}
+use mathlib.Core.Logic.{inl, ⊎-elim}
 use mathlib.Core.Bool.{Bool, true, false, not, _&&_}
 use mathlib.Core.List.{List, _∷_}
 use mathlib.Core.Option.{Option, some}
+use lib.ListN.{getD}
 use lib.Dec.{eqb}
 use borrow.Author.Tests.{eqb-true, eqb-false, ne-eqb}
 use native.Mathlib.Omega.{arith}
-use Rattle.line.specs.declared.Packet.the-variants.{Resume}
+use Rattle.line.specs.declared.Packet.the-variants.{Empty, Resume}
 use Rattle.line.specs.Packet.{isEmpty}
 use Rattle.line.specs.Line.{packetAt}
 use Rattle.cabinet.specs.declared.State.the-variants.{Checkpointing, Checkpointed, Recovering}
@@ -39,7 +40,7 @@ use Rattle.protocol.proofs.Invariant.States.{restoring-works}
 use Rattle.protocol.proofs.Invariant.Facts.{Ghost}
 use Rattle.protocol.proofs.Invariant.Past.{cut-held, tops-add}
 use Rattle.protocol.proofs.Invariant.Words.{un-of}
-use Rattle.protocol.proofs.Moves.Waking.{resume-open}
+use Rattle.protocol.proofs.Moves.Waking.{resume-open, resume-fresh}
 use Rattle.protocol.proofs.Moves.Saving.{all-wrote}
 use Rattle.protocol.proofs.Claims.Stepping.{below}
 use Rattle.protocol.proofs.Claims.Demand.{Runs, open-step, taken-runs, run-n}
@@ -82,11 +83,9 @@ module _ (total : ℕ) (g : Group) (h : History) (w : Runs total g h) where
 
   -- ---- resumes
 
-  -- a resume that stands in a line is among its packets, and its receiver has not had its cut
-  resume-uncut : (a b k : ℕ) → packetAt (line g a b) k ≡ Resume → (works (stateOf g b) ≡ true) × (γ .mind b .done ≡ false)
-  resume-uncut a b k e =
-      resume-open (g .n) total (view g) γ (w .inv) a b k
-      (content-set (line g a b .cells) k Resume refl (ap isEmpty e) (w .fit .lines a b .packed) .1 ∙ e)
+  -- a resume that stands in a line is among its packets
+  on-line : (a b k : ℕ) → packetAt (line g a b) k ≡ Resume → getD (view g .lines a b) k Empty ≡ Resume
+  on-line a b k e = content-set (line g a b .cells) k Resume refl (ap isEmpty e) (w .fit .lines a b .packed) .1 ∙ e
 
   takes-newest : (a b : ℕ) → TakesResume g a b
       → (h .standing ≡ true) × ((x : Save) × (xs : List Save) × (y : Cut) × (h .saves ≡ x ∷ xs) × (x .cut b ≡ some y))
@@ -95,14 +94,12 @@ module _ (total : ℕ) (g : Group) (h : History) (w : Runs total g h) where
       let n = w .inv .core .nodes b in
       let saved = t .waits in
       let un = un-of (γ .big) (view g .own b) (rw saved) (rw saved) in
-      let fresh : γ .mind b .joined ≡ false =
-      ⊎-elim (λ e. e) (λ e. absurd (never (n .wroteDone e) (resume-uncut a b 0 (t .resume) .1))) (n .inCheckpointed un saved) in
-      let other : b ≢ γ .big .chief = λ e. never (n .chiefSaved un saved e) fresh in
-      let s = w .past .waits b (in-state (stateOf g b) Checkpointed .1 saved) fresh in
+      let f = resume-fresh (g .n) total (view g) γ (w .inv) a b 0 (on-line a b 0 (t .resume)) saved in
+      let s = w .past .waits b (in-state (stateOf g b) Checkpointed .1 saved) (f .0) in
       let y = cut-held (w .inv) (w .past) b (ap works saved) in (
         s .0,
         (s .1 .0, s .1 .1, y .0, s .1 .2, ap (λ (l : List Save). newest l (h .start) .cut b) (sym (s .1 .2)) ∙ y .1),
-        n .unknownAt un ∙ rw (saved, ne-eqb b (γ .big .chief) other),
+        n .unknownAt un ∙ rw (saved, ne-eqb b (γ .big .chief) (f .1)),
       )
 
   -- ---- what the newest save holds
@@ -170,7 +167,7 @@ module _ (g : Group) (r : List ℕ) (c : Commits g r) where
   no-resumes : (total : ℕ) (h : History) → Runs total g h → (x y k : ℕ) → packetAt (line g x y) k ≡ Resume → ⊥
   no-resumes total h w x y k e =
       let n = w .inv .core .nodes y in
-      let u = resume-uncut total g h w x y k e in
+      let u = resume-open (g .n) total (view g) (w .ghost) (w .inv) x y k (on-line total g h w x y k e) in
       let wrote = all-wrote total g h (w .ghost) (w .fit) (w .inv) (w .past) a (below total g h (w .ghost) (w .fit) (w .inv) (w .past) (c .about) (entered .1) .1)
       (report .0) (ap (λ (z : Group). commits g z K) (sym (report .1)) ∙ c .commit) in
       never (n .wroteDone (wrote y (n .placed (u .0)))) (u .1)

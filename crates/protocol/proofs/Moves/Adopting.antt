@@ -12,7 +12,7 @@ use native.Mathlib.Omega.{arith}
 use native.Mathlib.Decide.{decLt}
 use Rattle.marks.specs.Marks.{Marks, marked}
 use Rattle.line.specs.declared.Packet.{Packet}
-use Rattle.line.specs.declared.Packet.the-variants.{Resume}
+use Rattle.line.specs.declared.Packet.the-variants.{Resume, Empty}
 use Rattle.line.specs.declared.Cell.{Cell}
 use Rattle.line.specs.Line.{emptyCell, oldest, rest}
 use Rattle.cabinet.specs.declared.State.the-variants.{Normal, Checkpointed}
@@ -26,7 +26,7 @@ use Rattle.group.specs.Group.{cabinet, withCabinet, stateOf, line, withLine}
 use Rattle.protocol.specs.History.{History, Save, upd, goes, newest, markKnown, noteKnown, noteCuts, withKnown}
 use Rattle.protocol.specs.Restored.{Balanced}
 use Rattle.protocol.specs.Moves.{adopt}
-use Rattle.protocol.proofs.State.Fun.{never, and-true, and-intro, upd-elim, upd-same, upd-other, not-not}
+use Rattle.protocol.proofs.State.Fun.{and-true, and-intro, upd-elim, upd-same, upd-other, not-not}
 use Rattle.protocol.proofs.State.Every.{with-cabinet, with-line}
 use Rattle.protocol.proofs.State.View.{View, Own, used, content, view, setLines, setLine}
 use Rattle.protocol.proofs.State.Shape.{Shaped, Lined, Pictured, shaped}
@@ -39,7 +39,7 @@ use Rattle.protocol.proofs.Invariant.Whole.{Inv}
 use Rattle.protocol.proofs.Invariant.Past.{Past, Kept, Stays, aware-not-normal, past-turn}
 use Rattle.protocol.proofs.Invariant.Logs.{resumedBy}
 use Rattle.protocol.proofs.Invariant.Words.{un-of, un-not-aware, room-calm, used-linked}
-use Rattle.protocol.proofs.Moves.Waking.{woken, gAdopted, woken-swap, woken-off, sender-ahead, resume-other, receiver-open}
+use Rattle.protocol.proofs.Moves.Waking.{woken, gAdopted, woken-swap, woken-off, sender-ahead, resume-other, resume-fresh}
 
 -- ---- the move in the view
 
@@ -150,14 +150,14 @@ module _ (total : ℕ) (g : Group) (h : History) (γ : Ghost) (w : Fit g) (i : I
   calm : unaware (γ .big) (v .own b) ≡ true
   calm = un-of (γ .big) (v .own b) (rw saved) (rw saved)
 
-  -- whoever has written waits for no packet of this neighbour
+  abbrev waits : (γ .mind b .joined ≡ false) × (b ≢ γ .big .chief)
+  waits = resume-fresh (g .n) total v γ i a b 0 (ap (λ (l : List Packet). getD l 0 Empty) is-first) saved
+
   fresh : γ .mind b .joined ≡ false
-  fresh =
-      let f = i .core .nodes b in
-      ⊎-elim (λ e. e) (λ e. absurd (never (f .wroteDone e) (receiver-open (g .n) total v γ i a b k is-first))) (f .inCheckpointed calm saved)
+  fresh = waits .0
 
   not-chief : b ≢ γ .big .chief
-  not-chief e = never (i .core .nodes b .chiefSaved calm saved e) fresh
+  not-chief = waits .1
 
   waiting : behind (γ .big) (v .own b) (γ .mind b) ≡ true
   waiting = and-intro calm (rw (saved, fresh))

@@ -1,6 +1,6 @@
 -- Kind 3, begin, and kind 4 where a checkp is taken whose value is the register's: the cabinet joins the save if it is in normal,
 -- compares, and cuts if the checkps of all neighbours in use have come.
-use Prim.Native.Nat.{ℕ, _<_}
+use Prim.Native.Nat.{ℕ, suc, _<_}
 use mathlib.Core.Path.{_≡_, refl, sym, ap, _∙_, subst}
 use mathlib.Core.Logic.{_≢_, inl, inr, ⊎-elim}
 use mathlib.Core.Bool.{Bool, true, false, cond, not, _&&_, _||_, true≢false}
@@ -24,10 +24,11 @@ use Rattle.cabinet.specs.State.{isIn, works}
 use Rattle.cabinet.specs.Cabinet.{inUse, booked, coordinator, comparing, withState}
 use Rattle.group.specs.declared.Group.{Group}
 use Rattle.group.specs.Group.{cabinet, withCabinet, stateOf, line, withLine}
+use Rattle.protocol.specs.declared.Step.the-variants.{Begin}
 use Rattle.protocol.specs.Moves.{join, cutIfAll, takeCheckp}
 use Rattle.protocol.specs.Receive.{joinIf}
 use Rattle.protocol.specs.Kinds.{beginRefusal}
-use Rattle.protocol.specs.History.{upd, Cut, History, withCuts, withBegun, noteCuts, cutIn}
+use Rattle.protocol.specs.History.{upd, Cut, History, withCuts, withBegun, observe, noteCuts, cutIn}
 use Rattle.protocol.proofs.State.Fun.{never, is-true, and-true, upd-elim, upd-same, upd-other, upd-id, kept-at, kept-pair, is-false}
 use Rattle.protocol.proofs.State.Every.{passed, with-cabinet, with-line, ok-join}
 use Rattle.protocol.proofs.State.View.{View, Own, Side, used, content, view, setLine}
@@ -37,7 +38,7 @@ use Rattle.protocol.proofs.State.ViewMoves.{Room, vPut, vJoin, vCompare
 use Rattle.protocol.proofs.Answers.Tests.{in-state, same-check}
 use Rattle.protocol.proofs.Invariant.Facts.{Mind, Wire, Ghost, unaware}
 use Rattle.protocol.proofs.Invariant.Whole.{Inv}
-use Rattle.protocol.proofs.Invariant.Past.{Past, Kept, Stays, no-cuts, past-one, past-same, aware-not-normal}
+use Rattle.protocol.proofs.Invariant.Past.{Past, Kept, Stays, after, no-cuts, past-one, past-same, aware-not-normal}
 use Rattle.protocol.proofs.Invariant.Words.{un-of, un-works, chief-of, room-calm}
 use Rattle.protocol.proofs.Moves.Joining.{Joins, mJoined, gJoin, join-inv}
 use Rattle.protocol.proofs.Moves.Comparing.{wCovered, gCompare, checkp-joined, checkp-other, between, compare-inv}
@@ -112,8 +113,8 @@ past-begun p = record {
 
 -- a new save begins: no cabinet has a cut in it
 pub past-begin : (n total : ℕ) (v : View) (γ : Ghost) (h : History) (c : ℕ) → Inv n total v γ → γ .big .begun ≡ false → Past n v γ h
-    → Past n v (gJoin γ c) (withBegun (withCuts h (λ i. none)) true)
-past-begin n total v γ h c i fresh p =
+    → (g g′ : Group) → Past n v (gJoin γ c) (observe h g g′ (Begin (suc c)))
+past-begin n total v γ h c i fresh p g g′ =
     past-ghost n v γ (gJoin γ c) (withBegun h true) (λ x y. refl) (λ x y. refl) refl refl refl refl (one (λ m. m .tab) refl) (one (λ m. m .top) refl)
     (one (λ m. m .prev) refl) (join-more γ c) (λ _. refl) (λ x. none)
     (λ a x e. absurd (never (i .core .nodes x .joinedBegun (i .core .nodes x .doneJoined (sym (one (λ m. m .done) refl x) ∙ e))) fresh))
@@ -282,11 +283,12 @@ module _ (total : ℕ) (g : Group) (h : History) (γ : Ghost) (w : Fit g) (i : I
   begin-other : (d : ℕ) → d ≢ a → stateOf (join g a) d ≡ stateOf g d
   begin-other d n = ap (λ (x : View). x .own d .state) begin-seen ∙ ap (λ (o : Own). o .state) (upd-other (view g .own) a _ d n)
 
-  pub keeps-begin : Kept total g γ (cutIfAll (join g a) a) (noteCuts (withBegun (withCuts h (λ i. none)) true) g (cutIfAll (join g a) a))
+  pub keeps-begin : Kept total g γ (cutIfAll (join g a) a) (after h g (cutIfAll (join g a) a) (Begin (suc a)))
   keeps-begin =
-      keeps-cut total g γ (withBegun (withCuts h (λ i. none)) true) (join g a) (ok-join Shaped Lined Pictured shaped g a w) (gJoin γ a)
+      keeps-cut total g γ (observe h g (cutIfAll (join g a) a) (Begin (suc a))) (join g a) (ok-join Shaped Lined Pictured shaped g a w) (gJoin γ a)
       (subst (λ (x : View). Inv (g .n) total x (gJoin γ a)) (sym begin-seen) (join-inv (g .n) total (view g) γ i a calm normal (inl (chief, fresh))))
-      (past-one a _ (λ d. ap (λ (x : View). x .own d .state) begin-seen) (sym (ap works normal)) refl (past-begin (g .n) total (view g) γ h a i fresh past))
+      (past-one a _ (λ d. ap (λ (x : View). x .own d .state) begin-seen) (sym (ap works normal)) refl
+      (past-begin (g .n) total (view g) γ h a i fresh past g (cutIfAll (join g a) a)))
       (λ d e. elim (ℕ-discrete d a) [
         | yes q ↦ rw (ap (λ (x : ℕ). stateOf (join g a) x) q, begin-state)
         | no n ↦ ap (λ (s : State). isIn s Normal) (begin-other d n) ∙ aware-not-normal (γ .big) (view g .own d) e

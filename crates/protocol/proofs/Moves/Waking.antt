@@ -25,7 +25,7 @@ use Rattle.protocol.proofs.Invariant.States.{known-same, known-not-unkn
 use Rattle.protocol.proofs.Invariant.Facts.{Big, Mind, Wire, Ghost, Pair, Node, Books, aware, unaware, linked, behind}
 use Rattle.protocol.proofs.Invariant.Whole.{Places, Inv, PairAt, NodeAt, BooksAt, GroundOf, PlacesOf, ChainOf, SumsOf}
 use Rattle.protocol.proofs.Invariant.Logs.{resumedBy, no-resume}
-use Rattle.protocol.proofs.Invariant.Words.{un-works, un-not-aware, un-or-aware, live-line, linked-used}
+use Rattle.protocol.proofs.Invariant.Words.{un-of, un-works, un-not-aware, un-or-aware, live-line, linked-used}
 use Rattle.protocol.proofs.Invariant.Frame.{moved, minded, move-pairs, move-nodes, move-books, move-ground, move-meets}
 use Rattle.protocol.proofs.Moves.Dropping.{drop-inv}
 use Rattle.protocol.proofs.Moves.Rousing.{oResumed, resumed-un, resumed-not-aware, resumed-not-behind, wait-short, roused-from, roused-to}
@@ -307,6 +307,14 @@ module _ (n total : ℕ) (v : View) (γ : Ghost) (i : Inv n total v γ) (a b j :
   pub resume-open : (works (v .own b .state) ≡ true) × (γ .mind b .done ≡ false)
   resume-open = (ends .1, is-false (γ .mind b .done) (λ e. some (i .core .pairs a b .closedEmpty linked-at (rw e) calm-at)))
 
+  -- who waits for it in checkpointed has joined no save since, and does not coordinate
+  pub resume-fresh : v .own b .state ≡ Checkpointed → (γ .mind b .joined ≡ false) × (b ≢ γ .big .chief)
+  resume-fresh saved =
+      let f = i .core .nodes b in
+      let un = un-of (γ .big) (v .own b) (rw saved) (rw saved) in
+      let fresh = ⊎-elim (λ e. e) (λ e. absurd (never (f .wroteDone e) (resume-open .1))) (f .inCheckpointed un saved) in
+      (fresh, λ e. never (f .chiefSaved un saved e) fresh)
+
 -- ---- and stands first in it
 
 module _ (n total : ℕ) (v : View) (γ : Ghost) (i : Inv n total v γ) (a b : ℕ) (k : List Packet) (line : v .lines a b ≡ Resume ∷ k) where
@@ -328,9 +336,6 @@ module _ (n total : ℕ) (v : View) (γ : Ghost) (i : Inv n total v γ) (a b : �
   sender-ahead e =
       ⊎-elim (λ f. nil≢cons (sym f ∙ line)) (λ f. let q = sym line ∙ f .2 in let z : _≡_ {A = ℕ} 0 1 = cc in omega arith)
       (i .core .pairs a b .behindEmpty e)
-
-  pub receiver-open : γ .mind b .done ≡ false
-  receiver-open = resume-open n total v γ i a b 0 first .1
 
   -- it comes off the line once the receiver has gone on
   pub woken-off : behind (γ .big) (v .own b) (γ .mind b) ≡ true → γ .mind b .joined ≡ false → b ≢ γ .big .chief → (r : ℕ → Bool)
