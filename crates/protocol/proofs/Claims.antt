@@ -2,5 +2,6 @@
 pub mod Stepping
 pub mod Demand
 pub mod Bounds
+pub mod Saves
 pub mod Examples
 pub mod Tempting

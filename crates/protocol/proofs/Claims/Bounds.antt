@@ -1,45 +1,36 @@
--- What document 01 asks of every run beside demand 3: lines keep to their sizes, none is ever full, and additions do not wrap.
+-- What document 01 asks of every run beside demand 3: lines keep to their sizes, and additions do not wrap.
 use Prim.Native.Nat.{ℕ, zero, suc, _+_, _<_, _≤_}
 use mathlib.Core.Path.{_≡_, refl, sym, ap, _∙_, subst}
 use mathlib.Core.Logic.{⊎-elim}
 use mathlib.Core.Bool.{Bool, true, false, cond, not, _&&_, _||_, false≢true}
 use mathlib.Core.List.{List, [], _∷_, _++_, nil≢cons}
-use lib.ListN.{length, getD, set, replicate}
-use lib.Seq.{getD-set-other}
+use lib.ListN.{length}
 use native.Mathlib.Omega.{arith}
 use native.Mathlib.Decide.{ℕ-discrete}
-use Rattle.marks.specs.Marks.{Marks, marked}
+use Rattle.marks.specs.Marks.{marked}
 use Rattle.line.specs.declared.Payload.{Payload}
 use Rattle.line.specs.declared.Packet.{Packet}
-use Rattle.line.specs.declared.Packet.the-variants.{Normal as NormalPacket, Fault}
-use Rattle.line.specs.declared.Place.{Place}
+use Rattle.line.specs.declared.Packet.the-variants.{Normal as NormalPacket}
 use Rattle.line.specs.declared.Cell.{Cell}
-use Rattle.line.specs.declared.Line.{Line}
 use Rattle.line.specs.Packet.{isEmpty}
-use Rattle.line.specs.Line.{emptyCell, emptyLine, packetAt, oldest, rest, restCells, put}
+use Rattle.line.specs.Line.{oldest, rest}
 use Rattle.cabinet.specs.declared.State.{State}
 use Rattle.cabinet.specs.declared.State.the-variants.{Failed, Normal, CheckpBegin, Checkpointing, Checkpointed, Error, Recovering, Recovered, Crashed}
 use Rattle.cabinet.specs.State.{isIn, works, inRecovery}
-use Rattle.cabinet.specs.Cabinet.{booked, inUse, alarmed}
-use Rattle.group.specs.declared.Outgoing.{Outgoing}
+use Rattle.cabinet.specs.Cabinet.{booked}
 use Rattle.group.specs.declared.Group.{Group}
-use Rattle.group.specs.Lines.{emptyLines, lineTo, withLineTo, putIf, putRowTo, putAll}
-use Rattle.group.specs.Group.{cabinet, withCabinet, outgoing, withOutgoing, stateOf, line, withLine, isCrashed}
+use Rattle.group.specs.Group.{cabinet, stateOf, line, isCrashed}
 use Rattle.load.specs.Load.{load, feederTotal}
-use Rattle.protocol.specs.Moves.{broadcast, raise}
 use Rattle.protocol.specs.Receive.{takesFrom}
-use Rattle.protocol.specs.Kinds.{reportSaved, reportRestored}
-use Rattle.protocol.specs.History.{History, run, opening}
+use Rattle.protocol.specs.History.{run, opening}
 use Rattle.protocol.specs.Restored.{Octets, Records}
 use Rattle.protocol.specs.Bounds.{packetsIn, LinesBounded, NeverWraps}
-use Rattle.protocol.proofs.State.Fun.{never, is-true, and-true, sum, sum-add, sum-swap}
-use Rattle.protocol.proofs.State.Every.{getD-set, getD-repeated}
-use Rattle.protocol.proofs.State.View.{View, content, used, view}
-use Rattle.protocol.proofs.State.Cells.{Packed, full-is}
+use Rattle.protocol.proofs.State.Fun.{never, is-true, sum, sum-add, sum-swap}
+use Rattle.protocol.proofs.State.View.{View, content, view}
 use Rattle.protocol.proofs.State.ViewMoves.{sim-off}
 use Rattle.protocol.proofs.Invariant.Facts.{Ghost, Pair, unaware, amount}
 use Rattle.protocol.proofs.Invariant.Whole.{Inv, outOf, gotOf}
-use Rattle.protocol.proofs.Invariant.Words.{un-of, un-works, un-or-aware, live-line, room-calm, room-aware}
+use Rattle.protocol.proofs.Invariant.Words.{un-of, un-works, live-line}
 use Rattle.protocol.proofs.Invariant.Logs.{amount-snoc}
 use Rattle.protocol.proofs.Moves.Taking.{taken-pair}
 use Rattle.protocol.proofs.State.Runs.{every-run}
@@ -62,7 +53,7 @@ lines-bounded f of e rs o a b =
 
 -- ---- what holds of every group that has not crashed
 
-running : (f : List ℕ) → Octets f → load f .answer ≡ 0 → (rs : List (List ℕ)) → Records rs
+pub running : (f : List ℕ) → Octets f → load f .answer ≡ 0 → (rs : List (List ℕ)) → Records rs
     → isCrashed (run (opening (load f .group)) rs .group) ≡ false
     → Runs (feederTotal f) (run (opening (load f .group)) rs .group) (run (opening (load f .group)) rs .history)
 running f of e rs o c = ⊎-elim (λ x. absurd (never x c)) (λ w. w) (every-list f of e rs o)

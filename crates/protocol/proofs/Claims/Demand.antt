@@ -108,7 +108,7 @@ stopped g r c = go (decode r)
     go Unused = refl
     go (Taken s) = ap (λ (t : Bool). orRefuse (need (not t) 10 (need (isCabinet g (firstOf s) && isCabinet g (secondOf s)) 11 (need (actorWorks g s) 12 0))) g (perform g s) .group) c
 
-open-step : (g : Group) (r : List ℕ) → step g r ≡ stepDecoded g (decode r)
+pub open-step : (g : Group) (r : List ℕ) → step g r ≡ stepDecoded g (decode r)
 unfolding step
 open-step g r = refl
 
@@ -153,24 +153,28 @@ module _ (total : ℕ) (g : Group) (h : History) (r : List ℕ) (o : Octets r) w
             (λ v. un-not-aware (γ .big) (view g .own k) u (and-intro (aware-faulted (γ .big) (view g .own j) v) (ap inRecovery recovered)))
             (un-or-aware (γ .big) (view g .own j) wj)
 
-    went-on : (s : Step) → Next total g γ g′ (after h g g′ s) → h′ ≡ after h g g′ s → Good total g′ h′ × Demanded
+    went-on : (s : Step) → Next total g γ g′ (after h g g′ s) → h′ ≡ after h g g′ s → Runs total g′ h′ × Demanded
     went-on s n e = (
-      inr (record {
+      record {
         ghost = n .ghost;
         fit = every-step Shaped Lined Pictured shaped g r o (w .fit);
         inv = subst (λ (m : ℕ). Inv m total (view g′) (n .ghost)) (sym (step-n g r)) (n .inv);
         past = subst (λ (m : ℕ). Past m (view g′) (n .ghost) h′) (sym (step-n g r)) (subst (Past (g .n) (view g′) (n .ghost)) (sym e) (n .past));
-      }),
+      },
       λ j v f. ⊎-elim (λ x. absurd (stays-ends x j v f)) (λ x. subst (λ (y : History). Restored (g .n) total y g′) (sym e) x) (n .fate),
     )
 
-    taken-step : (d : Decoded) → FitsIn d → stepDecoded g d .answer ≡ 0 → step g r ≡ stepDecoded g d → h′ ≡ recordDecoded h g (step g r) d → Good total g′ h′ × Demanded
+    taken-step : (d : Decoded) → FitsIn d → stepDecoded g d .answer ≡ 0 → step g r ≡ stepDecoded g d → h′ ≡ recordDecoded h g (step g r) d → Runs total g′ h′ × Demanded
     taken-step Malformed f a e q = absurd (omega arith)
     taken-step Unused f a e q = absurd (omega arith)
     taken-step (Taken s) f a e q =
         went-on s
         (subst (λ (x : Outcome). Next total g γ (x .group) (after h g (x .group) s)) (sym e) (entered total g h γ (w .fit) (w .inv) (w .past) s f a))
         (q ∙ ap (λ (t : Bool). cond t (after h g g′ s) h) (eq-eqb (step g r .answer) 0 (ap (λ (x : Outcome). x .answer) e ∙ a)))
+
+    pub taken-runs : step g r .answer ≡ 0 → Runs total g′ h′ × Demanded
+    taken-runs a =
+        let e = open-step g r in taken-step (decode r) (decode-fits r o) (ap (λ (x : Outcome). x .answer) (sym e) ∙ a) e refl
 
     -- some cabinet works: the home of the coordinator
     works-one : (c : ℕ) × (c < 8) × (works (stateOf g c) ≡ true)
@@ -192,7 +196,7 @@ module _ (total : ℕ) (g : Group) (h : History) (r : List ℕ) (o : Octets r) w
 
     one-step : Good total g′ h′ × Demanded
     one-step = elim (ℕ-discrete (step g r .answer) 0) [
-      | yes a ↦ taken-step (decode r) (decode-fits r o) (ap (λ (x : Outcome). x .answer) (sym opened) ∙ a) opened refl
+      | yes a ↦ let t = taken-runs a in (inr (t .0), t .1)
       | no n ↦ elim (ℕ-discrete (step g r .answer) 50) [
         | yes f ↦ (
           inl (ap isCrashed (crash-stops g r f) ∙ crashed-one g (works-one .0) (works-one .1) (works-one .2)),
@@ -209,9 +213,6 @@ module _ (total : ℕ) (g : Group) (h : History) (r : List ℕ) (o : Octets r) w
         )
       ]
     ]
-      where
-        opened : step g r ≡ stepDecoded g (decode r)
-        opened = open-step g r
 
   pub good-step : Good total g h → Good total g′ h′ × Demanded
   good-step (inl c) =
@@ -226,7 +227,7 @@ unfolding run advance
 good-run total [] w o h = h
 good-run total (r ∷ rs) w o h = good-run total rs (advance w r) (o .1) (good-step total (w .group) (w .history) r (o .0) h .0)
 
-run-n : (rs : List (List ℕ)) (w : World) → run w rs .group .n ≡ w .group .n
+pub run-n : (rs : List (List ℕ)) (w : World) → run w rs .group .n ≡ w .group .n
 unfolding run advance
 run-n [] w = refl
 run-n (r ∷ rs) w = run-n rs (advance w r) ∙ step-n (w .group) r

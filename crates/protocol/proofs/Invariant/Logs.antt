@@ -12,7 +12,7 @@ use Rattle.line.specs.declared.Check.{Check}
 use Rattle.line.specs.declared.Payload.{Payload}
 use Rattle.line.specs.declared.Packet.{Packet}
 use Rattle.line.specs.declared.Packet.the-variants.{Empty, Normal as NormalPacket, Checkp, Resume, Recover, Fault, Invalid}
-use Rattle.line.specs.Packet.{startCheck, stepCheck, isNormal}
+use Rattle.line.specs.Packet.{startCheck, stepCheck, isNormal, isEmpty}
 use mathlib.Core.Logic.{_⊎_, inl, inr, ⊎-elim}
 use Rattle.line.specs.declared.Place.{Place}
 use Rattle.cabinet.specs.declared.Version.{Version}
@@ -152,6 +152,11 @@ isAlarm Invalid = false
 -- no other packet is on them
 pub only-alarms : (x : Version) (q : Place) (p : Packet) (k : List Packet) → isAlarm p ≡ false → Alarms x q (p ∷ k) → ⊥
 only-alarms x q p k n a = never (⊎-elim (λ e. ap (λ (y : Packet). isAlarm y) e) (λ e. ap (λ (y : Packet). isAlarm y) (e .2)) (alarm-first x q p k a)) n
+
+pub no-resume : (x : Version) (q : Place) (l : List Packet) → Alarms x q l → (j : ℕ) → getD l j Empty ≡ Resume → ⊥
+no-resume x q [] a j e = true≢false (ap isEmpty e)
+no-resume x q (p ∷ l) a zero e = only-alarms x q p l (ap (λ (y : Packet). isAlarm y) e) a
+no-resume x q (p ∷ l) a (suc j) e = no-resume x q l (alarms-rest x q p l a) j e
 
 -- ---- lines out of a cabinet that waits for a resume
 

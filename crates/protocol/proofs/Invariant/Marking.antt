@@ -50,7 +50,7 @@ module _ (n total : ℕ) (v : View) (γ : Ghost) (i : Inv n total v γ) (h a : �
       (move-books v γ (γ .big) h (v .own h) (γ .mind h) s′ (v .lines) (v .slots) (γ .wire) (λ j. refl) (λ j. refl) (λ j n. i .core .books j) (i .core .books h)))
 
 -- the history, where a cabinet's ghost changes in nothing that the history is compared with
-module _ (n : ℕ) (v : View) (γ : Ghost) (h : History) (p : Past n v γ h) (a : ℕ) (m : Mind) (tab : m .tab ≡ γ .mind a .tab) (done : m .done ≡ γ .mind a .done)
+module _ (n : ℕ) (v : View) (γ : Ghost) (h : History) (p : Past n v γ h) (a : ℕ) (m : Mind) (tab : m .tab ≡ γ .mind a .tab) (joined : m .joined ≡ γ .mind a .joined) (done : m .done ≡ γ .mind a .done)
     (cut : m .cut ≡ γ .mind a .cut) (top : m .top ≡ γ .mind a .top) (prev : m .prev ≡ γ .mind a .prev) where
   abbrev δ : Ghost
   δ = minded γ (γ .big) a m (γ .wire)
@@ -86,4 +86,6 @@ module _ (n : ℕ) (v : View) (γ : Ghost) (h : History) (p : Past n v γ h) (a 
           (λ c l. subst (λ (y : Image). HeldIn (h .lost c) (newest (x .1) (h .start) .cut c) y) (sym (kept-at (λ (x : Mind). x .prev) (γ .mind) a m prev c)) (x .5 c l)),
           x .6,
         );
+    begun = p .begun;
+    waits = λ c s j. p .waits c s (sym (kept-at (λ (x : Mind). x .joined) (γ .mind) a m joined c) ∙ j);
   }

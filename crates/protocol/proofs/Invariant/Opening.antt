@@ -1,7 +1,7 @@
 -- The invariant holds of every group as it is loaded.
 use Prim.Native.Nat.{ℕ, zero, suc, _<_, _≤_}
 use mathlib.Core.Path.{_≡_, refl, sym, ap, _∙_, subst}
-use mathlib.Core.Logic.{inl, inr}
+use mathlib.Core.Logic.{inl, inr, ⊎-elim}
 use mathlib.Core.Bool.{Bool, true, false, cond, not, _&&_, _||_, true≢false, false≢true}
 use mathlib.Core.List.{List, []}
 use mathlib.Core.Option.{Option, none, some}
@@ -369,4 +369,6 @@ module _ (f : List ℕ) (g : Group) (st : Starts f g) (fit : Fit g) where
     gone = λ c l e. absurd (never (lt-ltb c (g .n) l) e);
     beyond = image-past;
     below = λ e. absurd (true≢false e);
+    begun = ⊎-elim (λ e. absurd (false≢true e)) (λ e. absurd (true≢false e));
+    waits = λ c s j. absurd (never s (only (tab₀ c) (view g .own c) (ready₀ c) (λ (x : State). isIn x Checkpointed ≡ false) refl refl));
   }

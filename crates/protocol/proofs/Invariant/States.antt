@@ -47,10 +47,10 @@ pub restoring-one : (s : State) → inRestoring s ≡ true → (s ≡ Recovering
 restoring-one s e = ⊎-elim (λ r. inl (in-state s Recovering .0 r)) (λ r. inr (in-state s Recovered .0 r)) (or-split (isIn s Recovering) (isIn s Recovered) e)
 
 pub restoring-works : (s : State) → inRestoring s ≡ true
-    → (inRecovery s ≡ true) × (isIn s Error ≡ false) × (isIn s Checkpointing ≡ false) × (isIn s Normal ≡ false) × (works s ≡ true)
+    → (inRecovery s ≡ true) × (isIn s Error ≡ false) × (inSaving s ≡ false) × (isIn s Normal ≡ false) × (works s ≡ true)
 restoring-works s e =
     let off : (t : State) → inRestoring t ≡ false → isIn s t ≡ false = λ t n. apart (λ x. inRestoring x) s t e n in
-    (or-right (isIn s Error) (inRestoring s) e, off Error refl, off Checkpointing refl, off Normal refl, ap not (off Failed refl))
+    (or-right (isIn s Error) (inRestoring s) e, off Error refl, rw (off Checkpointing refl, off Checkpointed refl), off Normal refl, ap not (off Failed refl))
 
 pub opens-serve : (s : State) → (isIn s Normal || isIn s CheckpBegin) ≡ true → serving s ≡ true
 opens-serve s e =

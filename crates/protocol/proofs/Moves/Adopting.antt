@@ -2,7 +2,7 @@
 -- other lines. From now on the save is known to more than its coordinator.
 use Prim.Native.Nat.{ℕ, _<_, _≤_}
 use mathlib.Core.Path.{_≡_, refl, sym, ap, _∙_, subst, fun-ext}
-use mathlib.Core.Logic.{_≢_, ⊎-elim}
+use mathlib.Core.Logic.{_≢_, ⊎-elim, inl}
 use mathlib.Core.Bool.{Bool, true, false, cond, not, _&&_, false≢true, true≢false}
 use mathlib.Core.List.{List, [], _∷_, _++_, nil≢cons}
 use lib.ListN.{getD, set, replicate, getD-replicate}
@@ -12,11 +12,10 @@ use native.Mathlib.Omega.{arith}
 use native.Mathlib.Decide.{decLt}
 use Rattle.marks.specs.Marks.{Marks, marked}
 use Rattle.line.specs.declared.Packet.{Packet}
-use Rattle.line.specs.declared.Packet.the-variants.{Resume}
+use Rattle.line.specs.declared.Packet.the-variants.{Resume, Empty}
 use Rattle.line.specs.declared.Cell.{Cell}
 use Rattle.line.specs.Line.{emptyCell, oldest, rest}
-use Rattle.cabinet.specs.declared.State.{State}
-use Rattle.cabinet.specs.declared.State.the-variants.{Normal, Checkpointing, Checkpointed}
+use Rattle.cabinet.specs.declared.State.the-variants.{Normal, Checkpointed}
 use Rattle.cabinet.specs.declared.Version.{Version}
 use Rattle.cabinet.specs.declared.Version.the-variants.{Known, Unknown}
 use Rattle.cabinet.specs.State.{isIn, works, isUnknown, adopted}
@@ -24,10 +23,10 @@ use Rattle.cabinet.specs.Cabinet.{inUse, resuming}
 use Rattle.group.specs.declared.Group.{Group}
 use Rattle.group.specs.Lines.{putAll}
 use Rattle.group.specs.Group.{cabinet, withCabinet, stateOf, line, withLine}
-use Rattle.protocol.specs.History.{History, Save, upd, goes, newest, markKnown, noteKnown, noteCuts}
+use Rattle.protocol.specs.History.{History, Save, upd, goes, newest, markKnown, noteKnown, noteCuts, withKnown}
 use Rattle.protocol.specs.Restored.{Balanced}
 use Rattle.protocol.specs.Moves.{adopt}
-use Rattle.protocol.proofs.State.Fun.{never, and-true, and-intro, upd-elim, upd-same, upd-other, not-not}
+use Rattle.protocol.proofs.State.Fun.{and-true, and-intro, upd-elim, upd-same, upd-other, not-not}
 use Rattle.protocol.proofs.State.Every.{with-cabinet, with-line}
 use Rattle.protocol.proofs.State.View.{View, Own, used, content, view, setLines, setLine}
 use Rattle.protocol.proofs.State.Shape.{Shaped, Lined, Pictured, shaped}
@@ -36,11 +35,11 @@ use Rattle.protocol.proofs.State.Methods.{unmark}
 use Rattle.protocol.proofs.State.ViewMoves.{Room, view-resumed, sim-off, view-off}
 use Rattle.protocol.proofs.Answers.Tests.{in-state}
 use Rattle.protocol.proofs.Invariant.Facts.{Ghost, aware, unaware, linked, behind}
-use Rattle.protocol.proofs.Invariant.Whole.{Inv, workOf}
-use Rattle.protocol.proofs.Invariant.Past.{Past, Kept, Stays, no-cuts, aware-not-normal}
+use Rattle.protocol.proofs.Invariant.Whole.{Inv}
+use Rattle.protocol.proofs.Invariant.Past.{Past, Kept, Stays, aware-not-normal, past-turn}
 use Rattle.protocol.proofs.Invariant.Logs.{resumedBy}
-use Rattle.protocol.proofs.Invariant.Words.{un-of, un-works, un-not-aware, room-calm, used-linked}
-use Rattle.protocol.proofs.Moves.Waking.{woken, gAdopted, woken-swap, woken-off, sender-ahead, resume-other, receiver-open}
+use Rattle.protocol.proofs.Invariant.Words.{un-of, un-not-aware, room-calm, used-linked}
+use Rattle.protocol.proofs.Moves.Waking.{woken, gAdopted, woken-swap, woken-off, sender-ahead, resume-other, resume-fresh}
 
 -- ---- the move in the view
 
@@ -99,8 +98,8 @@ known-cut : (s : List Save) (z : Save) → newest (markKnown s) z .cut ≡ newes
 known-cut [] z = refl
 known-cut (x ∷ s) z = refl
 
-pub past-adopted : (n : ℕ) (v u : View) (γ : Ghost) (h : History) → Past n v γ h → Past n u (gAdopted γ) (noteKnown true h)
-past-adopted n v u γ h p = record {
+pub past-adopted : (n : ℕ) (v : View) (γ : Ghost) (h : History) → Past n v γ h → Past n v (gAdopted γ) (noteKnown true h)
+past-adopted n v γ h p = record {
   sent = p .sent;
   taken = p .taken;
   hurt = p .hurt;
@@ -113,6 +112,8 @@ past-adopted n v u γ h p = record {
   gone = p .gone;
   beyond = p .beyond;
   below = λ e. absurd (true≢false e);
+  begun = ⊎-elim (λ e. p .begun (inl e)) (λ e. absurd (true≢false e));
+  waits = λ c s j. let x = p .waits c s j in (x .0, (withKnown (x .1 .0) true, x .1 .1, ap markKnown (x .1 .2)));
 }
   where
     start-known : h .saves ≡ [] → h .start .known ≡ true
@@ -126,19 +127,6 @@ past-adopted n v u γ h p = record {
 
 module _ (g g′ : Group) (γ : Ghost) (b : ℕ) (o : Own) (normal : o .state ≡ Normal) (seen : view g′ .own ≡ upd (view g .own) b o)
     (calm : unaware (γ .big) (view g .own b) ≡ true) where
-  pub went-cuts : (h : History) → noteCuts h g g′ ≡ h
-  went-cuts h =
-      no-cuts h g g′
-      (λ c e. upd-elim (λ (y : Own). isIn (y .state) Checkpointing ≡ true → isIn (stateOf g c) Checkpointing ≡ true) (view g .own) b o c
-      (λ d f. absurd (false≢true (ap (λ (s : State). isIn s Checkpointing) (sym normal) ∙ f))) (λ d f. f)
-      (ap (λ (y : ℕ → Own). isIn (y c .state) Checkpointing) (sym seen) ∙ e))
-
-  pub went-works : (c : ℕ) → workOf (view g′) c ≡ workOf (view g) c
-  went-works c =
-      ap (λ (y : ℕ → Own). works (y c .state)) seen
-      ∙ upd-elim (λ (y : Own). works (y .state) ≡ workOf (view g) c) (view g .own) b o c
-      (λ d. ap works normal ∙ sym (ap (workOf (view g)) d ∙ un-works (γ .big) (view g .own b) calm)) (λ d. refl)
-
   pub went-stays : Stays (view g) γ (view g′)
   went-stays c e =
       ap (λ (y : ℕ → Own). isIn (y c .state) Normal) seen
@@ -162,14 +150,14 @@ module _ (total : ℕ) (g : Group) (h : History) (γ : Ghost) (w : Fit g) (i : I
   calm : unaware (γ .big) (v .own b) ≡ true
   calm = un-of (γ .big) (v .own b) (rw saved) (rw saved)
 
-  -- whoever has written waits for no packet of this neighbour
+  abbrev waits : (γ .mind b .joined ≡ false) × (b ≢ γ .big .chief)
+  waits = resume-fresh (g .n) total v γ i a b 0 (ap (λ (l : List Packet). getD l 0 Empty) is-first) saved
+
   fresh : γ .mind b .joined ≡ false
-  fresh =
-      let f = i .core .nodes b in
-      ⊎-elim (λ e. e) (λ e. absurd (never (f .wroteDone e) (receiver-open (g .n) total v γ i a b k is-first))) (f .inCheckpointed calm saved)
+  fresh = waits .0
 
   not-chief : b ≢ γ .big .chief
-  not-chief e = never (i .core .nodes b .chiefSaved calm saved e) fresh
+  not-chief = waits .1
 
   waiting : behind (γ .big) (v .own b) (γ .mind b) ≡ true
   waiting = and-intro calm (rw (saved, fresh))
@@ -226,6 +214,6 @@ module _ (total : ℕ) (g : Group) (h : History) (γ : Ghost) (w : Fit g) (i : I
     ghost = gAdopted γ;
     inv = subst (λ (u : View). Inv (g .n) total u (gAdopted γ)) (sym seen)
         (woken-off (g .n) total v γ i a b k is-first waiting fresh not-chief r (λ d e. and-true {s = used (v .side b d)} e .0) reached);
-    past = rw (went-cuts g g′ γ b _ refl (ap (λ (u : View). u .own) seen) calm (noteKnown true h)) (past-adopted (g .n) v (view g′) γ h past);
+    past = past-turn g g′ b _ (λ c. ap (λ (u : View). u .own c .state) seen) (sym (ap works saved)) refl (past-adopted (g .n) v γ h past);
     stays = went-stays g g′ γ b _ refl (ap (λ (u : View). u .own) seen) calm;
   }

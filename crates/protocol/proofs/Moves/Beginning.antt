@@ -1,8 +1,8 @@
 -- Kind 3, begin, and kind 4 where a checkp is taken whose value is the register's: the cabinet joins the save if it is in normal,
 -- compares, and cuts if the checkps of all neighbours in use have come.
-use Prim.Native.Nat.{ℕ, _<_}
+use Prim.Native.Nat.{ℕ, suc, _<_}
 use mathlib.Core.Path.{_≡_, refl, sym, ap, _∙_, subst}
-use mathlib.Core.Logic.{_≢_, inl, inr}
+use mathlib.Core.Logic.{_≢_, inl, inr, ⊎-elim}
 use mathlib.Core.Bool.{Bool, true, false, cond, not, _&&_, _||_, true≢false}
 use mathlib.Core.List.{List, [], _∷_, _++_}
 use mathlib.Core.Option.{Option, none, some}
@@ -24,11 +24,12 @@ use Rattle.cabinet.specs.State.{isIn, works}
 use Rattle.cabinet.specs.Cabinet.{inUse, booked, coordinator, comparing, withState}
 use Rattle.group.specs.declared.Group.{Group}
 use Rattle.group.specs.Group.{cabinet, withCabinet, stateOf, line, withLine}
+use Rattle.protocol.specs.declared.Step.the-variants.{Begin}
 use Rattle.protocol.specs.Moves.{join, cutIfAll, takeCheckp}
 use Rattle.protocol.specs.Receive.{joinIf}
 use Rattle.protocol.specs.Kinds.{beginRefusal}
-use Rattle.protocol.specs.History.{upd, Cut, History, withCuts, withBegun, noteCuts, cutIn}
-use Rattle.protocol.proofs.State.Fun.{never, is-true, and-true, upd-elim, upd-same, upd-other, upd-id, kept-at, kept-pair}
+use Rattle.protocol.specs.History.{upd, Cut, History, withCuts, withBegun, observe, noteCuts, cutIn}
+use Rattle.protocol.proofs.State.Fun.{never, is-true, and-true, upd-elim, upd-same, upd-other, upd-id, kept-at, kept-pair, is-false}
 use Rattle.protocol.proofs.State.Every.{passed, with-cabinet, with-line, ok-join}
 use Rattle.protocol.proofs.State.View.{View, Own, Side, used, content, view, setLine}
 use Rattle.protocol.proofs.State.Shape.{Shaped, Lined, Pictured, shaped}
@@ -36,8 +37,8 @@ use Rattle.protocol.proofs.State.Sim.{Fit, view-cabinet, in-use, past-u
 use Rattle.protocol.proofs.State.ViewMoves.{Room, vPut, vJoin, vCompare, vCut, sim-join, sim-compare, sim-cut, sim-off, view-off}
 use Rattle.protocol.proofs.Answers.Tests.{in-state, same-check}
 use Rattle.protocol.proofs.Invariant.Facts.{Mind, Wire, Ghost, unaware}
-use Rattle.protocol.proofs.Invariant.Whole.{Inv, workOf}
-use Rattle.protocol.proofs.Invariant.Past.{Past, Kept, Stays, no-cuts, past-view, aware-not-normal}
+use Rattle.protocol.proofs.Invariant.Whole.{Inv}
+use Rattle.protocol.proofs.Invariant.Past.{Past, Kept, Stays, after, no-cuts, past-one, past-same, aware-not-normal}
 use Rattle.protocol.proofs.Invariant.Words.{un-of, un-works, chief-of, room-calm}
 use Rattle.protocol.proofs.Moves.Joining.{Joins, mJoined, gJoin, join-inv}
 use Rattle.protocol.proofs.Moves.Comparing.{wCovered, gCompare, checkp-joined, checkp-other, between, compare-inv}
@@ -49,7 +50,8 @@ module _ (n : ℕ) (v : View) (γ δ : Ghost) (h : History)
     (sent : (c d : ℕ) → δ .wire c d .sent ≡ γ .wire c d .sent) (taken : (c d : ℕ) → δ .wire c d .taken ≡ γ .wire c d .taken)
     (clean : δ .big .clean ≡ γ .big .clean) (alive : δ .big .alive ≡ γ .big .alive) (adopted : δ .big .adopted ≡ γ .big .adopted)
     (chief : δ .big .chief ≡ γ .big .chief) (tab : (c : ℕ) → δ .mind c .tab ≡ γ .mind c .tab)
-    (top : (c : ℕ) → δ .mind c .top ≡ γ .mind c .top) (prev : (c : ℕ) → δ .mind c .prev ≡ γ .mind c .prev) where
+    (top : (c : ℕ) → δ .mind c .top ≡ γ .mind c .top) (prev : (c : ℕ) → δ .mind c .prev ≡ γ .mind c .prev)
+    (joins : (c : ℕ) → γ .mind c .joined ≡ true → δ .mind c .joined ≡ true) (begins : δ .big .begun ≡ true → h .begun ≡ true) where
   abbrev CutAt : Ghost → History → ℕ → Type 0
   CutAt ε k c = (x : Cut) × (k .cuts c ≡ some x) × (x .image ≡ ε .mind c .cut)
       × ((d : ℕ) → x .sent d ≡ ε .wire c d .sent) × ((d : ℕ) → x .taken d ≡ ε .wire d c .taken)
@@ -72,13 +74,18 @@ module _ (n : ℕ) (v : View) (γ δ : Ghost) (h : History)
     beyond = λ c l. ap booked (top c) ∙ p .beyond c l;
     below = λ e. let b = p .below (sym adopted ∙ e) in
         (b .0, b .1, b .2, b .3 ∙ sym chief, (λ j d k. b .4 j (λ q. d (q ∙ sym chief)) k), (λ c l. rw (prev c) (b .5 c l)), b .6);
+    begun = ⊎-elim begins (λ e. p .begun (inr (sym adopted ∙ e)));
+    waits = λ c s e. p .waits c s (is-false (γ .mind c .joined) (λ j. never (joins c j) e));
   }
+
+join-more : (γ : Ghost) (c x : ℕ) → γ .mind x .joined ≡ true → gJoin γ c .mind x .joined ≡ true
+join-more γ c x e = upd-elim (λ (m : Mind). m .joined ≡ true) (γ .mind) c (mJoined (γ .mind c)) x (λ _. refl) (λ _. e)
 
 -- a cabinet joins the save under way
 pub past-join : (n : ℕ) (v : View) (γ : Ghost) (h : History) (c : ℕ) → γ .big .begun ≡ true → Past n v γ h → Past n v (gJoin γ c) h
 past-join n v γ h c begun p =
     past-ghost n v γ (gJoin γ c) h (λ x y. refl) (λ x y. refl) refl refl refl refl (one (λ m. m .tab) refl) (one (λ m. m .top) refl)
-    (one (λ m. m .prev) refl) (h .cuts)
+    (one (λ m. m .prev) refl) (join-more γ c) (λ _. p .begun (inl begun)) (h .cuts)
     (λ a x e. let y = p .cuts a x (sym (one (λ m. m .done) refl x) ∙ e) in (y .0, y .1, y .2 ∙ sym (one (λ m. m .cut) refl x), y .3, y .4))
     (λ a e x f. p .noCut a begun x (sym (one (λ m. m .tab) refl x) ∙ f)) p
   where
@@ -100,14 +107,16 @@ past-begun p = record {
   gone = p .gone;
   beyond = p .beyond;
   below = p .below;
+  begun = λ _. refl;
+  waits = p .waits;
 }
 
 -- a new save begins: no cabinet has a cut in it
 pub past-begin : (n total : ℕ) (v : View) (γ : Ghost) (h : History) (c : ℕ) → Inv n total v γ → γ .big .begun ≡ false → Past n v γ h
-    → Past n v (gJoin γ c) (withBegun (withCuts h (λ i. none)) true)
-past-begin n total v γ h c i fresh p =
+    → (g g′ : Group) → Past n v (gJoin γ c) (observe h g g′ (Begin (suc c)))
+past-begin n total v γ h c i fresh p g g′ =
     past-ghost n v γ (gJoin γ c) (withBegun h true) (λ x y. refl) (λ x y. refl) refl refl refl refl (one (λ m. m .tab) refl) (one (λ m. m .top) refl)
-    (one (λ m. m .prev) refl) (λ x. none)
+    (one (λ m. m .prev) refl) (join-more γ c) (λ _. refl) (λ x. none)
     (λ a x e. absurd (never (i .core .nodes x .joinedBegun (i .core .nodes x .doneJoined (sym (one (λ m. m .done) refl x) ∙ e))) fresh))
     (λ a e x f. refl) (past-begun p)
   where
@@ -117,7 +126,8 @@ past-begin n total v γ h c i fresh p =
 -- a comparison adds nothing to the logs
 pub past-compare : (n : ℕ) (v : View) (γ : Ghost) (h : History) (a b : ℕ) → Past n v γ h → Past n v (gCompare γ a b) h
 past-compare n v γ h a b p =
-    past-ghost n v γ (gCompare γ a b) h sent taken refl refl refl refl (λ x. refl) (λ x. refl) (λ x. refl) (h .cuts)
+    past-ghost n v γ (gCompare γ a b) h sent taken refl refl refl refl (λ x. refl) (λ x. refl) (λ x. refl) (λ x e. e)
+    (λ e. p .begun (inl e)) (h .cuts)
     (λ e x f. let y = p .cuts e x f in (y .0, y .1, y .2, (λ d. y .3 d ∙ sym (sent x d)), (λ d. y .4 d ∙ sym (taken d x)))) (p .noCut) p
   where
     sent : (c d : ℕ) → gCompare γ a b .wire c d .sent ≡ γ .wire c d .sent
@@ -190,11 +200,6 @@ module _ (total : ℕ) (g₀ : Group) (γ₀ : Ghost) (h : History) (g : Group) 
     cut-image : cabinet g′ c .image ≡ view g .own c .image
     cut-image = ap (λ (x : View). x .own c .image) seen ∙ ap (λ (o : Own). o .image) (upd-same (view g .own) c _)
 
-    work-kept : (d : ℕ) → workOf (view g′) d ≡ workOf (view g) d
-    work-kept d =
-        ap (λ (x : View). works (x .own d .state)) seen
-        ∙ kept-at (λ (o : Own). works (o .state)) (view g .own) c _ (sym (un-works (γ .big) (view g .own c) un)) d
-
     abbrev cuts′ : ℕ → Option Cut
     cuts′ = noteCuts h g₀ g′ .cuts
 
@@ -227,14 +232,14 @@ module _ (total : ℕ) (g₀ : Group) (γ₀ : Ghost) (h : History) (g : Group) 
     past-cut : Past (g₀ .n) (view g) γ′ (noteCuts h g₀ g′)
     past-cut =
         past-ghost (g₀ .n) (view g) γ γ′ h (λ x y. refl) (λ x y. refl) refl refl refl refl (one (λ m. m .tab) refl) (one (λ m. m .top) refl)
-        (one (λ m. m .prev) refl) cuts′ cut-of
+        (one (λ m. m .prev) refl) (λ x e. one (λ m. m .joined) refl x ∙ e) (λ e. past .begun (inl e)) cuts′ cut-of
         (λ a e x f. let g = sym (one (λ m. m .tab) refl x) ∙ f in cut-there x (tabbed x g) ∙ past .noCut a e x g) past
 
     keeps-done : Kept total g₀ γ₀ g′ (noteCuts h g₀ g′)
     keeps-done = record {
       ghost = γ′;
       inv = subst (λ (x : View). Inv (g₀ .n) total x γ′) (sym seen) (cut-inv (g₀ .n) total (view g) γ i c un begins (w .cabs c .image) come-all);
-      past = past-view work-kept past-cut;
+      past = past-one c _ (λ d. ap (λ (x : View). x .own d .state) seen) (sym (ap works begins)) refl past-cut;
       stays = λ d e. elim (ℕ-discrete d c) [
         | yes q ↦ rw (ap (λ (x : ℕ). stateOf g′ x) q, cut-state)
         | no n ↦ ap (λ (s : State). isIn s Normal) (other-state d n) ∙ stays d e
@@ -278,16 +283,12 @@ module _ (total : ℕ) (g : Group) (h : History) (γ : Ghost) (w : Fit g) (i : I
   begin-other : (d : ℕ) → d ≢ a → stateOf (join g a) d ≡ stateOf g d
   begin-other d n = ap (λ (x : View). x .own d .state) begin-seen ∙ ap (λ (o : Own). o .state) (upd-other (view g .own) a _ d n)
 
-  begin-work : (d : ℕ) → workOf (view (join g a)) d ≡ workOf (view g) d
-  begin-work d =
-      ap (λ (x : View). works (x .own d .state)) begin-seen
-      ∙ kept-at (λ (o : Own). works (o .state)) (view g .own) a _ (sym (un-works (γ .big) (view g .own a) calm)) d
-
-  pub keeps-begin : Kept total g γ (cutIfAll (join g a) a) (noteCuts (withBegun (withCuts h (λ i. none)) true) g (cutIfAll (join g a) a))
+  pub keeps-begin : Kept total g γ (cutIfAll (join g a) a) (after h g (cutIfAll (join g a) a) (Begin (suc a)))
   keeps-begin =
-      keeps-cut total g γ (withBegun (withCuts h (λ i. none)) true) (join g a) (ok-join Shaped Lined Pictured shaped g a w) (gJoin γ a)
+      keeps-cut total g γ (observe h g (cutIfAll (join g a) a) (Begin (suc a))) (join g a) (ok-join Shaped Lined Pictured shaped g a w) (gJoin γ a)
       (subst (λ (x : View). Inv (g .n) total x (gJoin γ a)) (sym begin-seen) (join-inv (g .n) total (view g) γ i a calm normal (inl (chief, fresh))))
-      (past-view begin-work (past-begin (g .n) total (view g) γ h a i fresh past))
+      (past-one a _ (λ d. ap (λ (x : View). x .own d .state) begin-seen) (sym (ap works normal)) refl
+      (past-begin (g .n) total (view g) γ h a i fresh past g (cutIfAll (join g a) a)))
       (λ d e. elim (ℕ-discrete d a) [
         | yes q ↦ rw (ap (λ (x : ℕ). stateOf (join g a) x) q, begin-state)
         | no n ↦ ap (λ (s : State). isIn s Normal) (begin-other d n) ∙ aware-not-normal (γ .big) (view g .own d) e
@@ -358,7 +359,7 @@ module _ (total : ℕ) (g₀ : Group) (γ₀ : Ghost) (h : History) (g : Group) 
       (with-cabinet Shaped Lined Pictured shaped g b _ (shaped .comparing (cabinet g b) a (w .cabs b)) w) (gCompare γ a b)
       (subst (λ (y : View). Inv (g₀ .n) total y (gCompare γ a b)) (sym compared-seen)
       (compare-inv (g₀ .n) total u γ i a b x k first (un-of (γ .big) (u .own b) (rw begins) (rw begins)) equal begins))
-      (past-view (λ d. ap works (compared-state d)) (past-compare (g₀ .n) u γ h a b past))
+      (past-same compared-state (past-compare (g₀ .n) u γ h a b past))
       (λ d e. elim (ℕ-discrete d b) [
         | yes q ↦ rw (ap (λ (y : ℕ). stateOf compared y) q, compared-state b, begins)
         | no n ↦ ap (λ (s : State). isIn s Normal) (compared-state d ∙ others d n) ∙ aware-not-normal (γ₀ .big) (view g₀ .own d) e
@@ -424,8 +425,7 @@ module _ (total : ℕ) (g : Group) (h : History) (γ : Ghost) (w : Fit g) (i : I
     keeps-joined =
         keeps-taken total g γ h (join g₁ b) (ok-join Shaped Lined Pictured shaped g₁ b off-fit) (gJoin γ b) (vJoin (view g) b)
         (join-inv (g .n) total (view g) γ i b calm-b normal joins)
-        (past-view (λ d. kept-at (λ (o : Own). works (o .state)) (view g .own) b _ (sym (un-works (γ .big) (view g .own b) calm-b)) d)
-        (past-join (g .n) (view g) γ h b has-begun past))
+        (past-one b _ (λ d. refl) (sym (ap works normal)) refl (past-join (g .n) (view g) γ h b has-begun past))
         a b la lb x left (ap (λ (f : ℕ → List Packet). f b) (upd-other (view g .lines) b _ a (λ e. other (sym e))) ∙ in-line) joined-seen
         (ap (λ (o : Own). o .state) (upd-same (view g .own) b _))
         (equal ∙ sym (ap (λ (f : ℕ → Side). f a .took) (upd-same (view g .side) b _)))

@@ -22,7 +22,7 @@ use Rattle.line.specs.Line.{packetAt, replaced}
 use Rattle.cabinet.specs.declared.State.{State}
 use Rattle.cabinet.specs.declared.State.the-variants.{Normal, Checkpointing, Error, Recovering, Recovered}
 use Rattle.cabinet.specs.declared.Image.{Image}
-use Rattle.cabinet.specs.State.{isIn, works, inRecovery}
+use Rattle.cabinet.specs.State.{isIn, inRecovery}
 use Rattle.group.specs.declared.Group.{Group}
 use Rattle.group.specs.Group.{line, withLine, rowsOf, some, recoveringOnes}
 use Rattle.protocol.specs.Kinds.{need, hurtAlready, damageRefusal, hurtIf, hurt}
@@ -37,7 +37,7 @@ use Rattle.protocol.proofs.State.Methods.{sRegisters}
 use Rattle.protocol.proofs.State.ViewMoves.{vHurt, sim-hurt}
 use Rattle.protocol.proofs.Invariant.Facts.{Big, Mind, Wire, Ghost, Pair, Node, Books, Stream, aware, unaware, linked, amountOf, amountsIn, count, isFault, isCheckp, isSafe, isInvalid, checkpLast, resumes, resumeFirst, Amounts, Differ, here, later}
 use Rattle.protocol.proofs.Invariant.Whole.{Inv, PairAt}
-use Rattle.protocol.proofs.Invariant.Past.{Past, Kept, no-cuts, past-view, aware-not-normal}
+use Rattle.protocol.proofs.Invariant.Past.{Past, Kept, no-cuts, aware-not-normal, past-same}
 use Rattle.protocol.proofs.Invariant.Logs.{differ-none, head-eq, tail-eq}
 use Rattle.protocol.proofs.Invariant.Words.{un-of, aware-recovers, linked-used, live-line, nobody-recovers}
 use Rattle.protocol.proofs.Invariant.Frame.{moved, minded, move-pairs}
@@ -528,7 +528,7 @@ module _ (total : ℕ) (g : Group) (h : History) (γ : Ghost) (w : Fit g) (i : I
   δ = gHurt γ (cond (isNormal (getD (v .lines a b) p Empty)) false (γ .big .clean))
 
   past-kept : Past (g .n) (view g′) γ h
-  past-kept = past-view (λ c. ap works (state-kept c)) past
+  past-kept = past-same state-kept past
 
   past-mark : (t : Bool) → Past (g .n) (view g′) (gHurt γ (cond t false (γ .big .clean))) (noteHurt t h)
   past-mark true = let x = past-kept in let e : _≡_ {A = Bool} true (not false) = refl in search

@@ -2,7 +2,7 @@
 -- is still to be heard, all facts stay. Only the pair of sender and receiver reads the line.
 use Prim.Native.Nat.{ℕ, _<_}
 use mathlib.Core.Path.{_≡_, sym, ap, _∙_, subst}
-use mathlib.Core.Logic.{_≢_, _⊎_, inl, ⊎-elim}
+use mathlib.Core.Logic.{_⊎_, inl, ⊎-elim}
 use mathlib.Core.Bool.{Bool, true, false, not, _&&_}
 use mathlib.Core.List.{List, [], _∷_, _++_, nil≢cons}
 use lib.ListN.{drop}
@@ -14,8 +14,8 @@ use Rattle.line.specs.declared.Packet.the-variants.{Recover}
 use Rattle.line.specs.Packet.{isEmpty, isNormal}
 use Rattle.line.specs.Line.{oldest, rest}
 use Rattle.cabinet.specs.declared.State.{State}
-use Rattle.cabinet.specs.declared.State.the-variants.{Normal, Checkpointing, Recovered}
-use Rattle.cabinet.specs.State.{isIn, works}
+use Rattle.cabinet.specs.declared.State.the-variants.{Normal, Recovered}
+use Rattle.cabinet.specs.State.{isIn}
 use Rattle.group.specs.declared.Group.{Group}
 use Rattle.group.specs.Group.{line, withLine}
 use Rattle.protocol.specs.History.{History, upd, noteCuts}
@@ -25,7 +25,7 @@ use Rattle.protocol.proofs.State.Sim.{Fit}
 use Rattle.protocol.proofs.State.ViewMoves.{sim-off, view-off}
 use Rattle.protocol.proofs.Invariant.Facts.{Big, Mind, Wire, Ghost, Pair, Stream, aware, unaware, linked, behind, count, isFault, isCheckp, isInvalid, checkpLast, resumeFirst, Differ}
 use Rattle.protocol.proofs.Invariant.Whole.{Inv, PairAt}
-use Rattle.protocol.proofs.Invariant.Past.{Past, Kept, no-cuts, past-view, aware-not-normal}
+use Rattle.protocol.proofs.Invariant.Past.{Past, Kept, aware-not-normal, past-still}
 use Rattle.protocol.proofs.Invariant.Logs.{head-eq, tail-eq, alarms-rest, amounts-rest, small-rest, count-rest}
 
 -- ---- the pair of sender and receiver
@@ -147,6 +147,6 @@ module _ (total : ℕ) (g : Group) (h : History) (γ : Ghost) (w : Fit g) (i : I
     ghost = γ;
     inv = subst (λ (x : View). Inv (g .n) total x γ) (sym seen)
         (drop-inv (g .n) total (view g) γ i a b (oldest (line g a b)) left (sim-off g a b full) plain waits hears);
-    past = rw (no-cuts h g g′ (λ c e. ap (λ (s : State). isIn s Checkpointing) (sym (state-kept c)) ∙ e)) (past-view (λ c. ap works (state-kept c)) past);
+    past = past-still g g′ state-kept past;
     stays = λ c e. ap (λ (s : State). isIn s Normal) (state-kept c) ∙ aware-not-normal (γ .big) (view g .own c) e;
   }

@@ -23,7 +23,7 @@ use Rattle.protocol.proofs.State.Methods.{sAlarmed, hitsCabinet, hitsLi
 use Rattle.protocol.proofs.Invariant.States.{place-same}
 use Rattle.protocol.proofs.Invariant.Facts.{Big, Mind, Wire, Ghost, Pair, Node, Books, aware, unaware, closed}
 use Rattle.protocol.proofs.Invariant.Whole.{Core, Place-of, failed, faulty, PairAt, PlacesOf, MeetsOf, ChainOf, workOf, alarmOf, awareOf, calmOf, knownOf, tabOf, lkOf}
-use Rattle.protocol.proofs.Invariant.Past.{Past, past-view}
+use Rattle.protocol.proofs.Invariant.Past.{Past}
 use Rattle.protocol.proofs.Invariant.Words.{un-of, un-works, un-not-aware, aware-recovers, aware-not-un}
 use Rattle.protocol.proofs.Invariant.Frame.{minded, move-pairs, move-nodes, move-books, move-ground, move-sums, same-mind}
 use Rattle.protocol.proofs.Moves.FirstFault.{bFaulted, bFrozen, gBig, gFaulted, gError, fault-core}
@@ -401,9 +401,5 @@ enter-core n total v γ i first c w r q meets =
     error-core n total v (gFaulted γ) (fault-core n total v γ i first) c (un-of (bFaulted (γ .big)) (v .own c) w r) refl q meets
 
 -- the history reads nothing of it
-pub error-past : (n : ℕ) (v : View) (γ : Ghost) (h : History) (c : ℕ) (q : Place) → works (v .own c .state) ≡ true → Past n v γ h
-    → Past n (vError v c q) (gError (gFaulted γ) (v .own c)) h
-error-past n v γ h c q w p = ghost (vError v c q) (past-view (error-works v c q w) p)
-  where
-    ghost : (u : View) → Past n u γ h → Past n u (gError (gFaulted γ) (v .own c)) h
-    ghost u k = search
+pub error-past : (n : ℕ) (v : View) (γ : Ghost) (h : History) (o : Own) → Past n v γ h → Past n v (gError (gFaulted γ) o) h
+error-past n v γ h o p = search

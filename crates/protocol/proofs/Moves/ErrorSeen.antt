@@ -10,16 +10,16 @@ use Rattle.line.specs.declared.Place.{Place}
 use Rattle.line.specs.declared.Packet.{Packet}
 use Rattle.line.specs.declared.Packet.the-variants.{Recover, Fault}
 use Rattle.cabinet.specs.declared.State.{State}
-use Rattle.cabinet.specs.declared.State.the-variants.{Normal, CheckpBegin, Checkpointing, Error, Recovering, Recovered, Crashed}
+use Rattle.cabinet.specs.declared.State.the-variants.{Normal, CheckpBegin, Error, Recovering, Recovered, Crashed}
 use Rattle.cabinet.specs.declared.Version.{Version}
 use Rattle.cabinet.specs.declared.Version.the-variants.{Known, Unknown}
 use Rattle.cabinet.specs.declared.Alarm.the-variants.{Fault as At}
-use Rattle.cabinet.specs.State.{isIn, works, inRecovery, isUnknown}
+use Rattle.cabinet.specs.State.{isIn, works, inRecovery, isUnknown, inSaving}
 use Rattle.group.specs.declared.Group.{Group}
 use Rattle.group.specs.Group.{cabinet}
 use Rattle.protocol.specs.History.{upd}
 use Rattle.protocol.specs.Moves.{recoverWith, recoverIfKnown, raise, enterError}
-use Rattle.protocol.proofs.State.Fun.{never, and-true, upd-elim, upd-same, upd-other, upd-id, kept-at, upd-twice}
+use Rattle.protocol.proofs.State.Fun.{and-true, upd-elim, upd-same, upd-other, upd-id, kept-at, upd-twice}
 use Rattle.protocol.proofs.State.Every.{ok-raise}
 use Rattle.protocol.proofs.State.View.{View, Own, Side, used, view}
 use Rattle.protocol.proofs.State.Shape.{Shaped, Lined, Pictured, shaped}
@@ -158,9 +158,9 @@ pub erred-not-normal : (x : Version) → isIn (erredState x) Normal ≡ false
 erred-not-normal (Known x) = refl
 erred-not-normal (Unknown x) = refl
 
-pub erred-not-cut : (x : Version) → isIn (erredState x) Checkpointing ≡ false
-erred-not-cut (Known x) = refl
-erred-not-cut (Unknown x) = refl
+pub erred-not-saving : (x : Version) → inSaving (erredState x) ≡ false
+erred-not-saving (Known x) = refl
+erred-not-saving (Unknown x) = refl
 
 pub erred-running : (x : Version) → isIn (erredState x) Crashed ≡ false
 erred-running (Known x) = refl
@@ -260,12 +260,6 @@ pub error-works : (v : View) (c : ℕ) (q : Place) → works (v .own c .state) �
 error-works v c q w j =
     ap (λ (u : View). workOf u j) (error-seen v c q)
     ∙ kept-at (λ (x : Own). works (x .state)) (v .own) c (oErred (v .own c) q) (erred-works (v .own c .version) ∙ sym w) j
-
--- no cabinet begins to write in it
-pub error-not-writing : (v : View) (c : ℕ) (q : Place) (j : ℕ) → isIn (vError v c q .own j .state) Checkpointing ≡ true → isIn (v .own j .state) Checkpointing ≡ true
-error-not-writing v c q j e =
-    upd-elim (λ (x : Own). isIn (x .state) Checkpointing ≡ true → isIn (v .own j .state) Checkpointing ≡ true) (v .own) c (oErred (v .own c) q) j
-    (λ s f. absurd (never f (erred-not-cut (v .own c .version)))) (λ n f. f) (ap (λ (u : View). isIn (u .own j .state) Checkpointing) (sym (error-seen v c q)) ∙ e)
 
 -- nobody aware, and not the cabinet itself, is in normal after it
 pub error-here : (v : View) (c : ℕ) (q : Place) → isIn (vError v c q .own c .state) Normal ≡ false

@@ -1,7 +1,7 @@
 -- Kind 10, fail: a cabinet fails, the commit of a save that it alone knew of is undone, and its neighbours enter error.
 use Prim.Native.Nat.{ℕ, _<_}
 use mathlib.Core.Path.{_≡_, refl, sym, ap, _∙_, subst}
-use mathlib.Core.Logic.{_≢_, inl, inr}
+use mathlib.Core.Logic.{_≢_, inl, inr, ⊎-elim}
 use mathlib.Core.Bool.{Bool, true, false, cond, not, _||_, false≢true, true≢false, _&&_}
 use mathlib.Core.List.{List, [], _∷_}
 use mathlib.Core.Option.{some as just}
@@ -13,9 +13,10 @@ use native.Mathlib.Omega.{arith}
 use native.Mathlib.Decide.{ℕ-discrete}
 use Rattle.marks.specs.Marks.{marked}
 use Rattle.marks.specs.Reach.{connected}
-use Rattle.cabinet.specs.declared.State.the-variants.{Checkpointing}
+use Rattle.cabinet.specs.declared.State.{State}
+use Rattle.cabinet.specs.declared.State.the-variants.{Checkpointing, Checkpointed}
 use Rattle.cabinet.specs.declared.Image.{Image}
-use Rattle.cabinet.specs.State.{isIn, works, inRecovery}
+use Rattle.cabinet.specs.State.{isIn, works, inRecovery, inSaving}
 use Rattle.cabinet.specs.Cabinet.{booked}
 use Rattle.group.specs.declared.Group.{Group}
 use Rattle.group.specs.Group.{cabinet, stateOf, rowsOf, working, some, recoveringOnes}
@@ -29,6 +30,7 @@ use Rattle.protocol.proofs.State.Shape.{Shaped, Lined, Pictured, shaped
 use Rattle.protocol.proofs.State.Sim.{Fit}
 use Rattle.protocol.proofs.State.ViewMoves.{vFailed, sim-failed}
 use Rattle.protocol.proofs.Answers.Tests.{in-state}
+use Rattle.protocol.proofs.Invariant.States.{saving-works}
 use Rattle.protocol.proofs.Invariant.Facts.{Big, Ghost}
 use Rattle.protocol.proofs.Invariant.Whole.{Core, Inv, workOf}
 use Rattle.protocol.proofs.Invariant.Past.{Past, Kept, no-cuts}
@@ -45,8 +47,9 @@ use Rattle.protocol.proofs.Moves.FailPlaces.{below-eight, failed-meets,
 -- the history says nothing of a fault, nor who works but for the coordinator
 pub past-big : (n : ℕ) (v w : View) (γ : Ghost) (b : Big) (h : History) → b .clean ≡ γ .big .clean → b .adopted ≡ γ .big .adopted
     → b .chief ≡ γ .big .chief → b .begun ≡ γ .big .begun → (b .alive ≡ true → γ .big .alive ≡ true)
-    → ((j : ℕ) → workOf w j ≡ true → workOf v j ≡ true) → Past n v γ h → Past n w (gBig γ b) h
-past-big n v w γ b h clean adopted chief begun alive fewer p = record {
+    → ((j : ℕ) → workOf w j ≡ true → workOf v j ≡ true)
+    → ((j : ℕ) → isIn (w .own j .state) Checkpointed ≡ true → isIn (v .own j .state) Checkpointed ≡ true) → Past n v γ h → Past n w (gBig γ b) h
+past-big n v w γ b h clean adopted chief begun alive fewer wait p = record {
   sent = p .sent;
   taken = p .taken;
   hurt = p .hurt ∙ ap not (sym clean);
@@ -61,6 +64,8 @@ past-big n v w γ b h clean adopted chief begun alive fewer p = record {
   below = λ e.
       let x = p .below (sym adopted ∙ e) in
       (x .0, x .1, x .2, x .3 ∙ sym chief, (λ j d k. x .4 j (λ q. d (q ∙ sym chief)) (fewer j k)), x .5, x .6);
+  begun = ⊎-elim (λ e. p .begun (inl (sym begun ∙ e))) (λ e. p .begun (inr (sym adopted ∙ e)));
+  waits = λ c s. p .waits c (wait c s);
 }
 
 -- a save that some know of is not passed over, nor one by another coordinator
@@ -99,9 +104,9 @@ module _ (n : ℕ) (v : View) (γ : Ghost) (h : History) (p : Past n v γ h) (a 
   -- the newest save is passed over: the rule gives the one before
   pub past-undone : γ .big .adopted ≡ false → a ≡ γ .big .chief → (j : ℕ) → j ≢ γ .big .chief → workOf v j ≡ true
       → ((c : ℕ) → γ .mind c .tab ≡ false → γ .mind c .prev ≡ γ .mind c .top) → ((c : ℕ) → γ .mind c .tab ≡ true → c < n)
-      → (w : View) (b : Big) → b .clean ≡ γ .big .clean → b .adopted ≡ true → b .alive ≡ false
+      → (w : View) → ((c : ℕ) → workOf w c ≡ true → γ .mind c .tab ≡ true) → (b : Big) → b .clean ≡ γ .big .clean → b .adopted ≡ true → b .alive ≡ false
       → Past n w (gBig (gUndo γ) b) (notePassed h a)
-  past-undone fresh chief j other works same within w b clean adopted dead =
+  past-undone fresh chief j other up same within w placed b clean adopted dead =
       let x = p .below fresh in
       let unknown : x .0 .known ≡ false = ap (λ (l : List Save). newest l (h .start) .known) (sym (x .2)) ∙ p .known ∙ fresh in
       rw (mine-goes a (h .saves) (x .1) (x .0) (x .2) (x .3 ∙ sym chief) unknown) (record {
@@ -110,13 +115,15 @@ module _ (n : ℕ) (v : View) (γ : Ghost) (h : History) (p : Past n v γ h) (a 
         hurt = p .hurt ∙ ap not (sym clean);
         cuts = λ e. absurd (never e dead);
         noCut = λ e. absurd (never e dead);
-        known = x .4 j other works ∙ sym adopted;
+        known = x .4 j other up ∙ sym adopted;
         tops = x .5;
         balanced = x .6;
         present = p .present;
         gone = λ c l e. p .gone c l e ∙ ap (λ (m : Image). just m) (sym (same c e));
         beyond = λ c l. ap booked (same c (is-false (γ .mind c .tab) (λ e. omega (arith, within c e)))) ∙ p .beyond c l;
         below = λ e. absurd (never adopted e);
+        begun = λ _. p .begun (inr fresh);
+        waits = λ c s e. absurd (never (placed c (ap works (in-state (w .own c .state) Checkpointed .0 s))) e);
       })
 
 -- ---- the check, with the failing cabinet left out
@@ -190,7 +197,8 @@ module _ (total : ℕ) (g : Group) (h : History) (γ : Ghost) (fit : Fit g) (i :
   -- what is left once the ghost after the fail is settled
   module _ (δ : Ghost) (core : Core (g .n) total (vFailed v a) δ) (faulted : δ .big .faulted ≡ true)
       (tabs : (c : ℕ) → δ .mind c .tab ≡ γ .mind c .tab) (links : (c d : ℕ) → δ .wire c d .lk ≡ γ .wire c d .lk)
-      (left : (w : View) (t : Bool) → ((j : ℕ) → workOf w j ≡ true → workOf v j ≡ true) → Past (g .n) w (gSaid δ t) h′) where
+      (left : (w : View) (t : Bool) → ((j : ℕ) → workOf w j ≡ true → workOf v j ≡ true)
+      → ((j : ℕ) → isIn (w .own j .state) Checkpointed ≡ true → isIn (v .own j .state) Checkpointed ≡ true) → Past (g .n) w (gSaid δ t) h′) where
     alarmed : Alarmed (g .n) total 8 a (vFailed v a) δ (view g′)
     alarmed =
         subst (λ (u : View). Alarmed (g .n) total 8 a u δ (view g′)) seen
@@ -204,30 +212,30 @@ module _ (total : ℕ) (g : Group) (h : History) (γ : Ghost) (fit : Fit g) (i :
     fewer-work : (j : ℕ) → workOf (view g′) j ≡ true → workOf v j ≡ true
     fewer-work j e = still-works v a j (sym (alarmed .worked j) ∙ e) .1
 
-    -- no cabinet has its cut in the step
-    no-cut : (c : ℕ) → isIn (stateOf g′ c) Checkpointing ≡ true → isIn (stateOf g c) Checkpointing ≡ true
-    no-cut c e = go (near (vFailed v a) a c) refl
+    -- no cabinet has its cut in the step, nor comes to wait
+    no-new : (s : State) → inSaving s ≡ true → (c : ℕ) → isIn (stateOf g′ c) s ≡ true → isIn (stateOf g c) s ≡ true
+    no-new s saves c e = go (near (vFailed v a) a c) refl
       where
-        state-is : stateOf g′ c ≡ Checkpointing
-        state-is = in-state (stateOf g′ c) Checkpointing .0 e
+        state-is : stateOf g′ c ≡ s
+        state-is = in-state (stateOf g′ c) s .0 e
 
-        go : (t : Bool) → near (vFailed v a) a c ≡ t → isIn (stateOf g c) Checkpointing ≡ true
+        go : (t : Bool) → near (vFailed v a) a c ≡ t → isIn (stateOf g c) s ≡ true
         go true f =
             let w = still-works v a c (and-true {s = workOf (vFailed v a) c} f .0) .1 in
             let l = below-eight (g .n) total a v γ i unfaulted up another nobody c w in
-            absurd (never (alarmed .told c l f .0) (ap inRecovery state-is))
+            absurd (never (alarmed .told c l f .0) (ap inRecovery state-is ∙ saving-works s saves .1))
         go false f =
             let o = alarmed .others c (inr f) .0 in
             elim (ℕ-discrete c a) [
-              | yes q ↦ absurd (never e (ap (λ (x : Own). isIn (x .state) Checkpointing) (o ∙ ap (λ (k : ℕ). vFailed v a .own k) q ∙ failed-own v a)))
-              | no d ↦ ap (λ (x : Own). isIn (x .state) Checkpointing) (sym (o ∙ other-own v a c d)) ∙ e
+              | yes q ↦ absurd (never saves (ap inSaving (sym state-is ∙ ap (λ (x : Own). x .state) (o ∙ ap (λ (k : ℕ). vFailed v a .own k) q ∙ failed-own v a))))
+              | no d ↦ ap (λ (x : Own). isIn (x .state) s) (sym (o ∙ other-own v a c d)) ∙ e
             ]
 
     settled : Kept total g γ g′ (noteCuts h′ g g′)
     settled = record {
       ghost = gSaid δ (alarmed .said);
       inv = alarmed-inv (g .n) total a v γ i unfaulted up another nobody δ (view g′) alarmed faulted tabs links;
-      past = rw (no-cuts h′ g g′ no-cut) (left (view g′) (alarmed .said) fewer-work);
+      past = rw (no-cuts h′ g g′ (no-new Checkpointing refl)) (left (view g′) (alarmed .said) fewer-work (no-new Checkpointed refl));
       stays = λ c e. absurd (never (aware-recovers (γ .big) (v .own c) e) (nobody c));
     }
 
@@ -236,7 +244,7 @@ module _ (total : ℕ) (g : Group) (h : History) (γ : Ghost) (fit : Fit g) (i :
     | yes q ↦ chief (γ .big .adopted) refl q
     | no d ↦ settled (gFaulted γ) (failed-other (g .n) total v (gFaulted γ) flipped nobody refl a (checks .0) reaches alive d)
         refl (λ c. refl) (λ c d. refl)
-        (λ w t f. rw (kept-other (g .n) v γ h past a d) (past-big (g .n) v w γ (gSaid (gFaulted γ) t .big) h refl refl refl refl (λ e. e) f past))
+        (λ w t f s. rw (kept-other (g .n) v γ h past a d) (past-big (g .n) v w γ (gSaid (gFaulted γ) t .big) h refl refl refl refl (λ e. e) f s past))
   ]
     where
       chief : (t : Bool) → γ .big .adopted ≡ t → a ≡ γ .big .chief → Kept total g γ g′ (noteCuts h′ g g′)
@@ -245,10 +253,10 @@ module _ (total : ℕ) (g : Group) (h : History) (γ : Ghost) (fit : Fit g) (i :
           (failed-chief (g .n) total v (gFaulted γ) flipped nobody refl a (checks .0) reaches alive q e
           (λ j d w. i .core .chain .company j d w (inl (unfaulted, e))))
           refl (λ c. refl) (λ c d. refl)
-          (λ w t f. rw (kept-known (g .n) v γ h past a e)
-          (past-big (g .n) v w γ (gSaid (gLost (gFaulted γ)) t .big) h refl refl refl refl (λ x. absurd (false≢true x)) f past))
+          (λ w t f s. rw (kept-known (g .n) v γ h past a e)
+          (past-big (g .n) v w γ (gSaid (gLost (gFaulted γ)) t .big) h refl refl refl refl (λ x. absurd (false≢true x)) f s past))
       chief false e q =
           settled (gUndo (gFaulted γ)) (failed-undone (g .n) total v (gFaulted γ) flipped nobody refl a (checks .0) reaches alive q e)
           refl (λ c. refl) (λ c d. refl)
-          (λ w t f. past-undone (g .n) v γ h past a e q (another .0) (λ x. another .1 (x ∙ sym q)) (another .2) (λ c k. i .core .nodes c .gone k .1 e)
-          (i .core .ground .within) w (gSaid (gUndo (gFaulted γ)) t .big) refl refl refl)
+          (λ w t f s. past-undone (g .n) v γ h past a e q (another .0) (λ x. another .1 (x ∙ sym q)) (another .2) (λ c k. i .core .nodes c .gone k .1 e)
+          (i .core .ground .within) w (λ c u. i .core .nodes c .placed (f c u)) (gSaid (gUndo (gFaulted γ)) t .big) refl refl refl)

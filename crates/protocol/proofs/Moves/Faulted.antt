@@ -11,7 +11,7 @@ use Rattle.line.specs.declared.Packet.{Packet}
 use Rattle.line.specs.declared.Packet.the-variants.{Fault}
 use Rattle.line.specs.Line.{oldest}
 use Rattle.cabinet.specs.declared.State.{State}
-use Rattle.cabinet.specs.declared.State.the-variants.{Normal, Checkpointing}
+use Rattle.cabinet.specs.declared.State.the-variants.{Normal}
 use Rattle.cabinet.specs.declared.Alarm.the-variants.{Fault as At}
 use Rattle.cabinet.specs.State.{isIn, works}
 use Rattle.group.specs.declared.Group.{Group}
@@ -19,7 +19,7 @@ use Rattle.group.specs.Group.{cabinet, stateOf, line}
 use Rattle.protocol.specs.Receive.{serving}
 use Rattle.protocol.specs.Moves.{enterError, hear}
 use Rattle.protocol.specs.History.{History, upd, noteCuts}
-use Rattle.protocol.proofs.State.Fun.{never, and-intro, upd-elim, upd-same, upd-other, kept, kept-at, upd-swap}
+use Rattle.protocol.proofs.State.Fun.{and-intro, upd-elim, upd-same, upd-other, kept, kept-at, upd-swap}
 use Rattle.protocol.proofs.State.Every.{ok-enterError}
 use Rattle.protocol.proofs.State.View.{View, Own, used, view, setLine}
 use Rattle.protocol.proofs.State.Shape.{Shaped, Lined, Pictured, shaped}
@@ -28,10 +28,10 @@ use Rattle.protocol.proofs.State.ViewMoves.{vHear, sim-hear, view-off}
 use Rattle.protocol.proofs.Invariant.States.{serving-calm, place-same}
 use Rattle.protocol.proofs.Invariant.Facts.{Ghost, aware, unaware}
 use Rattle.protocol.proofs.Invariant.Whole.{Core, Inv, Place-of, PlacesOf, MeetsOf, workOf, alarmOf, awareOf, tabOf, lkOf}
-use Rattle.protocol.proofs.Invariant.Past.{Past, Kept, no-cuts, past-view, aware-not-normal}
+use Rattle.protocol.proofs.Invariant.Past.{Past, Kept, aware-not-normal, past-turn}
 use Rattle.protocol.proofs.Invariant.Words.{un-of, un-works, un-not-aware, aware-faulted}
 use Rattle.protocol.proofs.Moves.FirstFault.{gError}
-use Rattle.protocol.proofs.Moves.ErrorSeen.{vError, oErred, sErred, erredLine, erred, error-seen, strike-used, sim-error, erred-recovers, erred-works, erred-not-normal, erred-not-cut}
+use Rattle.protocol.proofs.Moves.ErrorSeen.{vError, oErred, sErred, erredLine, erred, error-seen, strike-used, sim-error, erred-recovers, erred-works, erred-not-normal, erred-not-saving}
 use Rattle.protocol.proofs.Moves.Erring.{error-core, error-meets}
 use Rattle.protocol.proofs.Moves.Hearing.{vHeard, fault-aware, fault-place, hear-inv, off, left-of, off-fit, off-line}
 use Rattle.protocol.proofs.Moves.Recovering.{frozen-past}
@@ -156,16 +156,6 @@ module _ (total : ℕ) (g : Group) (h : History) (γ : Ghost) (w : Fit g) (i : I
   state-at : (c : ℕ) → view g′ .own c .state ≡ v2 .own c .state
   state-at c = ap (λ (x : View). x .own c .state) seen ∙ kept-at (λ (x : Own). x .state) (v2 .own) b _ refl c
 
-  uncut : (c : ℕ) → isIn (stateOf g′ c) Checkpointing ≡ true → isIn (stateOf g c) Checkpointing ≡ true
-  uncut c e =
-      upd-elim (λ (o : Own). isIn (o .state) Checkpointing ≡ true → isIn (stateOf g c) Checkpointing ≡ true) (view g .own) b o2 c
-      (λ x f. absurd (never f (erred-not-cut (cabinet g b .phase .version)))) (λ x f. f) (ap (λ (s : State). isIn s Checkpointing) (sym (state-at c)) ∙ e)
-
-  works-at : (c : ℕ) → workOf (view g′) c ≡ workOf (view g) c
-  works-at c =
-      ap works (state-at c)
-      ∙ kept-at (λ (x : Own). works (x .state)) (view g .own) b o2 (erred-works (cabinet g b .phase .version) ∙ sym (un-works (γ .big) (view g .own b) calm)) c
-
   stays-at : (c : ℕ) → aware (γ .big) (view g .own c) ≡ true → isIn (v2 .own c .state) Normal ≡ false
   stays-at c e =
       upd-elim (λ (o : Own). isIn (o .state) Normal ≡ false) (view g .own) b o2 c
@@ -179,6 +169,7 @@ module _ (total : ℕ) (g : Group) (h : History) (γ : Ghost) (w : Fit g) (i : I
   keeps-fault = record {
     ghost = δ′;
     inv = subst (λ (x : View). Inv (g .n) total x δ′) (sym seen) heard-inv;
-    past = rw (no-cuts h g g′ uncut) (past-view works-at (frozen-past (g .n) (view g) γ h _ past));
+    past = past-turn g g′ b o2 state-at (erred-works (cabinet g b .phase .version) ∙ sym (un-works (γ .big) (view g .own b) calm))
+        (erred-not-saving (cabinet g b .phase .version)) (frozen-past (g .n) (view g) γ h _ past);
     stays = λ c e. ap (λ (s : State). isIn s Normal) (state-at c) ∙ stays-at c e;
   }

@@ -30,8 +30,8 @@ use Rattle.protocol.proofs.State.ViewMoves.{oImage, oPhase, oPieces}
 use Rattle.protocol.proofs.Answers.Tests.{in-state}
 use Rattle.protocol.proofs.Invariant.States.{restoring-works, other-state}
 use Rattle.protocol.proofs.Invariant.Facts.{Big, Mind, Wire, Ghost, Pair, Node, Books, SameTo, aware, unaware, behind, closed}
-use Rattle.protocol.proofs.Invariant.Whole.{Inv, PairAt, workOf}
-use Rattle.protocol.proofs.Invariant.Past.{Past, Kept, Stays, no-cuts, past-view, aware-not-normal}
+use Rattle.protocol.proofs.Invariant.Whole.{Inv, PairAt}
+use Rattle.protocol.proofs.Invariant.Past.{Past, Kept, Stays, aware-not-normal, past-turn}
 use Rattle.protocol.proofs.Invariant.Words.{un-not-aware, aware-works, aware-not-un}
 use Rattle.protocol.proofs.Invariant.Frame.{same-ghost, minded, move-pairs, move-nodes, move-books, move-ground, move-places, move-meets, move-chain, move-sums, quiet-inv}
 use Rattle.protocol.proofs.Moves.Waking.{gAdopted, adopted-pair, adopted-node, adopted-books}
@@ -410,18 +410,10 @@ module _ (total : ℕ) (g : Group) (h : History) (γ : Ghost) (w : Fit g) (i : I
 
   -- no cabinet but this one changes its state, and it stays in the recovery
   module _ (o : Own) (restores : inRestoring (o .state) ≡ true) (seen : view g′ .own ≡ upd (v .own) a o) where
-    cuts-none : (e : History) → noteCuts e g g′ ≡ e
-    cuts-none e =
-        no-cuts e g g′
-        (λ c q. upd-elim (λ (y : Own). isIn (y .state) Checkpointing ≡ true → isIn (stateOf g c) Checkpointing ≡ true) (v .own) a o c
-        (λ d f. absurd (never f (restoring-works (o .state) restores .2))) (λ d f. f)
-        (ap (λ (y : ℕ → Own). isIn (y c .state) Checkpointing) (sym seen) ∙ q))
-
-    works-kept : (c : ℕ) → workOf (view g′) c ≡ workOf v c
-    works-kept c =
-        ap (λ (y : ℕ → Own). works (y c .state)) seen
-        ∙ upd-elim (λ (y : Own). works (y .state) ≡ workOf v c) (v .own) a o c
-        (λ d. restoring-works (o .state) restores .4 ∙ sym (ap (workOf v) d ∙ aware-works (γ .big) (v .own a) aw)) (λ d. refl)
+    past-kept : {δ : Ghost} {e : History} → Past (g .n) v δ e → Past (g .n) (view g′) δ (noteCuts e g g′)
+    past-kept =
+        past-turn g g′ a o (λ c. ap (λ (y : ℕ → Own). y c .state) seen)
+        (restoring-works (o .state) restores .4 ∙ sym (aware-works (γ .big) (v .own a) aw)) (restoring-works (o .state) restores .2)
 
     stays-so : Stays v γ (view g′)
     stays-so c e =
@@ -450,7 +442,7 @@ module _ (total : ℕ) (g : Group) (h : History) (γ : Ghost) (w : Fit g) (i : I
         inv = subst (λ (u : View). Inv (g .n) total u γ) (sym seen)
             (pieced-inv (g .n) total v γ i a aw state (k + 1) x (omega (arith, ltb-true k 3 e)) more);
         past = subst (λ (t : Bool). Past (g .n) (view g′) γ (noteCuts (noteKnown t h) g g′)) (sym none)
-            (rw (cuts-none o still own h) (past-view (works-kept o still own) past));
+            (past-kept o still own past);
         stays = stays-so o still own;
       }
 
@@ -468,7 +460,7 @@ module _ (total : ℕ) (g : Group) (h : History) (γ : Ghost) (w : Fit g) (i : I
         inv = subst (λ (u : View). Inv (g .n) total u (gAdopted γ)) (sym seen)
             (lasted-inv (g .n) total v (gAdopted γ) (adopted-inv (g .n) total v γ faulted i) a aw state refl x whole);
         past = subst (λ (t : Bool). Past (g .n) (view g′) (gAdopted γ) (noteCuts (noteKnown t h) g g′)) (sym (goes-is o refl own))
-            (rw (cuts-none o refl own (noteKnown true h)) (past-adopted (g .n) v (view g′) γ h past));
+            (past-kept o refl own (past-adopted (g .n) v γ h past));
         stays = stays-so o refl own;
       }
 

@@ -13,7 +13,7 @@ use Rattle.line.specs.declared.Packet.the-variants.{Recover, Fault}
 use Rattle.line.specs.Packet.{isEmpty}
 use Rattle.line.specs.Line.{oldest, rest}
 use Rattle.cabinet.specs.declared.State.{State}
-use Rattle.cabinet.specs.declared.State.the-variants.{Normal, Checkpointing}
+use Rattle.cabinet.specs.declared.State.the-variants.{Normal}
 use Rattle.cabinet.specs.declared.Version.{Version}
 use Rattle.cabinet.specs.declared.Alarm.the-variants.{Fault as At}
 use Rattle.cabinet.specs.State.{isIn, works, inRecovery, isFor}
@@ -32,7 +32,7 @@ use Rattle.protocol.proofs.Answers.Tests.{fault-for}
 use Rattle.protocol.proofs.Invariant.States.{place-same}
 use Rattle.protocol.proofs.Invariant.Facts.{Big, Mind, Wire, Ghost, Pair, Alarms, aware, unaware, isFault, isInvalid, count, amountsIn}
 use Rattle.protocol.proofs.Invariant.Whole.{Inv}
-use Rattle.protocol.proofs.Invariant.Past.{Past, Kept, no-cuts, past-view, aware-not-normal}
+use Rattle.protocol.proofs.Invariant.Past.{Past, Kept, aware-not-normal, past-still}
 use Rattle.protocol.proofs.Invariant.Words.{un-not-aware, un-or-aware, aware-faulted, live-line}
 use Rattle.protocol.proofs.Invariant.Frame.{same-ghost, minded, move-pairs, move-nodes, move-books, quiet-inv}
 
@@ -244,6 +244,6 @@ module _ (total : ℕ) (g : Group) (h : History) (γ : Ghost) (w : Fit g) (i : I
     ghost = γ;
     inv = subst (λ (x : View). Inv (g .n) total x γ) (sym seen)
         (hear-inv (g .n) total (view g) γ i a b other q k is-line heard-aware (fault-for (cabinet g b .phase .alarm) q .0 for-it));
-    past = rw (no-cuts h g g′ (λ c e. ap (λ (s : State). isIn s Checkpointing) (sym (state-kept c)) ∙ e)) (past-view (λ c. ap works (state-kept c)) past);
+    past = past-still g g′ state-kept past;
     stays = λ c e. ap (λ (s : State). isIn s Normal) (state-kept c) ∙ aware-not-normal (γ .big) (view g .own c) e;
   }

@@ -38,13 +38,13 @@ use Rattle.protocol.proofs.State.ViewMoves.{sim-off, view-off}
 use Rattle.protocol.proofs.Invariant.States.{serving-calm}
 use Rattle.protocol.proofs.Invariant.Facts.{Ghost, aware, unaware, count, isInvalid}
 use Rattle.protocol.proofs.Invariant.Whole.{Core, Inv, GroundOf, Place-of, faulty, workOf, tabOf, lkOf}
-use Rattle.protocol.proofs.Invariant.Past.{Past, Kept, no-cuts, past-view, aware-not-normal}
+use Rattle.protocol.proofs.Invariant.Past.{Past, Kept, aware-not-normal, past-turn}
 use Rattle.protocol.proofs.Invariant.Words.{un-of, un-not-aware}
 use Rattle.protocol.proofs.Invariant.Reaching.{Reach, reach-group, length-rows, view-sound}
 use Rattle.protocol.proofs.Moves.Dropping.{drop-inv}
 use Rattle.protocol.proofs.Moves.Comparing.{unequal-hurt}
 use Rattle.protocol.proofs.Moves.FirstFault.{gFaulted, gError}
-use Rattle.protocol.proofs.Moves.ErrorSeen.{vError, erred, erredLine, sErred, error-seen, error-knows, error-side, error-line, error-works, error-not-writing, error-here, error-not-normal, strike-used, sim-error}
+use Rattle.protocol.proofs.Moves.ErrorSeen.{vError, erred, erredLine, sErred, error-seen, error-knows, error-side, error-line, error-works, erred-not-saving, error-here, error-not-normal, strike-used, sim-error, oErred, erred-works}
 use Rattle.protocol.proofs.Moves.Erring.{error-meets, error-past, error-places-at, enter-core}
 
 -- ---- a link's place
@@ -295,9 +295,10 @@ module _ (total : ℕ) (g : Group) (h : History) (γ : Ghost) (w : Fit g) (i : I
     keeps-link-fault = record {
       ghost = gError (gFaulted γ) (view g .own b);
       inv = subst (λ (x : View). Inv (g .n) total x (gError (gFaulted γ) (view g .own b))) (sym seen) inv-after;
-      past = rw (no-cuts h g g′ (λ c e. error-not-writing (view g) b (linkPlace a b) c (ap (λ (u : View). isIn (u .own c .state) Checkpointing) (sym seen) ∙ e)))
-          (subst (λ (x : View). Past (g .n) x (gError (gFaulted γ) (view g .own b)) h) (sym seen)
-          (past-view (λ c. refl) (error-past (g .n) (view g) γ h b (linkPlace a b) (calm .0) past)));
+      past = past-turn g g′ b (oErred (view g .own b) (linkPlace a b))
+          (λ c. ap (λ (u : View). u .own c .state) seen ∙ ap (λ (u : View). u .own c .state) (error-seen (view g) b (linkPlace a b)))
+          (erred-works (cabinet g b .phase .version) ∙ sym (calm .0)) (erred-not-saving (cabinet g b .phase .version))
+          (error-past (g .n) (view g) γ h (view g .own b) past);
       stays = λ c e. ap (λ (u : View). isIn (u .own c .state) Normal) seen
           ∙ error-not-normal (view g) b (linkPlace a b) c (aware-not-normal (γ .big) (view g .own c) e);
     }

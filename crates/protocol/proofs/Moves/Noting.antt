@@ -8,9 +8,9 @@ use lib.Dec.{leb}
 use borrow.Author.Tests.{leb-true}
 use native.Mathlib.Omega.{arith}
 use Rattle.line.specs.declared.Packet.{Packet}
-use Rattle.cabinet.specs.declared.State.the-variants.{Normal, Checkpointing, Recovering, Recovered}
+use Rattle.cabinet.specs.declared.State.the-variants.{Normal, Recovering, Recovered}
 use Rattle.cabinet.specs.declared.Image.{Image}
-use Rattle.cabinet.specs.State.{isIn, works}
+use Rattle.cabinet.specs.State.{isIn}
 use Rattle.cabinet.specs.declared.State.{State}
 use Rattle.cabinet.specs.Cabinet.{booked, withOctet, withImage}
 use Rattle.group.specs.declared.Group.{Group}
@@ -25,7 +25,7 @@ use Rattle.protocol.proofs.State.ViewMoves.{oImage}
 use Rattle.protocol.proofs.Answers.Tests.{in-state}
 use Rattle.protocol.proofs.Invariant.Facts.{Big, Mind, Wire, Ghost, Pair, Node, Books, SameTo, aware, unaware}
 use Rattle.protocol.proofs.Invariant.Whole.{Inv, PairAt, BooksAt}
-use Rattle.protocol.proofs.Invariant.Past.{Past, Kept, no-cuts, past-view, aware-not-normal}
+use Rattle.protocol.proofs.Invariant.Past.{Past, Kept, aware-not-normal, past-still}
 use Rattle.protocol.proofs.Invariant.Words.{un-of}
 use Rattle.protocol.proofs.Invariant.Frame.{same-ghost, moved, minded, move-pairs, move-nodes, move-books, quiet-inv}
 
@@ -124,6 +124,6 @@ module _ (total : ℕ) (g : Group) (h : History) (γ : Ghost) (w : Fit g) (i : I
     inv = subst (λ (x : View). Inv (g .n) total x γ) (sym seen)
         (subst (λ (δ : Ghost). Inv (g .n) total (noted (view g) a (withOctet (cabinet g a .image) p q)) δ) (same-ghost γ a)
         (noted-inv (g .n) total (view g) γ a (withOctet (cabinet g a .image) p q) i calm normal (unbooked (cabinet g a .image) p q beyond)));
-    past = rw (no-cuts h g g′ (λ c e. ap (λ (s : State). isIn s Checkpointing) (sym (state-kept c)) ∙ e)) (past-view (λ c. ap works (state-kept c)) past);
+    past = past-still g g′ state-kept past;
     stays = λ c e. ap (λ (s : State). isIn s Normal) (state-kept c) ∙ aware-not-normal (γ .big) (view g .own c) e;
   }

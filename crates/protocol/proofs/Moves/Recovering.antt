@@ -11,7 +11,7 @@ use Rattle.line.specs.declared.Packet.{Packet}
 use Rattle.line.specs.declared.Packet.the-variants.{Recover}
 use Rattle.line.specs.Line.{oldest}
 use Rattle.cabinet.specs.declared.State.{State}
-use Rattle.cabinet.specs.declared.State.the-variants.{Normal, Checkpointing, Error, Recovering}
+use Rattle.cabinet.specs.declared.State.the-variants.{Normal, Error, Recovering}
 use Rattle.cabinet.specs.declared.Version.{Version}
 use Rattle.cabinet.specs.declared.Version.the-variants.{Known}
 use Rattle.cabinet.specs.State.{isIn, works, isUnknown}
@@ -19,14 +19,14 @@ use Rattle.group.specs.declared.Group.{Group}
 use Rattle.group.specs.Group.{cabinet, stateOf, line}
 use Rattle.protocol.specs.History.{History, upd, noteCuts}
 use Rattle.protocol.specs.Moves.{recoverWith}
-use Rattle.protocol.proofs.State.Fun.{never, is-true, and-intro, upd-elim, kept-at}
+use Rattle.protocol.proofs.State.Fun.{never, is-true, and-intro, upd-elim}
 use Rattle.protocol.proofs.State.View.{View, Own, view, setLine}
 use Rattle.protocol.proofs.State.Sim.{Fit}
 use Rattle.protocol.proofs.State.ViewMoves.{oPhase, view-off}
 use Rattle.protocol.proofs.Answers.Tests.{in-state}
 use Rattle.protocol.proofs.Invariant.Facts.{Ghost, Alarms, aware, isFault, resumeFirst}
 use Rattle.protocol.proofs.Invariant.Whole.{Core, Inv, PlacesOf}
-use Rattle.protocol.proofs.Invariant.Past.{Past, Kept, no-cuts, past-view, aware-not-normal}
+use Rattle.protocol.proofs.Invariant.Past.{Past, Kept, aware-not-normal, past-still, past-turn}
 use Rattle.protocol.proofs.Invariant.Logs.{alarm-first}
 use Rattle.protocol.proofs.Invariant.Words.{aware-works}
 use Rattle.protocol.proofs.Invariant.Frame.{same-ghost, move-places, move-meets}
@@ -66,7 +66,7 @@ module _ (total : ℕ) (g : Group) (h : History) (γ : Ghost) (w : Fit g) (i : I
   keeps-recover-dropped = record {
     ghost = γ;
     inv = subst (λ (y : View). Inv (g .n) total y γ) (sym (view-off g w a b la lb)) off-inv;
-    past = rw (no-cuts h g g1 (λ c e. ap (λ (s : State). isIn s Checkpointing) (sym (state-kept c)) ∙ e)) (past-view (λ c. ap works (state-kept c)) past);
+    past = past-still g g1 state-kept past;
     stays = λ c e. ap (λ (s : State). isIn s Normal) (state-kept c) ∙ aware-not-normal (γ .big) (view g .own c) e;
   }
 
@@ -109,14 +109,6 @@ module _ (total : ℕ) (g : Group) (h : History) (γ δ : Ghost) (g′ : Group) 
       ap (λ (y : View). y .own d .state) seen
       ∙ ap (λ (f : ℕ → Own). upd f c (oPhase (f c) Recovering (Known x) (f c .alarm)) d .state) same
 
-  works-at : (d : ℕ) → works (goes d .state) ≡ works (view g .own d .state)
-  works-at d = kept-at (λ (o : Own). works (o .state)) (view g .own) c _ (sym up) d
-
-  uncut : (d : ℕ) → isIn (stateOf g′ d) Checkpointing ≡ true → isIn (stateOf g d) Checkpointing ≡ true
-  uncut d e =
-      upd-elim (λ (o : Own). isIn (o .state) Checkpointing ≡ true → isIn (stateOf g d) Checkpointing ≡ true) (view g .own) c _ d
-      (λ q f. absurd (false≢true f)) (λ n f. f) (ap (λ (s : State). isIn s Checkpointing) (sym (state-at d)) ∙ e)
-
   stays-at : (d : ℕ) → aware (γ .big) (view g .own d) ≡ true → isIn (goes d .state) Normal ≡ false
   stays-at d e =
       upd-elim (λ (o : Own). isIn (o .state) Normal ≡ false) (view g .own) c _ d (λ q. refl) (λ n. aware-not-normal (γ .big) (view g .own d) e)
@@ -125,7 +117,7 @@ module _ (total : ℕ) (g : Group) (h : History) (γ δ : Ghost) (g′ : Group) 
   keeps-going past inv = record {
     ghost = δ;
     inv = subst (λ (y : View). Inv (g .n) total y δ) (sym seen) inv;
-    past = rw (no-cuts h g g′ uncut) (past-view (λ d. ap works (state-at d) ∙ works-at d) past);
+    past = past-turn g g′ c _ state-at (sym up) refl past;
     stays = λ d e. ap (λ (s : State). isIn s Normal) (state-at d) ∙ stays-at d e;
   }
 

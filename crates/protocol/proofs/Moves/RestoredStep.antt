@@ -10,7 +10,7 @@ use native.Mathlib.Decide.{ℕ-discrete, decLt}
 use Rattle.marks.specs.Marks.{Marks, marked, covers}
 use Rattle.marks.specs.MarksLaws.{covers-has, lowest-le-marked}
 use Rattle.cabinet.specs.declared.State.{State}
-use Rattle.cabinet.specs.declared.State.the-variants.{Normal, Checkpointing, Error, Recovering, Recovered}
+use Rattle.cabinet.specs.declared.State.the-variants.{Normal, Checkpointing, Error, Recovering, Recovered, Checkpointed}
 use Rattle.cabinet.specs.declared.Version.{Version}
 use Rattle.cabinet.specs.declared.Version.the-variants.{Known}
 use Rattle.cabinet.specs.declared.Image.{Image}
@@ -22,7 +22,7 @@ use Rattle.protocol.specs.Moves.{endRecovery}
 use Rattle.protocol.specs.Kinds.{mayReport, restoredRefusal, reportRestored, endIfAll}
 use Rattle.protocol.specs.History.{Cut, History, latest, imageIn, lostNow, noteEnd, noteCuts, ends, goes}
 use Rattle.protocol.specs.Restored.{Restored, counted, countedTo, amperes}
-use Rattle.protocol.proofs.State.Fun.{never, is-false, and-true, and-intro, cond-elim, upd-elim, upd-same, upd-other, sum, kept-at, sum-tail}
+use Rattle.protocol.proofs.State.Fun.{never, is-false, and-true, and-intro, cond-elim, upd-elim, upd-same, upd-other, sum, kept-at}
 use Rattle.protocol.proofs.State.Every.{passed, with-cabinet}
 use Rattle.protocol.proofs.State.View.{View, Own, Side, view, used}
 use Rattle.protocol.proofs.State.Shape.{Shaped, Lined, Pictured, shaped}
@@ -33,7 +33,7 @@ use Rattle.protocol.proofs.Answers.Tests.{in-state}
 use Rattle.protocol.proofs.Invariant.States.{restoring-one, restoring-works, known-is-known}
 use Rattle.protocol.proofs.Invariant.Facts.{Mind, Ghost, unaware}
 use Rattle.protocol.proofs.Invariant.Whole.{Inv, workOf, awareOf}
-use Rattle.protocol.proofs.Invariant.Past.{Past, HeldIn, Kept, Next, kept-next, no-cuts, aware-not-normal, past-view}
+use Rattle.protocol.proofs.Invariant.Past.{Past, HeldIn, Kept, Next, kept-next, no-cuts, aware-not-normal, past-same, cut-held, tops-add}
 use Rattle.protocol.proofs.Invariant.Words.{un-not-aware, un-or-aware, aware-works, aware-faulted, chief-of, room-aware}
 use Rattle.protocol.proofs.Invariant.Marking.{past-mind}
 use Rattle.protocol.proofs.Moves.Rousing.{oResumed, roused, seen-roused}
@@ -109,7 +109,7 @@ module _ (total : ℕ) (g : Group) (h : History) (γ : Ghost) (w : Fit g) (i : I
   state1 c = ap (λ (x : View). x .own c .state) seen1 ∙ kept-at (λ (x : Own). x .state) (view g .own) k (view g .own k) refl c
 
   past1 : Past (g .n) (view g1) γ1 h
-  past1 = past-view (λ c. ap works (state1 c)) (past-mind (g .n) (view g) γ h past a (mReady (γ .mind a)) refl refl refl refl refl)
+  past1 = past-same state1 (past-mind (g .n) (view g) γ h past a (mReady (γ .mind a)) refl refl refl refl refl refl)
 
   cab1 : (c j : ℕ) → view g1 .side c j .cab ≡ view g .side c j .cab
   cab1 c j =
@@ -235,6 +235,20 @@ module _ (total : ℕ) (g : Group) (h : History) (γ : Ghost) (w : Fit g) (i : I
         ap (lostNow h g2 c) (past1 .present c (inv1 .core .nodes c .placed v))
         ∙ ap (λ (t : Bool). cond t none (imageIn (latest h .cut c))) (work2 c ∙ v)
 
+    aware-at : (c : ℕ) → workOf (view g1) c ≡ true → awareOf (view g1) γ1 c ≡ true
+    aware-at = all-aware (g .n) total (view g1) γ1 inv1 k aware1 all-reported
+
+    recovered-at : (c : ℕ) → workOf (view g1) c ≡ true → view g1 .own c .state ≡ Recovered
+    recovered-at = all-recovered (g .n) total (view g1) γ1 inv1 k aware1 all-reported
+
+    kept2 : {A : Type 0} (f : Own → A) → f (oResumed (view g1 .own k) x) ≡ f (view g1 .own k) → (c : ℕ) → f (view g2 .own c) ≡ f (view g1 .own c)
+    kept2 f r c = ap (λ (y : View). f (y .own c)) seen2 ∙ kept-at f (view g1 .own) k (oResumed (view g1 .own k) x) r c
+
+    none-waits : (c : ℕ) → isIn (stateOf g2 c) Checkpointed ≡ true → ⊥
+    none-waits c s =
+        let e = sym (kept2 (λ (o : Own). isIn (o .state) Checkpointed) (rw recovered-k) c) ∙ s in
+        never e (ap (λ (y : State). isIn y Checkpointed) (recovered-at c (ap works (in-state (view g1 .own c .state) Checkpointed .0 e))))
+
     past2 : Past (g .n) (view g2) γ2 h2
     past2 = record {
       sent = λ c d. refl;
@@ -249,18 +263,11 @@ module _ (total : ℕ) (g : Group) (h : History) (γ : Ghost) (w : Fit g) (i : I
       gone = λ c l t. lost-now c (γ1 .mind c .top) (past1 .tops c l) (work2 c ∙ t);
       beyond = past1 .beyond;
       below = λ f. absurd (true≢false f);
+      begun = ⊎-elim (λ f. absurd (false≢true f)) (λ f. absurd (true≢false f));
+      waits = λ c s _. absurd (none-waits c s);
     }
 
     -- ---- demand 3 at the recovery's end
-
-    aware-at : (c : ℕ) → workOf (view g1) c ≡ true → awareOf (view g1) γ1 c ≡ true
-    aware-at = all-aware (g .n) total (view g1) γ1 inv1 k aware1 all-reported
-
-    recovered-at : (c : ℕ) → workOf (view g1) c ≡ true → view g1 .own c .state ≡ Recovered
-    recovered-at = all-recovered (g .n) total (view g1) γ1 inv1 k aware1 all-reported
-
-    kept2 : {A : Type 0} (f : Own → A) → f (oResumed (view g1 .own k) x) ≡ f (view g1 .own k) → (c : ℕ) → f (view g2 .own c) ≡ f (view g1 .own c)
-    kept2 f r c = ap (λ (y : View). f (y .own c)) seen2 ∙ kept-at f (view g1 .own) k (oResumed (view g1 .own k) x) r c
 
     one-version : (c : ℕ) → workOf (view g1) c ≡ true → cabinet g2 c .phase .version ≡ Known (γ .big .topv)
     one-version c v =
@@ -270,19 +277,12 @@ module _ (total : ℕ) (g : Group) (h : History) (γ : Ghost) (w : Fit g) (i : I
     image-top : (c : ℕ) → workOf (view g1) c ≡ true → cabinet g2 c .image ≡ γ1 .mind c .top
     image-top c v = kept2 (λ (o : Own). o .image) refl c ∙ inv1 .core .nodes c .restored (aware-at c v) (recovered-at c v) .0
 
-    cut-of : (c : ℕ) → c < g .n → workOf (view g1) c ≡ true → (y : Cut) × (latest h .cut c ≡ some y) × (y .image ≡ γ1 .mind c .top)
-    cut-of c l v =
-        ⊎-elim (λ f. absurd (some-none (sym f ∙ past1 .present c (inv1 .core .nodes c .placed v)))) (λ f. f .1) (past1 .tops c l)
-      where
-        some-none : {m : Image} → some m ≡ none → ⊥
-        some-none f = let z : _≡_ {A = ℕ} 0 1 = cc in omega arith
-
     counts : (c : ℕ) → c < g .n → amperes (counted h2 g2 c) ≡ booked (γ1 .mind c .top)
     counts c l = go (workOf (view g1) c) refl
       where
         go : (t : Bool) → workOf (view g1) c ≡ t → amperes (counted h2 g2 c) ≡ booked (γ1 .mind c .top)
         go true v =
-            let y = cut-of c l v in
+            let y = cut-held inv1 past1 c v in
             ap (λ (t : Bool). amperes (cond t (imageIn (latest h .cut c)) (h2 .lost c))) (work2 c ∙ v)
             ∙ ap (λ (o : Option Cut). amperes (imageIn o)) (y .1) ∙ ap booked (y .2)
         go false v =
@@ -300,12 +300,11 @@ module _ (total : ℕ) (g : Group) (h : History) (γ : Ghost) (w : Fit g) (i : I
       known = λ c l v. one-version c (sym (work2 c) ∙ v);
       held = λ c l v.
           let u = sym (work2 c) ∙ v in
-          let y = cut-of c l u in
+          let y = cut-held inv1 past1 c u in
           (y .0, y .1, image-top c u ∙ sym (y .2));
       balanced = past1 .balanced;
       lost = λ c l v. (γ1 .mind c .top, lost-now c (γ1 .mind c .top) (past1 .tops c l) v);
-      adds = counted-sum (g .n) (omega arith)
-          ∙ sym (sum-tail (λ c. booked (γ1 .mind c .top)) (g .n) 8 (inv1 .core .ground .most) (past1 .beyond)) ∙ inv1 .core .sums .tops;
+      adds = counted-sum (g .n) (omega arith) ∙ tops-add inv1 past1;
     }
 
     pub ended-next : Next total g γ g2 (noteCuts (noteEnd (ends g g2 a) h g2) g g2)

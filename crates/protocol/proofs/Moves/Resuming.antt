@@ -32,12 +32,12 @@ use Rattle.protocol.proofs.State.ViewMoves.{Room, vPut, vBroadcast, vRe
 use Rattle.protocol.proofs.Answers.Tests.{in-state}
 use Rattle.protocol.proofs.Invariant.Facts.{Ghost, aware, unaware, linked, behind, isFault}
 use Rattle.protocol.proofs.Invariant.Whole.{Inv}
-use Rattle.protocol.proofs.Invariant.Past.{Past, Kept, past-view}
+use Rattle.protocol.proofs.Invariant.Past.{Past, Kept, past-turn}
 use Rattle.protocol.proofs.Invariant.Logs.{resumedBy}
 use Rattle.protocol.proofs.Invariant.Words.{un-or-aware, un-not-aware, chief-of, room-calm, used-linked}
 use Rattle.protocol.proofs.Moves.Dropping.{keeps-drop}
 use Rattle.protocol.proofs.Moves.Waking.{adopted-same, woken, gAdopted, woken-swap, woken-off, sender-calm, resume-other}
-use Rattle.protocol.proofs.Moves.Adopting.{went-cuts, went-works, went-stays}
+use Rattle.protocol.proofs.Moves.Adopting.{went-stays}
 
 -- ---- the move in the view
 
@@ -154,8 +154,7 @@ module _ (total : ℕ) (g : Group) (h : History) (γ : Ghost) (w : Fit g) (i : I
       inv = subst (λ (u : View). Inv (g .n) total u γ) (sym seen)
           (subst (λ (δ : Ghost). Inv (g .n) total (setLine (woken v b (Known (γ .big .topv)) r) a b k) δ) same-ghost
           (woken-off (g .n) total v γ i a b k is-first waiting fresh not-chief r (λ d e. e) (λ d j e. used-linked (i .core .pairs b d) calm j)));
-      past = rw (went-cuts g g′ γ b _ refl (ap (λ (u : View). u .own) seen) calm h)
-          (past-view (went-works g g′ γ b _ refl (ap (λ (u : View). u .own) seen) calm) past);
+      past = past-turn g g′ b _ (λ c. ap (λ (u : View). u .own c .state) seen) (sym working) refl past;
       stays = went-stays g g′ γ b _ refl (ap (λ (u : View). u .own) seen) calm;
     }
 

@@ -28,9 +28,9 @@ use Rattle.protocol.proofs.State.Shape.{Shaped, Lined, Pictured, shaped
 use Rattle.protocol.proofs.State.Sim.{Fit}
 use Rattle.protocol.proofs.State.ViewMoves.{Room, vBroadcast, vResumed, sim-resume}
 use Rattle.protocol.proofs.Invariant.States.{known-is-known, saving-works}
-use Rattle.protocol.proofs.Invariant.Facts.{Ghost, aware, unaware, linked}
+use Rattle.protocol.proofs.Invariant.Facts.{Ghost, aware, unaware, linked, Mind}
 use Rattle.protocol.proofs.Invariant.Whole.{Inv, NodeAt, workOf}
-use Rattle.protocol.proofs.Invariant.Past.{Past, HeldIn, Kept, no-cuts, past-view, aware-not-normal}
+use Rattle.protocol.proofs.Invariant.Past.{Past, HeldIn, Kept, no-cuts, past-same, aware-not-normal}
 use Rattle.protocol.proofs.Invariant.Words.{un-of, un-works, un-not-aware, chief-of, room-calm}
 use Rattle.protocol.proofs.Invariant.Marking.{past-mind}
 use Rattle.protocol.proofs.Moves.Reporting.{gTold, mTold, vReported, report-inv, sim-report}
@@ -117,6 +117,8 @@ module _ (n total : ℕ) (v : View) (γ : Ghost) (h : History) (i : Inv n total 
     gone = λ c l e. p .gone c l e ∙ ap some (sym (top-out c e));
     beyond = λ c l. ap booked (top-out c (is-false (γ .mind c .tab) (λ e. omega (arith, i .core .ground .within c e)))) ∙ p .beyond c l;
     below = λ e. (record { by = k; cut = h .cuts; known = false }, h .saves, refl, refl, known-below, p .tops, p .balanced);
+    begun = λ _. p .begun (inl begun);
+    waits = λ c s j. (refl, (_, h .saves, refl));
   }
 
 -- ---- the step
@@ -179,7 +181,7 @@ module _ (total : ℕ) (g : Group) (h : History) (γ : Ghost) (w : Fit g) (i : I
       ∙ kept-at (λ (x : Own). x .state) (v .own) home (v .own home) refl c
 
   past1 : Past (g .n) (view g1) γ1 h
-  past1 = past-view (λ c. ap works (state1 c)) (past-mind (g .n) v γ h past a (mTold (γ .mind a)) refl refl refl refl refl)
+  past1 = past-same state1 (past-mind (g .n) v γ h past a (mTold (γ .mind a)) refl refl refl refl refl refl)
 
   keeps-report : Kept total g γ g1 (noteCuts h g g1)
   keeps-report = record {
@@ -269,6 +271,25 @@ module _ (total : ℕ) (g : Group) (h : History) (γ : Ghost) (w : Fit g) (i : I
       go : (t : Bool) → covers (cabinet g1 K .noted .saved) (cabinet g1 K .table .cabinets) ≡ t → Owed K (cond t (commit g1 K) g1)
       go true e = subst (λ (t : Bool). Kept total g γ (commit g1 K) (noteCuts (noteCommit t h K) g (commit g1 K))) (sym (goes-normal e)) (keeps-commit e)
       go false e = subst (λ (t : Bool). Kept total g γ g1 (noteCuts (noteCommit t h K) g g1)) (sym not-normal) keeps-report
+
+  -- a save is committed once all have written it
+  abbrev Wrote : ℕ → Type 0
+  Wrote k = commits g (After k) k ≡ true → (c : ℕ) → γ .mind c .tab ≡ true → γ .mind c .wrote ≡ true
+
+  wrote-chief : Wrote K
+  unfolding commitIfAll
+  wrote-chief = go (covers (cabinet g1 K .noted .saved) (cabinet g1 K .table .cabinets)) refl
+    where
+      same : {A : Type 0} (f : Mind → A) → f (mTold (γ .mind a)) ≡ f (γ .mind a) → (c : ℕ) → f (γ1 .mind c) ≡ f (γ .mind c)
+      same f e = kept-at f (γ .mind) a (mTold (γ .mind a)) e
+
+      go : (t : Bool) → covers (cabinet g1 K .noted .saved) (cabinet g1 K .table .cabinets) ≡ t → commits g (cond t (commit g1 K) g1) K ≡ true
+          → (c : ℕ) → γ .mind c .tab ≡ true → γ .mind c .wrote ≡ true
+      go true e f c t = sym (same (λ m. m .wrote) refl c) ∙ all e c (same (λ m. m .tab) refl c ∙ t) .0
+      go false e f c t = absurd (never f not-normal)
+
+  pub all-wrote : Wrote (coordinator (cabinet g home))
+  all-wrote = subst Wrote (sym is-chief) wrote-chief
 
   pub keeps-saved : Owed (coordinator (cabinet g home)) (After (coordinator (cabinet g home)))
   keeps-saved = subst (λ (k : ℕ). Owed k (After k)) (sym is-chief) keeps-chief

@@ -18,7 +18,7 @@ use Rattle.line.specs.declared.Packet.the-variants.{Normal as NormalPacket}
 use Rattle.line.specs.Packet.{stepCheck}
 use Rattle.line.specs.Line.{normals}
 use Rattle.cabinet.specs.declared.State.{State}
-use Rattle.cabinet.specs.declared.State.the-variants.{Normal, Checkpointing}
+use Rattle.cabinet.specs.declared.State.the-variants.{Normal, Checkpointing, Checkpointed}
 use Rattle.cabinet.specs.declared.Image.{Image}
 use Rattle.cabinet.specs.State.{isIn, works}
 use Rattle.cabinet.specs.Cabinet.{inUse, booked, withBooked}
@@ -363,6 +363,8 @@ module _ (total : ℕ) (g : Group) (h : History) (γ : Ghost) (w : Fit g) (i : I
     gone = past .gone;
     beyond = past .beyond;
     below = λ e. let y = past .below e in (y .0, y .1, y .2, y .3, (λ j d k. y .4 j d (sym (ap works (state-kept j)) ∙ k)), y .5, y .6);
+    begun = past .begun;
+    waits = λ c s. past .waits c (ap (λ (x : State). isIn x Checkpointed) (sym (state-kept c)) ∙ s);
   }
 
   pub keeps-send : Kept total g γ g′ (noteCuts h′ g g′)

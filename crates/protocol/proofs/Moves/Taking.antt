@@ -414,6 +414,8 @@ module _ (total : ℕ) (g : Group) (γ : Ghost) (i : Inv (g .n) total (view g) �
       gone = past .gone;
       beyond = past .beyond;
       below = λ e. let y = past .below e in (y .0, y .1, y .2, y .3, (λ j d k. y .4 j d (sym (ap works (state-kept j)) ∙ k)), y .5, y .6);
+      begun = past .begun;
+      waits = λ c s. past .waits c (ap (λ (x : State). isIn x Checkpointed) (sym (state-kept c)) ∙ s);
     }
 
     -- the packet comes off the line, and its receiver adds the amount

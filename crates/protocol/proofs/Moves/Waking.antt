@@ -4,10 +4,12 @@ use Prim.Native.Nat.{ℕ}
 use mathlib.Core.Path.{_≡_, refl, sym, ap, _∙_, subst}
 use mathlib.Core.Logic.{_≢_, _⊎_, inl, ⊎-elim}
 use mathlib.Core.Bool.{Bool, true, false, not, false≢true, true≢false}
-use mathlib.Core.List.{List, _∷_, nil≢cons}
+use mathlib.Core.List.{List, [], _∷_, nil≢cons}
+use lib.ListN.{getD}
 use native.Mathlib.Omega.{arith}
 use Rattle.line.specs.declared.Packet.{Packet}
-use Rattle.line.specs.declared.Packet.the-variants.{Resume}
+use Rattle.line.specs.declared.Packet.the-variants.{Empty, Resume}
+use Rattle.line.specs.Packet.{isEmpty}
 use Rattle.cabinet.specs.declared.State.{State}
 use Rattle.cabinet.specs.declared.State.the-variants.{Normal, CheckpBegin, Checkpointing, Checkpointed, Recovered}
 use Rattle.cabinet.specs.declared.Version.{Version}
@@ -20,10 +22,10 @@ use Rattle.protocol.proofs.State.Fun.{never, is-false, and-true, upd-el
 use Rattle.protocol.proofs.State.View.{View, Own, Side, used, setLine}
 use Rattle.protocol.proofs.State.Methods.{sCleared}
 use Rattle.protocol.proofs.Invariant.States.{known-same, known-not-unknown, other-state}
-use Rattle.protocol.proofs.Invariant.Facts.{Big, Mind, Wire, Ghost, Pair, Node, Books, Alarms, aware, unaware, linked, behind}
+use Rattle.protocol.proofs.Invariant.Facts.{Big, Mind, Wire, Ghost, Pair, Node, Books, aware, unaware, linked, behind}
 use Rattle.protocol.proofs.Invariant.Whole.{Places, Inv, PairAt, NodeAt, BooksAt, GroundOf, PlacesOf, ChainOf, SumsOf}
-use Rattle.protocol.proofs.Invariant.Logs.{resumedBy, only-alarms}
-use Rattle.protocol.proofs.Invariant.Words.{un-works, un-not-aware, un-or-aware, live-line, linked-used}
+use Rattle.protocol.proofs.Invariant.Logs.{resumedBy, no-resume}
+use Rattle.protocol.proofs.Invariant.Words.{un-of, un-works, un-not-aware, un-or-aware, live-line, linked-used}
 use Rattle.protocol.proofs.Invariant.Frame.{moved, minded, move-pairs, move-nodes, move-books, move-ground, move-meets}
 use Rattle.protocol.proofs.Moves.Dropping.{drop-inv}
 use Rattle.protocol.proofs.Moves.Rousing.{oResumed, resumed-un, resumed-not-aware, resumed-not-behind, wait-short, roused-from, roused-to}
@@ -282,23 +284,48 @@ module _ (n total : ℕ) (v : View) (γ : Ghost) (i : Inv n total v γ) (c : ℕ
         (i .meets);
   })
 
--- ---- a resume that stands first in a line
+-- ---- a resume that stands in a line
 
-module _ (n total : ℕ) (v : View) (γ : Ghost) (i : Inv n total v γ) (a b : ℕ) (k : List Packet) (line : v .lines a b ≡ Resume ∷ k) where
+module _ (n total : ℕ) (v : View) (γ : Ghost) (i : Inv n total v γ) (a b j : ℕ) (there : getD (v .lines a b) j Empty ≡ Resume) where
+  some : v .lines a b ≡ [] → ⊥
+  some e = true≢false (ap (λ (l : List Packet). isEmpty (getD l j Empty)) (sym e) ∙ ap isEmpty there)
+
   ends : (works (v .own a .state) ≡ true) × (works (v .own b .state) ≡ true) × (used (v .side a b) ≡ true)
-  ends = live-line (i .core .pairs a b) (λ e. nil≢cons (sym e ∙ line))
+  ends = live-line (i .core .pairs a b) some
 
   -- the sender knows of no fault
-  pub sender-calm : unaware (γ .big) (v .own a) ≡ true
-  sender-calm = ⊎-elim (λ u. u) knows-none (un-or-aware (γ .big) (v .own a) (ends .0))
+  calm-at : unaware (γ .big) (v .own a) ≡ true
+  calm-at = ⊎-elim (λ u. u) knows-none (un-or-aware (γ .big) (v .own a) (ends .0))
     where
       knows-none : aware (γ .big) (v .own a) ≡ true → unaware (γ .big) (v .own a) ≡ true
-      knows-none e =
-          let q = i .core .nodes a .placeKnown e in
-          absurd (only-alarms _ (q .0) Resume k refl (subst (Alarms (v .own a .version) (q .0)) line (i .core .pairs a b .alarms e (q .0) (q .1))))
+      knows-none e = let q = i .core .nodes a .placeKnown e in absurd (no-resume _ (q .0) _ (i .core .pairs a b .alarms e (q .0) (q .1)) j there)
+
+  linked-at : linked (γ .mind a) (γ .mind b) (γ .wire a b) ≡ true
+  linked-at = linked-used (i .core .pairs a b) calm-at (i .core .nodes a .placed (ends .0)) (ends .2)
+
+  -- one that has its cut has had all packets of this neighbour
+  pub resume-open : (works (v .own b .state) ≡ true) × (γ .mind b .done ≡ false)
+  resume-open = (ends .1, is-false (γ .mind b .done) (λ e. some (i .core .pairs a b .closedEmpty linked-at (rw e) calm-at)))
+
+  -- who waits for it in checkpointed has joined no save since, and does not coordinate
+  pub resume-fresh : v .own b .state ≡ Checkpointed → (γ .mind b .joined ≡ false) × (b ≢ γ .big .chief)
+  resume-fresh saved =
+      let f = i .core .nodes b in
+      let un = un-of (γ .big) (v .own b) (rw saved) (rw saved) in
+      let fresh = ⊎-elim (λ e. e) (λ e. absurd (never (f .wroteDone e) (resume-open .1))) (f .inCheckpointed un saved) in
+      (fresh, λ e. never (f .chiefSaved un saved e) fresh)
+
+-- ---- and stands first in it
+
+module _ (n total : ℕ) (v : View) (γ : Ghost) (i : Inv n total v γ) (a b : ℕ) (k : List Packet) (line : v .lines a b ≡ Resume ∷ k) where
+  abbrev first : getD (v .lines a b) 0 Empty ≡ Resume
+  first = ap (λ (l : List Packet). getD l 0 Empty) line
+
+  pub sender-calm : unaware (γ .big) (v .own a) ≡ true
+  sender-calm = calm-at n total v γ i a b 0 first
 
   pub resume-linked : linked (γ .mind a) (γ .mind b) (γ .wire a b) ≡ true
-  resume-linked = linked-used (i .core .pairs a b) sender-calm (i .core .nodes a .placed (ends .0)) (ends .2)
+  resume-linked = linked-at n total v γ i a b 0 first
 
   pub resume-other : a ≢ b
   resume-other e =
@@ -309,12 +336,6 @@ module _ (n total : ℕ) (v : View) (γ : Ghost) (i : Inv n total v γ) (a b : �
   sender-ahead e =
       ⊎-elim (λ f. nil≢cons (sym f ∙ line)) (λ f. let q = sym line ∙ f .2 in let z : _≡_ {A = ℕ} 0 1 = cc in omega arith)
       (i .core .pairs a b .behindEmpty e)
-
-  -- one that has its cut has had all packets of this neighbour
-  pub receiver-open : γ .mind b .done ≡ false
-  receiver-open =
-      is-false (γ .mind b .done)
-      (λ e. nil≢cons (sym (i .core .pairs a b .closedEmpty resume-linked (rw e) sender-calm) ∙ line))
 
   -- it comes off the line once the receiver has gone on
   pub woken-off : behind (γ .big) (v .own b) (γ .mind b) ≡ true → γ .mind b .joined ≡ false → b ≢ γ .big .chief → (r : ℕ → Bool)

@@ -479,11 +479,12 @@ module _ (total : ℕ) (g : Group) (h : History) (γ : Ghost) (w : Fit g) (i : I
 
   -- what the group and the history owe, given what becomes of the states
   closing : (g′ : Group) (δ : Ghost) → Inv (g .n) total (view g′) δ → Past (g .n) v δ h
-      → ((c : ℕ) → (view g′ .own c .state ≡ v .own c .state) ⊎ ((c ≡ a) × (view g′ .own c .state ≡ Checkpointed))) → Kept total g γ g′ (noteCuts h g g′)
-  closing g′ δ inv p states = record {
+      → ((c : ℕ) → (view g′ .own c .state ≡ v .own c .state) ⊎ ((c ≡ a) × (view g′ .own c .state ≡ Checkpointed)))
+      → δ .mind a .joined ≡ γ .mind a .joined → Kept total g γ g′ (noteCuts h g g′)
+  closing g′ δ inv p states joined = record {
     ghost = δ;
     inv = inv;
-    past = rw (no-cuts h g g′ no-cut) (past-view works-same p);
+    past = rw (no-cuts h g g′ no-cut) (past-view works-same waited p);
     stays = stay;
   }
     where
@@ -494,6 +495,11 @@ module _ (total : ℕ) (g : Group) (h : History) (γ : Ghost) (w : Fit g) (i : I
       works-same : (c : ℕ) → workOf (view g′) c ≡ workOf v c
       works-same c = ⊎-elim (λ s. ap works s)
           (λ s. ap works (s .1) ∙ sym (ap (λ (j : ℕ). works (stateOf g j)) (s .0) ∙ ap works cutting-now)) (states c)
+
+      -- the cabinet has joined the save that it writes
+      waited : (c : ℕ) → isIn (stateOf g′ c) Checkpointed ≡ true → δ .mind c .joined ≡ false → isIn (stateOf g c) Checkpointed ≡ true
+      waited c e f = ⊎-elim (λ s. ap (λ (x : State). isIn x Checkpointed) (sym s) ∙ e)
+          (λ s. absurd (never (at-node .doneJoined (now .0)) (sym joined ∙ ap (λ (j : ℕ). δ .mind j .joined) (sym (s .0)) ∙ f))) (states c)
 
       stay : (c : ℕ) → aware (γ .big) (v .own c) ≡ true → isIn (stateOf g′ c) Normal ≡ false
       stay c e = ⊎-elim (λ s. ap (λ (x : State). isIn x Normal) s ∙ aware-not-normal (γ .big) (v .own c) e)
@@ -515,7 +521,7 @@ module _ (total : ℕ) (g : Group) (h : History) (γ : Ghost) (w : Fit g) (i : I
       closing (writePiece g a) γ
       (subst (λ (x : View). Inv (g .n) total x γ) (sym seen)
       (part-inv (g .n) total v γ a i calm cutting-now new (ltb-true (v .own a .pieces) 3 few) more)) past
-      (λ c. subst (λ (x : View). (x .own c .state ≡ v .own c .state) ⊎ ((c ≡ a) × (x .own c .state ≡ Checkpointed))) (sym seen) (state-at o z c (inl refl)))
+      (λ c. subst (λ (x : View). (x .own c .state ≡ v .own c .state) ⊎ ((c ≡ a) × (x .own c .state ≡ Checkpointed))) (sym seen) (state-at o z c (inl refl))) refl
 
   -- ---- the last piece
 
@@ -587,8 +593,9 @@ module _ (total : ℕ) (g : Group) (h : History) (γ : Ghost) (w : Fit g) (i : I
     keeps-last : Kept total g γ g2 (noteCuts h g g2)
     keeps-last =
         closing g2 γ1 (subst (λ (x : View). Inv (g .n) total x γ1) (sym seen-owed) inv-owed)
-        (past-mind (g .n) v γ h past a (mWrote (γ .mind a)) refl refl refl refl refl)
+        (past-mind (g .n) v γ h past a (mWrote (γ .mind a)) refl refl refl refl refl refl)
         (λ c. subst (λ (x : View). (x .own c .state ≡ v .own c .state) ⊎ ((c ≡ a) × (x .own c .state ≡ Checkpointed))) (sym seen-owed) (states-owed c))
+        (kept-at (λ (x : Mind). x .joined) (γ .mind) a (mWrote (γ .mind a)) refl a)
 
   abbrev gw : Group
   gw = oweIf (not (ltb (cabinet g a .noted .pieces) 3)) (writePiece g a) (cabinet g a .home) a
