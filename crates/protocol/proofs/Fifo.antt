@@ -1,0 +1,3 @@
+-- What each move leaves on the lines, beside what a line without bounds would hold.
+pub mod Unbounded
+pub mod Puts
