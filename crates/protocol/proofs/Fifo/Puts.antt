@@ -54,11 +54,11 @@ woke true true l = sym (append-nil l)
 woke true false l = refl
 woke false c l = sym (append-nil l)
 
-put-error : (s : State) (x : Version) (q : Place) (k : Check) (back : Bool) → serving s ≡ true → putOn s (erredState x) x (At q) k back ≡ Fault q ∷ erredRest x
+pub put-error : (s : State) (x : Version) (q : Place) (k : Check) (back : Bool) → serving s ≡ true → putOn s (erredState x) x (At q) k back ≡ Fault q ∷ erredRest x
 put-error s (Known x) q k back e = rw (and-false (isIn s Normal), and-false (not (isIn s Normal)), e)
 put-error s (Unknown x) q k back e = rw (and-false (isIn s Normal), and-false (not (isIn s Normal)), e)
 
-enters-error : (s : State) (x : Version) → serving s ≡ true → enters s (erredState x) ≡ true
+pub enters-error : (s : State) (x : Version) → serving s ≡ true → enters s (erredState x) ≡ true
 enters-error s x e = rw (e, erred-recovers x)
 
 module _ (base : ℕ → ℕ → List Packet) (back : ℕ → ℕ → Bool) (v : View) where

@@ -37,7 +37,7 @@ putOn s t x q k back =
     (cond (enters s t) (faultOf q ++ said t x)
     (cond (isIn s Error && isIn t Recovering) (said t x) [])))
 
-put-none : (s : State) (x : Version) (q : Alarm) (k : Check) (back : Bool) → putOn s s x q k back ≡ []
+pub put-none : (s : State) (x : Version) (q : Alarm) (k : Check) (back : Bool) → putOn s s x q k back ≡ []
 put-none Failed x q k back = refl
 put-none Normal x q k back = refl
 put-none CheckpBegin x q k back = refl
@@ -48,7 +48,7 @@ put-none Recovering x q k back = refl
 put-none Recovered x q k back = refl
 put-none Crashed x q k back = refl
 
-enters-none : (s : State) → enters s s ≡ false
+pub enters-none : (s : State) → enters s s ≡ false
 enters-none Failed = refl
 enters-none Normal = refl
 enters-none CheckpBegin = refl
@@ -59,11 +59,11 @@ enters-none Recovering = refl
 enters-none Recovered = refl
 enters-none Crashed = refl
 
-not-self : (t : Bool) → (t && not t) ≡ false
+pub not-self : (t : Bool) → (t && not t) ≡ false
 not-self true = refl
 not-self false = refl
 
-cond-same : {A : Type 0} (u : Bool) (x : A) → cond u x x ≡ x
+pub cond-same : {A : Type 0} (u : Bool) (x : A) → cond u x x ≡ x
 cond-same true x = refl
 cond-same false x = refl
 
