@@ -2,3 +2,4 @@
 pub mod Unbounded
 pub mod Puts
 pub mod Alarms
+pub mod Delivers

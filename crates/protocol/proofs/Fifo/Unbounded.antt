@@ -71,6 +71,13 @@ or-none : (t : Bool) → (t || (false || false)) ≡ t
 or-none true = refl
 or-none false = refl
 
+-- nothing is put, nothing emptied
+abbrev pub Idle : State → State → Type 0
+Idle s t = (works t ≡ works s) × (enters s t ≡ false) × ((x : Version) (q : Alarm) (k : Check) (back : Bool) → putOn s t x q k back ≡ [])
+
+pub idle-same : (s : State) → Idle s s
+idle-same s = (refl, enters-none s, put-none s)
+
 -- as much is put where a cabinet that joins has its cut in the same step
 abbrev pub Cut : State → State → Type 0
 Cut s t = (s ≡ t) ⊎ ((s ≡ CheckpBegin) × (t ≡ Checkpointing))
@@ -112,12 +119,15 @@ module _ (base : ℕ → ℕ → List Packet) (back : ℕ → ℕ → Bool) (v :
   abbrev pub Unbounded : View → Type 0
   Unbounded w = (a b : ℕ) → Line a b (w .own a) (works (w .own b .state)) (w .side a b) (w .lines a b)
 
-  -- no state changes, and all lines are as they were left
-  pub still : (w : View) → ((c : ℕ) → w .own c .state ≡ v .own c .state) → ((a b : ℕ) → w .lines a b ≡ base a b) → Unbounded w
-  still w states lines a b =
+  -- no state changes so that something is put, and all lines are as they were left
+  pub idle : (w : View) → ((c : ℕ) → Idle (v .own c .state) (w .own c .state)) → ((a b : ℕ) → w .lines a b ≡ base a b) → Unbounded w
+  idle w states lines a b =
+      let x = states a in let y = states b in
       lines a b
-      ∙ sym (rw (states a, states b, put-none (v .own a .state), enters-none (v .own a .state), not-self (works (v .own a .state)), not-self (works (v .own b .state)), cond-same)
-      (append-nil (base a b)))
+      ∙ sym (rw (x .2, x .1, x .0, y .0, not-self (works (v .own a .state)), not-self (works (v .own b .state)), cond-same) (append-nil (base a b)))
+
+  pub still : (w : View) → ((c : ℕ) → w .own c .state ≡ v .own c .state) → ((a b : ℕ) → w .lines a b ≡ base a b) → Unbounded w
+  still w states lines = idle w (λ c. rw (states c) (idle-same (v .own c .state))) lines
 
   -- one cabinet i is replaced, with its sides and its lines out
   pub one : (u : View) (i : ℕ) (o : Own) (s : ℕ → Side) (f : ℕ → List Packet) (z : ℕ → Bool → Image) → works (o .state) ≡ works (u .own i .state)

@@ -517,7 +517,7 @@ module _ (total : ℕ) (g : Group) (h : History) (γ : Ghost) (w : Fit g) (i : I
   abbrev g′ : Group
   g′ = hurt g a b p q
 
-  seen : view g′ ≡ after
+  pub seen : view g′ ≡ after
   unfolding hurt
   seen = seen-mark (isNormal old) ∙ ap Marked (ap isNormal (sym (lined .1)))
 
