@@ -2,4 +2,5 @@
 pub mod Stepping
 pub mod Demand
 pub mod Bounds
+pub mod Fifo
 pub mod Examples

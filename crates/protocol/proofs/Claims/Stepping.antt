@@ -49,7 +49,7 @@ module _ (total : ℕ) (g : Group) (h : History) (γ : Ghost) (w : Fit g) (i : I
   most : g .n ≤ 8
   most = i .core .ground .most
 
-  below : (x : ℕ) → isCabinet g x ≡ true → (x - 1 < g .n) × (x - 1 < 8)
+  pub below : (x : ℕ) → isCabinet g x ≡ true → (x - 1 < g .n) × (x - 1 < 8)
   below x e =
       let u = and-true {s = leb 1 x} e in
       let lo = leb-true 1 x (u .0) in
