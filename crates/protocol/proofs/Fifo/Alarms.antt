@@ -2,8 +2,8 @@
 use Prim.Native.Nat.{ℕ, zero, suc, _<_, _≤_}
 use mathlib.Core.Path.{_≡_, refl, sym, ap, _∙_, subst}
 use mathlib.Core.Logic.{_≢_}
-use mathlib.Core.Bool.{Bool, true, false, cond, not, _&&_, _||_}
-use mathlib.Core.List.{List, [], _∷_, _++_}
+use mathlib.Core.Bool.{Bool, true, false, cond, not, _&&_}
+use mathlib.Core.List.{List, []}
 use lib.Dec.{eqb, ltb}
 use borrow.Author.Tests.{eq-eqb, ne-eqb, lt-ltb}
 use native.Mathlib.Omega.{arith}
@@ -17,13 +17,11 @@ use Rattle.cabinet.specs.declared.State.the-variants.{Normal, Error, Failed, Cr
 use Rattle.cabinet.specs.declared.Version.{Version}
 use Rattle.cabinet.specs.declared.Alarm.{Alarm}
 use Rattle.cabinet.specs.State.{isIn, works, inRecovery}
-use Rattle.cabinet.specs.Cabinet.{inUse}
 use Rattle.group.specs.declared.Group.{Group}
-use Rattle.group.specs.Group.{cabinet, stateOf}
-use Rattle.protocol.specs.History.{upd}
+use Rattle.group.specs.Group.{stateOf}
 use Rattle.protocol.specs.Moves.{markFailed, alarmTo, neighbours, enterErrorIf}
 use Rattle.protocol.specs.Receive.{serving}
-use Rattle.protocol.proofs.State.Fun.{never, is-true, is-false, and-true, and-false, and-same, upd-same, upd-other}
+use Rattle.protocol.proofs.State.Fun.{never, is-true, and-true, and-false, upd-same, upd-other}
 use Rattle.protocol.proofs.State.Every.{ok-markFailed, ok-alarm}
 use Rattle.protocol.proofs.State.View.{View, Own, used, view}
 use Rattle.protocol.proofs.State.Shape.{Shaped, Lined, Pictured, shaped}

@@ -1,9 +1,8 @@
 -- Kind 4, deliver: the oldest packet is off its line, and the receiver puts what the rules say for that packet in its state.
 use Prim.Native.Nat.{ℕ, _<_}
 use mathlib.Core.Path.{_≡_, refl, sym, ap, _∙_, subst}
-use mathlib.Core.Logic.{_≢_, ⊎-elim}
 use mathlib.Core.Bool.{Bool, true, false, cond, _&&_, _||_}
-use mathlib.Core.List.{List, [], _∷_}
+use mathlib.Core.List.{List}
 use lib.ListN.{getD, drop}
 use lib.Dec.{eqb}
 use borrow.Author.Tests.{eq-eqb, ne-eqb}
@@ -40,11 +39,11 @@ use Rattle.protocol.proofs.Invariant.States.{opens-serve}
 use Rattle.protocol.proofs.Invariant.Facts.{Ghost}
 use Rattle.protocol.proofs.Invariant.Whole.{Inv}
 use Rattle.protocol.proofs.Invariant.Past.{Past}
-use Rattle.protocol.proofs.Invariant.Words.{un-or-aware, room-calm, room-aware}
 use Rattle.protocol.proofs.Moves.Hearing.{off, off-fit}
 use Rattle.protocol.proofs.Moves.LinkFault.{fit-sound}
 use Rattle.protocol.proofs.Moves.Delivering.{other}
 use Rattle.protocol.proofs.Fifo.Unbounded.{Unbounded, still}
+use Rattle.protocol.proofs.Fifo.Rooms.{works-room}
 use Rattle.protocol.proofs.Fifo.Puts.{puts-join, puts-resume, puts-adopt, puts-recover, puts-error, puts-hear, puts-compare, puts-cut}
 
 -- one line changed by a function of what it holds
@@ -68,15 +67,6 @@ sound-states g rs c = refl
 sound-lines : (g : Group) (rs : Rows) (c d : ℕ) → view (withSound g rs) .lines c d ≡ view g .lines c d
 unfolding outgoing line withSound
 sound-lines g rs c d = refl
-
--- ---- cabinets that work stand below eight, and their lines have room
-
-module _ (total : ℕ) (g : Group) (γ : Ghost) (w : Fit g) (i : Inv (g .n) total (view g) γ) (c : ℕ) (up : works (stateOf g c) ≡ true) where
-  pub works-below : c < 8
-  works-below = omega (arith, i .core .ground .within c (i .core .nodes c .placed up), i .core .ground .most)
-
-  pub works-room : Room (view g) c
-  works-room = ⊎-elim (room-calm (g .n) total g γ w (i .core) c) (room-aware (g .n) total (view g) γ (i .core) c) (un-or-aware (γ .big) (view g .own c) up)
 
 -- ---- the step
 

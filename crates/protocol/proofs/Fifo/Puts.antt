@@ -1,9 +1,9 @@
 -- Each move puts on the lines what a line without bounds would hold, where these have room. `u` is the group once a packet is taken
 -- off or a report is made, `v` the view before the step.
 use Prim.Native.Nat.{ℕ, _<_}
-use mathlib.Core.Path.{_≡_, refl, sym, ap, _∙_, subst}
+use mathlib.Core.Path.{_≡_, refl, sym, _∙_, subst}
 use mathlib.Core.Logic.{inl, inr}
-use mathlib.Core.Bool.{Bool, true, false, cond, not, _&&_, _||_}
+use mathlib.Core.Bool.{Bool, true, false, cond, not, _&&_}
 use mathlib.Core.List.{List, [], _∷_, _++_, append-nil}
 use lib.Dec.{eqb}
 use Rattle.marks.specs.Marks.{covers}
@@ -12,13 +12,13 @@ use Rattle.line.specs.declared.Packet.{Packet}
 use Rattle.line.specs.declared.Packet.the-variants.{Checkp, Resume, Recover, Fault}
 use Rattle.line.specs.declared.Place.{Place}
 use Rattle.cabinet.specs.declared.State.{State}
-use Rattle.cabinet.specs.declared.State.the-variants.{Normal, CheckpBegin, Checkpointing, Checkpointed, Error, Recovering}
+use Rattle.cabinet.specs.declared.State.the-variants.{Normal, CheckpBegin, Checkpointing, Checkpointed, Error}
 use Rattle.cabinet.specs.declared.Version.{Version}
 use Rattle.cabinet.specs.declared.Version.the-variants.{Known, Unknown}
 use Rattle.cabinet.specs.declared.Alarm.{Alarm}
 use Rattle.cabinet.specs.declared.Alarm.the-variants.{Quiet, Fault as At}
 use Rattle.cabinet.specs.declared.Cabinet.{Cabinet}
-use Rattle.cabinet.specs.State.{isIn, works, inRecovery, adopted}
+use Rattle.cabinet.specs.State.{isIn, works}
 use Rattle.cabinet.specs.Cabinet.{inUse, withState, comparing}
 use Rattle.group.specs.declared.Group.{Group}
 use Rattle.group.specs.Group.{cabinet, withCabinet}

@@ -2,7 +2,7 @@
 -- what they held.
 use Prim.Native.Nat.{ℕ}
 use mathlib.Core.Path.{_≡_, refl, sym, ap, _∙_}
-use mathlib.Core.Logic.{_≢_, _⊎_, inl, inr}
+use mathlib.Core.Logic.{_⊎_, inl, inr}
 use mathlib.Core.Bool.{Bool, true, false, cond, not, _&&_, _||_}
 use mathlib.Core.List.{List, [], _∷_, _++_, append-nil}
 use native.Mathlib.Decide.{ℕ-discrete}
@@ -18,7 +18,7 @@ use Rattle.cabinet.specs.State.{isIn, works, inRecovery, bitOf}
 use Rattle.protocol.specs.History.{upd}
 use Rattle.protocol.specs.Receive.{serving}
 use Rattle.protocol.specs.Fifo.{faultOf}
-use Rattle.protocol.proofs.State.Fun.{and-not, kept-at, upd-same, upd-other}
+use Rattle.protocol.proofs.State.Fun.{kept-at, upd-same, upd-other}
 use Rattle.protocol.proofs.State.View.{View, Own, Side, used}
 use Rattle.protocol.proofs.Invariant.Frame.{moved}
 
