@@ -3,5 +3,6 @@ pub mod Stepping
 pub mod Demand
 pub mod Bounds
 pub mod Saves
+pub mod Fifo
 pub mod Examples
 pub mod Tempting

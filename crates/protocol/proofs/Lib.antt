@@ -3,4 +3,5 @@ pub mod State
 pub mod Answers
 pub mod Invariant
 pub mod Moves
+pub mod Fifo
 pub mod Claims

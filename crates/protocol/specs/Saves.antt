@@ -12,7 +12,7 @@ use Rattle.line.specs.Line.{oldest, packetAt}
 use Rattle.cabinet.specs.declared.State.the-variants.{Checkpointing, Checkpointed}
 use Rattle.cabinet.specs.declared.Version.the-variants.{Known}
 use Rattle.cabinet.specs.declared.Image.{Image}
-use Rattle.cabinet.specs.State.{works, isUnknown}
+use Rattle.cabinet.specs.State.{works, isUnknown, bitOf}
 use Rattle.cabinet.specs.Cabinet.{inUse, coordinator}
 use Rattle.group.specs.declared.Group.{Group}
 use Rattle.group.specs.Group.{cabinet, stateOf, line, slot, isCrashed}
@@ -91,6 +91,12 @@ abbrev pub KnownWhereUsed : Type 0
 KnownWhereUsed =
     Running (λ g h. (a : ℕ) → (writeRefusal g a ≡ 0 → isUnknown (cabinet g a .phase .version) ≡ false)
     × (fetchRefusal g a ≡ 0 → isUnknown (cabinet g (cabinet g a .home) .phase .version) ≡ false))
+
+-- so a piece that is fetched is one of the newest save's image
+abbrev pub FetchedOfNewest : Type 0
+FetchedOfNewest =
+    Running (λ g h. (a : ℕ) → fetchRefusal g a ≡ 0
+    → (y : Cut) × (latest h .cut a ≡ some y) × (slot g a (bitOf (cabinet g (cabinet g a .home) .phase .version)) ≡ y .image))
 
 -- ---- which begin a cut belongs to
 

@@ -3,7 +3,7 @@
 use Prim.Native.Nat.{ℕ, zero, suc, _-_, _<_, _≤_}
 use mathlib.Core.Path.{_≡_, refl, sym, ap, _∙_, subst}
 use mathlib.Core.Logic.{inl, ⊎-elim}
-use mathlib.Core.Bool.{Bool, true, false, not, _&&_}
+use mathlib.Core.Bool.{Bool, true, false, not, _&&_, true≢false}
 use mathlib.Core.List.{List, _∷_}
 use mathlib.Core.Option.{Option, some}
 use lib.ListN.{getD}
@@ -14,9 +14,10 @@ use Rattle.line.specs.declared.Packet.the-variants.{Empty, Resume}
 use Rattle.line.specs.Packet.{isEmpty}
 use Rattle.line.specs.Line.{packetAt}
 use Rattle.cabinet.specs.declared.State.the-variants.{Checkpointing, Checkpointed, Recovering}
-use Rattle.cabinet.specs.declared.Version.the-variants.{Known}
+use Rattle.cabinet.specs.declared.Version.{Version}
+use Rattle.cabinet.specs.declared.Version.the-variants.{Known, Unknown}
 use Rattle.cabinet.specs.declared.Image.{Image}
-use Rattle.cabinet.specs.State.{isIn, works, inRestoring, isUnknown}
+use Rattle.cabinet.specs.State.{isIn, works, inRestoring, isUnknown, bitOf}
 use Rattle.cabinet.specs.Cabinet.{booked, coordinator}
 use Rattle.group.specs.declared.Group.{Group}
 use Rattle.group.specs.declared.Outcome.{Outcome}
@@ -25,11 +26,11 @@ use Rattle.load.specs.Load.{load, feederTotal}
 use Rattle.load.proofs.Loaded.{starts}
 use Rattle.protocol.specs.declared.Step.the-variants.{Saved}
 use Rattle.protocol.specs.declared.Decoded.the-variants.{Taken}
-use Rattle.protocol.specs.Kinds.{orRefuse, writeRefusal, fetchRefusal, savedRefusal, savedStep, reportSaved, commitIfAll}
+use Rattle.protocol.specs.Kinds.{need, orRefuse, writeRefusal, fetchRefusal, savedRefusal, savedStep, reportSaved, commitIfAll}
 use Rattle.protocol.specs.Entry.{step, stepDecoded, entryRefusal, isCabinet}
 use Rattle.protocol.specs.History.{Cut, Save, History, advance, opening, commits, latest, newest, imageIn}
 use Rattle.protocol.specs.Restored.{Octets, Records, worldAfter, Balanced, amperes}
-use Rattle.protocol.specs.Saves.{Commits, savedImage, savedTo, CommitsWhole, CommitsBetweenResumes, TakesResume, ResumeOfNewest, VersionsNameNewest, KnownWhereUsed, CutsSinceBegin}
+use Rattle.protocol.specs.Saves.{Commits, savedImage, savedTo, CommitsWhole, CommitsBetweenResumes, TakesResume, ResumeOfNewest, VersionsNameNewest, KnownWhereUsed, FetchedOfNewest, CutsSinceBegin}
 use Rattle.protocol.proofs.State.Fun.{never, is-true, and-true, and-intro, not-true-false, cond-elim, sum}
 use Rattle.protocol.proofs.State.Every.{passed}
 use Rattle.protocol.proofs.State.Counting.{step-n}
@@ -73,6 +74,24 @@ module _ (total : ℕ) (g : Group) (h : History) (w : Runs total g h) where
   names-newest c d wc wd v e =
       let y = cut-held (w .inv) (w .past) c wc in
       (y .0, y .1, ap (slot g c) (w .inv .core .nodes d .known wd v e) ∙ w .inv .core .nodes c .slotTop wc ∙ sym (y .2))
+
+  -- the home knows its version, and that names the newest save
+  fetches-newest : (a : ℕ) → fetchRefusal g a ≡ 0
+      → (y : Cut) × (latest h .cut a ≡ some y) × (slot g a (bitOf (cabinet g (cabinet g a .home) .phase .version)) ≡ y .image)
+  fetches-newest a e = go (cabinet g home .phase .version) refl (fetches-known a e)
+    where
+      home : ℕ
+      home = cabinet g a .home
+
+      one : (isIn (stateOf g a) Recovering ≡ true) × (need (inRestoring (stateOf g home)) 19 0 ≡ 0)
+      one = passed (isIn (stateOf g a) Recovering) 13 _ e
+
+      go : (v : Version) → cabinet g home .phase .version ≡ v → isUnknown v ≡ false
+          → (y : Cut) × (latest h .cut a ≡ some y) × (slot g a (bitOf v) ≡ y .image)
+      go (Known v) is _ =
+          names-newest a home (ap works (in-state (stateOf g a) Recovering .0 (one .0)))
+          (restoring-works (stateOf g home) (passed (inRestoring (stateOf g home)) 18 0 (one .1) .0) .4) v is
+      go (Unknown v) is k = absurd (true≢false k)
 
   -- ---- begins
 
@@ -125,6 +144,9 @@ known-where-used f of e rs o c a = let w = running f of e rs o c in (writes-know
 
 pub versions-name-newest : VersionsNameNewest
 versions-name-newest f of e rs o c = names-newest _ _ _ (running f of e rs o c)
+
+pub fetched-of-newest : FetchedOfNewest
+fetched-of-newest f of e rs o c = fetches-newest _ _ _ (running f of e rs o c)
 
 pub cuts-since-begin : CutsSinceBegin
 cuts-since-begin f of e rs o c = begun-since _ _ _ (running f of e rs o c)

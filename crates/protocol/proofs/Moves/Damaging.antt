@@ -505,7 +505,7 @@ module _ (total : ℕ) (g : Group) (h : History) (γ : Ghost) (w : Fit g) (i : I
   fit1 : Fit g1
   fit1 = with-line Shaped Lined Pictured shaped g a b _ (shaped .damages (line g a b) p q lq (w .lines a b)) w
 
-  seen-mark : (t : Bool) → view (hurtIf t g1 a b) ≡ Marked t
+  pub seen-mark : (t : Bool) → view (hurtIf t g1 a b) ≡ Marked t
   seen-mark true =
       sim-hurt g1 fit1 a b la lb ∙ ap (λ (x : View). vHurt x a b) seen-line
       ∙ (λ t. record { own = upd-id (v .own) b t; side = Marked true .side; lines = Marked true .lines; slots = v .slots; sound = v .sound })

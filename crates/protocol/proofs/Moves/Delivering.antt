@@ -75,7 +75,7 @@ module _ (total : ℕ) (g : Group) (h : History) (γ : Ghost) (w : Fit g) (i : I
   live = live-line (i .core .pairs a b) (λ e. nil≢cons (sym e ∙ here))
 
   -- a line to oneself holds nothing
-  other : a ≢ b
+  pub other : a ≢ b
   other e = ⊎-elim calm knows (un-or-aware (γ .big) (view g .own a) (live .0))
     where
       link : view g .side a b .link ≡ true

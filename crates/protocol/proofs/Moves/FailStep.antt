@@ -170,7 +170,7 @@ module _ (total : ℕ) (g : Group) (h : History) (γ : Ghost) (fit : Fit g) (i :
   checks : (cabinet g a .store ≡ false) × (some (recoveringOnes g) ≡ false) × (connected (rowsOf (g .sound)) (set (working g) a false) ≡ true)
   checks = split-or (cabinet g a .store) (some (recoveringOnes g)) (connected (rowsOf (g .sound)) (set (working g) a false)) fine
 
-  nobody : (c : ℕ) → inRecovery (v .own c .state) ≡ false
+  pub nobody : (c : ℕ) → inRecovery (v .own c .state) ≡ false
   nobody = nobody-recovers g fit (checks .1)
 
   unfaulted : γ .big .faulted ≡ false

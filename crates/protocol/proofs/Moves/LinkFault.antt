@@ -230,7 +230,7 @@ working-kept : (g : Group) (a b : ℕ) (l : Line) → working (withLine g a b l)
 unfolding withLine withOutgoing working cabinet
 working-kept g a b l = refl
 
-fit-sound : (g : Group) (rs : Rows) → Fit g → Fit (withSound g rs)
+pub fit-sound : (g : Group) (rs : Rows) → Fit g → Fit (withSound g rs)
 unfolding cabinet outgoing line slot withSound
 fit-sound g rs h = record {
   frame = record { cabinets = h .frame .cabinets; outs = h .frame .outs; lines = h .frame .lines; store = h .frame .store };

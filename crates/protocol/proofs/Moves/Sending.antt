@@ -319,7 +319,7 @@ module _ (total : ℕ) (g : Group) (h : History) (γ : Ghost) (w : Fit g) (i : I
   abbrev paidImage : Image
   paidImage = withBooked (cabinet g a .image) (booked (cabinet g a .image) - q)
 
-  seen : view g′ ≡ vSent v a b p
+  pub seen : view g′ ≡ vSent v a b p
   seen = sim-sent g w a b q lq la lb room
 
   state-kept : (c : ℕ) → view g′ .own c .state ≡ v .own c .state

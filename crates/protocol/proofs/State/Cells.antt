@@ -107,7 +107,7 @@ tail-nil (Recover v) l e = absurd (nil≢cons (sym e))
 tail-nil (Fault p) l e = absurd (nil≢cons (sym e))
 tail-nil Invalid l e = absurd (nil≢cons (sym e))
 
-nothing-there : (cs : List Cell) (j : ℕ) → content cs ≡ [] → isEmpty (getD cs j emptyCell .packet) ≡ false → ⊥
+pub nothing-there : (cs : List Cell) (j : ℕ) → content cs ≡ [] → isEmpty (getD cs j emptyCell .packet) ≡ false → ⊥
 unfolding content
 nothing-there [] j z q = false≢true (sym q)
 nothing-there (c ∷ cs) zero z q = nil≢cons (sym z ∙ full-is (c .packet) (content cs) q)
