@@ -2,7 +2,7 @@
 use Prim.Native.Nat.{ℕ, zero, suc, _<_, _≤_}
 use mathlib.Core.Path.{_≡_, refl, sym, ap, _∙_, subst}
 use mathlib.Core.Logic.{_≢_}
-use mathlib.Core.Bool.{Bool, true, false, cond, not, _&&_}
+use mathlib.Core.Bool.{Bool, true, false, cond, not, _&&_, and-not-self}
 use mathlib.Core.List.{List, []}
 use lib.Dec.{eqb, ltb}
 use borrow.Author.Tests.{eq-eqb, ne-eqb, lt-ltb}
@@ -30,7 +30,7 @@ use Rattle.protocol.proofs.State.ViewMoves.{vFailed, sim-failed}
 use Rattle.protocol.proofs.Invariant.States.{serves-or-restores}
 use Rattle.protocol.proofs.Moves.ErrorSeen.{erred, erredLine, oErred, sErred, error-seen, sim-error, erred-works}
 use Rattle.protocol.proofs.Moves.Failing.{failed-own, other-own, failed-side, still-works}
-use Rattle.protocol.proofs.Fifo.Unbounded.{putOn, put-none, enters-none, not-self, cond-same, Unbounded, still, one}
+use Rattle.protocol.proofs.Fifo.Unbounded.{putOn, put-none, enters-none, cond-same, Unbounded, still, one}
 use Rattle.protocol.proofs.Fifo.Puts.{put-error, enters-error}
 
 put-failed : (s : State) (x : Version) (q : Alarm) (k : Check) (back : Bool) → putOn s Failed x q k back ≡ []
@@ -67,7 +67,7 @@ module _ (back : ℕ → ℕ → Bool) (g : Group) (fit : Fit g) (a : ℕ) (la :
   ends-failed c d = elim (ℕ-discrete c a) [
     | yes e ↦ rw (e, failed-own v a, put-failed (v .own a .state), and-false (serving (v .own a .state)), up, cond-same) (from-failed d)
     | no n ↦ elim (ℕ-discrete d a) [
-      | yes f ↦ rw (f, failed-own v a, other-own v a c n, put-none (v .own c .state), enters-none (v .own c .state), not-self (works (v .own c .state)), up, cond-same) (to-failed c n)
+      | yes f ↦ rw (f, failed-own v a, other-own v a c n, put-none (v .own c .state), enters-none (v .own c .state), and-not-self (works (v .own c .state)), up, cond-same) (to-failed c n)
       | no m ↦ rw (other-own v a c n, other-own v a d m, failed-side v a c, elsewhere c d n m) (still (v .lines) back v v (λ j. refl) (λ i j. refl) c d)
     ]
   ]

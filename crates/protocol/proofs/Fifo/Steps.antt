@@ -172,6 +172,7 @@ module _ (total : ℕ) (g : Group) (γ : Ghost) (w : Fit g) (i : Inv (g .n) tota
         (λ _. normal-puts u fit k (k-saves .0) (k-saves .2) told-states told-sides lines _)
         (λ _. report-puts u fit k (k-saves .0) (k-saves .2) told-states told-sides lines)
 
+  -- the report on a goes to its coordinator
   module _ (a : ℕ) (la : a < 8) (fine : restoredRefusal g a ≡ 0) where
     abbrev chief : ℕ
     chief = coordinator (cabinet g a)

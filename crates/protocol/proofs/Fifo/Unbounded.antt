@@ -3,7 +3,7 @@
 use Prim.Native.Nat.{ℕ}
 use mathlib.Core.Path.{_≡_, refl, sym, ap, _∙_}
 use mathlib.Core.Logic.{_⊎_, inl, inr}
-use mathlib.Core.Bool.{Bool, true, false, cond, not, _&&_, _||_}
+use mathlib.Core.Bool.{Bool, true, false, cond, not, _&&_, _||_, and-not-self, or-false}
 use mathlib.Core.List.{List, [], _∷_, _++_, append-nil}
 use native.Mathlib.Decide.{ℕ-discrete}
 use Rattle.line.specs.declared.Check.{Check}
@@ -59,17 +59,9 @@ enters-none Recovering = refl
 enters-none Recovered = refl
 enters-none Crashed = refl
 
-pub not-self : (t : Bool) → (t && not t) ≡ false
-not-self true = refl
-not-self false = refl
-
 pub cond-same : {A : Type 0} (u : Bool) (x : A) → cond u x x ≡ x
 cond-same true x = refl
 cond-same false x = refl
-
-or-none : (t : Bool) → (t || (false || false)) ≡ t
-or-none true = refl
-or-none false = refl
 
 -- nothing is put, nothing emptied
 abbrev pub Idle : State → State → Type 0
@@ -85,20 +77,9 @@ Cut s t = (s ≡ t) ⊎ ((s ≡ CheckpBegin) × (t ≡ Checkpointing))
 abbrev pub Alike : Own → Own → Type 0
 Alike o p = Cut (o .state) (p .state) × (p .version ≡ o .version) × (p .alarm ≡ o .alarm)
 
-begin-cut-put : (s : State) (x : Version) (q : Alarm) (k : Check) (back : Bool) → putOn s CheckpBegin x q k back ≡ putOn s Checkpointing x q k back
-begin-cut-put Failed x q k back = refl
-begin-cut-put Normal x q k back = refl
-begin-cut-put CheckpBegin x q k back = refl
-begin-cut-put Checkpointing x q k back = refl
-begin-cut-put Checkpointed x q k back = refl
-begin-cut-put Error x q k back = refl
-begin-cut-put Recovering x q k back = refl
-begin-cut-put Recovered x q k back = refl
-begin-cut-put Crashed x q k back = refl
-
 alike-put : (r s t : State) → Cut s t → (x : Version) (q : Alarm) (k : Check) (back : Bool) → putOn r s x q k back ≡ putOn r t x q k back
 alike-put r s t (inl e) x q k back = rw e
-alike-put r s t (inr e) x q k back = rw (e .0, e .1) (begin-cut-put r x q k back)
+alike-put r s t (inr e) x q k back = rw (e .0, e .1)
 
 alike-works : (s t : State) → Cut s t → works s ≡ works t
 alike-works s t (inl e) = ap works e
@@ -124,7 +105,7 @@ module _ (base : ℕ → ℕ → List Packet) (back : ℕ → ℕ → Bool) (v :
   idle w states lines a b =
       let x = states a in let y = states b in
       lines a b
-      ∙ sym (rw (x .2, x .1, x .0, y .0, not-self (works (v .own a .state)), not-self (works (v .own b .state)), cond-same) (append-nil (base a b)))
+      ∙ sym (rw (x .2, x .1, x .0, y .0, and-not-self (works (v .own a .state)), and-not-self (works (v .own b .state)), cond-same) (append-nil (base a b)))
 
   pub still : (w : View) → ((c : ℕ) → w .own c .state ≡ v .own c .state) → ((a b : ℕ) → w .lines a b ≡ base a b) → Unbounded w
   still w states lines = idle w (λ c. rw (states c) (idle-same (v .own c .state))) lines
@@ -147,7 +128,7 @@ module _ (base : ℕ → ℕ → List Packet) (back : ℕ → ℕ → Bool) (v :
       → Unbounded (moved u i o s (upd (u .lines) i f) z)
   moves u states lines i o s f z alive here =
       one u i o s f z (alive ∙ ap works (sym (states i)))
-      (λ b. here b ∙ sym (rw (alive, states b, not-self (works (v .own i .state)), not-self (works (v .own b .state)), or-none (enters (v .own i .state) (o .state)), ← lines i b)))
+      (λ b. here b ∙ sym (rw (alive, states b, and-not-self (works (v .own i .state)), and-not-self (works (v .own b .state)), or-false (enters (v .own i .state) (o .state)), ← lines i b)))
       (still u states lines)
 
   -- what is put stays the same: states, versions and places do, but for a cut after joining
