@@ -114,6 +114,9 @@ abbrev pub forEach : {A : Type 0} → ℕ → (ℕ → A) → List A
 forEach zero f = []
 forEach (suc n) f = forEach n f ++ f n ∷ []
 
+abbrev pub sizeOf : Example → ℕ
+sizeOf e = cabinetCount (e .file)
+
 abbrev pub foundIn : Example → World → World → World → Found
 foundIn e fault near end = record {
   loaded = load (e .file) .answer;
@@ -123,10 +126,10 @@ foundIn e fault near end = record {
   committed = length (fault .history .saves);
   left = length (end .history .saves);
   by = latest (end .history) .by;
-  took = forEach (cabinetCount (e .file)) (tookIn (cabinetCount (e .file)) (end .history));
-  standing = forEach (cabinetCount (e .file)) (λ c. cabinet (fault .group) c .image);
-  held = forEach (cabinetCount (e .file)) (heldBy (end .group));
-  gone = forEach (cabinetCount (e .file)) (goneOf (end .history) (end .group));
+  took = forEach (sizeOf e) (tookIn (sizeOf e) (end .history));
+  standing = forEach (sizeOf e) (λ c. cabinet (fault .group) c .image);
+  held = forEach (sizeOf e) (heldBy (end .group));
+  gone = forEach (sizeOf e) (goneOf (end .history) (end .group));
 }
 
 -- at the fault, before the last record and after it
