@@ -1,11 +1,11 @@
 -- Texts written one after the other.
-use Prim.Native.Nat.{ℕ, suc, _+_, _%_, _<_, _^_}
+use Prim.Native.Nat.{ℕ, suc, _+_, _%_, _≤_, _<_, _^_}
 use mathlib.Core.Path.{_≡_, refl, sym, ap, _∙_}
 use mathlib.Core.List.{List, [], _∷_, _++_}
 use native.Mathlib.Nat.{add-zero, add-suc, suc-add}
 use native.Mathlib.Omega.{arith}
-use lib.ListN.{length, set, length-set}
-use lib.Seq.{sets}
+use lib.ListN.{length, set, take, length-set}
+use lib.Seq.{sets, sets-eq, take-append-seam}
 use Rattle.buffer.specs.Written.{Written, next, placeAfter, storedFrom}
 
 place-append : (at : ℕ) (a b : List ℕ) → placeAfter (placeAfter at a) b ≡ placeAfter at (a ++ b)
@@ -42,3 +42,7 @@ place-added at (x ∷ text) h = rw (one-on at (length text) h) (place-added (suc
 pub stored-sets : (at : ℕ) (text l : List ℕ) → at + length text < 2 ^ 64 → storedFrom at text l ≡ sets l at text
 stored-sets at [] l h = refl
 stored-sets at (x ∷ text) l h = rw (one-on at (length text) h) (stored-sets (suc at) text (set l at x) (omega arith))
+
+-- a whole text stands at the buffer's start
+pub at-start : (whole before : List ℕ) → length whole ≤ length before → take (length whole) (sets before 0 whole) ≡ whole
+at-start whole before h = rw (sets-eq whole before 0 (omega arith)) (take-append-seam whole _)

@@ -8,7 +8,7 @@ use lib.Seq.{sets}
 use lib.Dec.{eqb}
 use mir.Syntax.{w8}
 use mir.Val.{Fits}
-use borrow.Author.Tests.{eq-eqb, ne-eqb}
+use borrow.Author.Tests.{eq-eqb, ne-eqb, eqb-true}
 use native.Mathlib.Omega.{arith}
 use native.Mathlib.Decide.{ℕ-discrete, decLt}
 use Rattle.group.specs.declared.Group.{Group}
@@ -24,7 +24,7 @@ use Rattle.replay.specs.Replay.{recordsIn, after, stepAll, answersFrom, 
 
 -- ---- the run and the groups of it
 
-run-groups : (rs : List (List ℕ)) (w : World) → run w rs .group ≡ stepAll (w .group) rs
+pub run-groups : (rs : List (List ℕ)) (w : World) → run w rs .group ≡ stepAll (w .group) rs
 unfolding run advance stepAll
 run-groups [] w = refl
 run-groups (r ∷ rs) w = run-groups rs (advance w r)
@@ -99,6 +99,14 @@ module _ (file : List ℕ) (rs : List (List ℕ)) {o : Outcome} (e : o ≡ load 
 
   pub unanswered : (buffer : List ℕ) → (o .answer ≡ 0 → ⊥) → buffer ≡ sets buffer 0 (answersOf file rs)
   unanswered buffer n = rw (left n)
+
+-- the answer of the whole is that of load
+pub same-answer : (file : List ℕ) (rs : List (List ℕ)) → replayed file rs .answer ≡ load file .answer
+same-answer file rs = go (eqb (load file .answer) 0) refl
+  where
+    go : (t : Bool) → eqb (load file .answer) 0 ≡ t → cond t (answering 0 (run (opening (load file .group)) rs .group)) (load file) .answer ≡ load file .answer
+    go true e = sym (eqb-true (load file .answer) 0 e)
+    go false e = refl
 
 pub ends-well : (file list : List ℕ) → ((i : ℕ) → Fits w8 (getD file i 0)) → ((i : ℕ) → Fits w8 (getD list i 0)) → load file .answer ≡ 0 → EndsWell file (recordsIn list)
 ends-well file list in-file in-list e m j v en =

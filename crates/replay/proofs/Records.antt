@@ -1,5 +1,5 @@
 -- The records of a list, as the code takes them off: up to six octets, or up to the end.
-use Prim.Native.Nat.{ℕ, zero, suc, _+_, _-_, _/_, _≤_, _<_, _^_, min}
+use Prim.Native.Nat.{ℕ, zero, suc, _+_, _-_, _*_, _/_, _≤_, _<_, _^_, min}
 use mathlib.Core.Path.{_≡_, refl, sym, ap, _∙_}
 use mathlib.Core.Bool.{cond}
 use mathlib.Core.List.{List, [], _∷_}
@@ -17,7 +17,7 @@ use Rattle.buffer.specs.Written.{Written, storedFrom}
 use Rattle.buffer.proofs.Texts.{stored-sets}
 use Rattle.replay.specs.Replay.{recordsIn, stepAll, answersFrom}
 
-some-record : (n : ℕ) (l : List ℕ) → 0 < length l → records (suc n) l ≡ take 6 l ∷ records n (drop 6 l)
+pub some-record : (n : ℕ) (l : List ℕ) → 0 < length l → records (suc n) l ≡ take 6 l ∷ records n (drop 6 l)
 unfolding records
 some-record n l h = rw (ne-eqb (length l) 0 (λ z. omega arith))
 
@@ -26,14 +26,14 @@ unfolding records
 no-octets zero = refl
 no-octets (suc n) = refl
 
--- any number of turns will do that is enough for the octets
 no-more : (l : List ℕ) → length l ≤ 0 → l ≡ []
 no-more [] h = refl
 no-more (x ∷ l) h = absurd (omega arith)
 
-enough : (n m : ℕ) (l : List ℕ) → length l ≤ n → length l ≤ m → records n l ≡ records m l
-enough zero m l h k = rw (no-more l h) (no-octets zero ∙ sym (no-octets m))
-enough (suc n) zero l h k = rw (no-more l k) (no-octets (suc n) ∙ sym (no-octets zero))
+-- any number of records will do that is enough for the octets
+pub enough : (n m : ℕ) (l : List ℕ) → length l ≤ 6 * n → length l ≤ 6 * m → records n l ≡ records m l
+enough zero m l h k = rw (no-more l (omega arith)) (no-octets zero ∙ sym (no-octets m))
+enough (suc n) zero l h k = rw (no-more l (omega arith)) (no-octets (suc n) ∙ sym (no-octets zero))
 enough (suc n) (suc m) l h k = elim (decLt 0 (length l)) [
   | yes p ↦ some-record n l p
       ∙ ap (λ (r : List (List ℕ)). take 6 l ∷ r) (enough n m (drop 6 l) (omega (arith, length-drop 6 l)) (omega (arith, length-drop 6 l)))
@@ -63,8 +63,8 @@ pub shorter : (from to n : ℕ) → from < n → to ≡ min (from + 6) n → n -
 shorter from to n l e = min-cases (from + 6) n _ (λ s q. omega arith) (λ s q. omega arith)
 
 -- how many there are
-pub count : (n : ℕ) (l : List ℕ) → length l ≤ n → length (records n l) ≡ (length l + 5) / 6
-count zero l h = rw (no-more l h) (ap length (no-octets zero))
+pub count : (n : ℕ) (l : List ℕ) → length l ≤ 6 * n → length (records n l) ≡ (length l + 5) / 6
+count zero l h = rw (no-more l (omega arith)) (ap length (no-octets zero))
 count (suc n) l h = elim (decLt 0 (length l)) [
   | yes p ↦ ap length (some-record n l p) ∙ omega (arith, count n (drop 6 l) (omega (arith, length-drop 6 l)), length-drop 6 l)
   | no q ↦ rw (no-more l (omega arith)) (ap length (no-octets (suc n)))

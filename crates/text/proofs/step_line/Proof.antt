@@ -1,8 +1,8 @@
 -- `step_line`: its parts in order.
 use borrow.Author.Needs.{needs}
-use Rattle.report.proofs.Texts.{then}
-use Rattle.report.proofs.step_line.Statement.{statement}
-use Rattle.report.proofs.step_line.Tie as tie
+use Rattle.buffer.proofs.Texts.{then}
+use Rattle.text.proofs.step_line.Statement.{statement}
+use Rattle.text.proofs.step_line.Tie as tie
 
 pub step-line-spec : {M : Type 1} → statement M
 step-line-spec = tie.close (tie.spec
@@ -17,4 +17,4 @@ step-line-spec = tie.close (tie.spec
     let answer = end .before .before .before .before in
     let k = answer .before .before .before .before in
     let head = k .before .before .before .before in
-    (then (then (then (head .word .ensures) (k .number .ensures .0)) (answer .number2 .ensures .0)) (end .end-line .ensures), search needs)))
+    then (then (then (head .word .ensures) (k .number .ensures)) (answer .number2 .ensures)) (end .end-line .ensures)))

@@ -1,8 +1,8 @@
 -- `cab_line`: its parts in order.
 use borrow.Author.Needs.{needs}
-use Rattle.report.proofs.Texts.{then}
-use Rattle.report.proofs.cab_line.Statement.{statement}
-use Rattle.report.proofs.cab_line.Tie as tie
+use Rattle.buffer.proofs.Texts.{then}
+use Rattle.text.proofs.cab_line.Statement.{statement}
+use Rattle.text.proofs.cab_line.Tie as tie
 
 pub cab-line-spec : {M : Type 1} → statement M
 cab-line-spec = tie.close (tie.spec
@@ -18,4 +18,4 @@ cab-line-spec = tie.close (tie.spec
     let rest = end .before .before .before .before in
     let i = rest .before .before .before .before in
     let head = i .before .before .before .before in
-    (then (then (then (head .word .ensures) (i .number .ensures .0)) (rest .cab-rest .ensures .0)) (end .end-line .ensures), search needs)))
+    then (then (then (head .word .ensures) (i .number .ensures)) (rest .cab-rest .ensures)) (end .end-line .ensures)))

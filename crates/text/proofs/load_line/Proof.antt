@@ -1,8 +1,8 @@
 -- `load_line`: its parts in order.
 use borrow.Author.Needs.{needs}
-use Rattle.report.proofs.Texts.{then}
-use Rattle.report.proofs.load_line.Statement.{statement}
-use Rattle.report.proofs.load_line.Tie as tie
+use Rattle.buffer.proofs.Texts.{then}
+use Rattle.text.proofs.load_line.Statement.{statement}
+use Rattle.text.proofs.load_line.Tie as tie
 
 pub load-line-spec : {M : Type 1} → statement M
 load-line-spec = tie.close (tie.spec
@@ -15,4 +15,4 @@ load-line-spec = tie.close (tie.spec
     let end = c .before .before in
     let k = end .before .before .before .before in
     let head = k .before .before .before .before in
-    (then (then (head .word .ensures) (k .number .ensures .0)) (end .end-line .ensures), search needs)))
+    then (then (head .word .ensures) (k .number .ensures)) (end .end-line .ensures)))
