@@ -16,7 +16,7 @@ use Rattle.cabinet.specs.Cabinet.{booked}
 use Rattle.group.specs.declared.Group.{Group}
 use Rattle.group.specs.Group.{cabinet}
 use Rattle.protocol.specs.Entry.{step}
-use Rattle.protocol.specs.Listing.{Text, stateWord, versionWord, decimal, loadLine, stepLine, cabRest, cabLine, cabLines, runFrom}
+use Rattle.protocol.specs.Listing.{Text, stateWord, versionWord, decimal, loadLine, stepLine, cabLine, cabLines, runFrom}
 use Rattle.buffer.proofs.Digits.{at-most}
 use Rattle.replay.specs.Replay.{stepAll, answersFrom}
 use Rattle.report.specs.StepLines.{stepLines}

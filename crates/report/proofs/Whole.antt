@@ -1,6 +1,6 @@
 -- The whole text, by the answer of the load, and demand 3 of the run that it lists.
 use Prim.Native.Nat.{ℕ, _+_, _/_, _≤_, min}
-use mathlib.Core.Path.{_≡_, refl, sym, ap, subst, _∙_}
+use mathlib.Core.Path.{_≡_, sym, ap, subst, _∙_}
 use mathlib.Core.Bool.{true, false}
 use mathlib.Core.List.{List, _++_}
 use native.Mathlib.Nat.{zero-add}
@@ -9,7 +9,6 @@ use lib.Dec.{eqb}
 use lib.ListN.{length, take, length-take, length-append}
 use lib.Seq.{sets, length-sets, take-all}
 use borrow.Author.Tests.{eq-eqb, ne-eqb}
-use Rattle.group.specs.declared.Group.{Group}
 use Rattle.group.specs.declared.Outcome.{Outcome}
 use Rattle.load.specs.Load.{load}
 use Rattle.protocol.specs.Listing.{Text, loadLine, cabLines, records, runFrom, listing}
@@ -25,14 +24,14 @@ use Rattle.report.proofs.Prefix.{first-records}
 
 -- ---- the records that the listing takes
 
-pub within : {used n : ℕ} → used ≡ min n 60000 → used ≤ n
-within {used} {n} u = min-cases n 60000 _ (λ l q. omega arith) (λ l q. omega arith)
+pub within : (m : ℕ) {used n : ℕ} → used ≡ min n m → used ≤ n
+within m {used} {n} u = min-cases n m _ (λ l q. omega arith) (λ l q. omega arith)
 
-pub few : (n : ℕ) {used : ℕ} → used ≡ min n 60000 → (used + 5) / 6 ≤ 10000
-few n u = min-cases n 60000 _ (λ l q. omega arith) (λ l q. omega arith)
+pub limited : (n : ℕ) {used m : ℕ} → used ≡ min n m → used ≤ m
+limited n {used} {m} u = min-cases n m _ (λ l q. omega arith) (λ l q. omega arith)
 
-pub no-more : (n : ℕ) (l : List ℕ) → n ≤ 10000 → length (take n l) ≤ 10000
-no-more n l h = omega (arith, length-take n l)
+pub no-more : {n : ℕ} (l : List ℕ) → n ≤ length l → length l ≡ 10000 → length (take n l) ≤ 10000
+no-more {n} l h e = omega (arith, length-take n l)
 
 part : (used : ℕ) (list : List ℕ) → used ≡ min (length list) 60000 → take used list ≡ take 60000 list
 part used list u =
@@ -83,7 +82,7 @@ module _ (file list : List ℕ) {used : ℕ} (u : used ≡ min (length list) 600
         let n : length (answersFrom (load file .group) rs) ≡ (used + 5) / 6 = an-answer-each rs (load file .group) ∙ sym (how-many used list u) in
         let a : answers ≡ sets room 0 (answersFrom (load file .group) rs) = rw (the-records used list u, loaded) at s in
         let r : length room ≡ length answers = sym (ap length a ∙ length-sets room 0 (answersFrom (load file .group) rs)) in
-        rw (← n, a) (at-start (answersFrom (load file .group) rs) room (omega (arith, few (length list) u)))
+        rw (← n, a) (at-start (answersFrom (load file .group) rs) room (omega (arith, limited (length list) u)))
 
     lines : listing file list ≡ runFrom 1 (load file .group) rs
     unfolding listing
@@ -97,7 +96,7 @@ module _ (file list : List ℕ) {used : ℕ} (u : used ≡ min (length list) 600
         let cabs : Text = cabLines (o .group .n) (o .group) in
         let all : steps ++ cabs ≡ listing file list = rw (told room l s, last, lines) (run-lines 1 (load file .group) rs) in
         let short : length (steps ++ cabs) ≤ 200000 =
-        rw (length-append steps cabs) (omega (arith, steps-length 1 (take ((used + 5) / 6) answers), length-take ((used + 5) / 6) answers, cabs-length (o .group .n) (o .group), few (length list) u)) in
+        rw (length-append steps cabs) (omega (arith, steps-length 1 (take ((used + 5) / 6) answers), length-take ((used + 5) / 6) answers, cabs-length (o .group .n) (o .group), limited (length list) u)) in
         exactly all short (then v w)
 
   module _ (z : o .answer ≡ 0 → ⊥) where

@@ -24,6 +24,7 @@ fn step_lines(out: &mut [u8], answers: &[u8]) -> usize
     at
 }
 
+// A line for each cabinet, at most 255 of them.
 fn cab_lines(out: &mut [u8], at: usize, g: Group) -> usize
     ensures { λ r. ⌜ Written (cabLines (g .n) g) at (now (out .entry)) r (now (out .exit)) ⌝ }
     ensures { λ r. ⌜ g .n ≤ 255 ⌝ }

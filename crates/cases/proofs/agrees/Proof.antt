@@ -1,14 +1,12 @@
 -- `cases::agrees` meets its contract: the library stores the whole listing at the start of a buffer that has room for it.
 use Prim.Native.Nat.{ℕ, _≤_}
-use mathlib.Core.Path.{_≡_, _∙_, sym, ap}
+use mathlib.Core.Path.{_≡_, _∙_, sym}
 use mathlib.Core.Bool.{Bool}
 use mathlib.Core.List.{List}
 use lib.ListN.{length, take}
 use lib.Seq.{sets}
-use native.Mathlib.Nat.{zero-add}
 use native.Mathlib.Omega.{arith}
 use borrow.Author.Needs.{needs}
-use Rattle.protocol.specs.Listing.{listing}
 use Rattle.buffer.proofs.Texts.{at-start}
 use Rattle.cases.specs.Tests.{Decides, Held}
 use Rattle.cases.proofs.agrees.Statement.{statement}

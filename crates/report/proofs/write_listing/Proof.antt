@@ -2,26 +2,28 @@
 use borrow.Author.Needs.{needs}
 use mathlib.Core.Path.{sym}
 use native.Mathlib.Omega.{arith}
+use lib.ListN.{length}
 use lib.Seq.{length-take-le}
-use Rattle.report.proofs.Whole.{within, few, no-more, accepted, refused, ends-well}
+use Rattle.report.proofs.Whole.{within, limited, no-more, accepted, refused, ends-well}
 use Rattle.report.proofs.write_listing.Statement.{statement}
 use Rattle.report.proofs.write_listing.Tie as tie
 
 room : tie.Need-array-share-prefix-answers
 room c =
     let answers = c .before .before .before in
-    rw (answers .answers2 .given) (few _ (answers .before .before .before .before .least .ensures))
+    let least = answers .before .before .before .before in
+    rw (answers .answers2 .given) (omega (arith, limited (length (least .before .before .before .before .args .list .now)) (least .least .ensures)))
 
 pub write-listing-spec : {M : Type 1} → statement M
 write-listing-spec = tie.close (tie.spec
     (λ c κs. search needs)
-    (λ c. sym (length-take-le _ _ (within (c .before .least .ensures))))
+    (λ c. sym (length-take-le _ _ (within _ (c .before .least .ensures))))
     (λ c. search needs)
     (λ c κs. search needs)
     (λ c. search needs)
     room
     (λ c. sym (length-take-le _ _ (room (c .before))))
-    (λ c κs. no-more _ _ (few _ (c .before .before .before .before .before .before .before .before .least .ensures)))
+    (λ c κs. no-more _ (room (c .before)) (c .before .before .before .before .answers2 .given))
     (λ c κs. search needs)
     (λ c κs. search needs)
     (λ c. search needs)
