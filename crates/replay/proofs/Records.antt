@@ -56,9 +56,9 @@ left from to l m e =
     let few : length (drop from l) ≤ 6 = omega (arith, length-drop from l) in
     rw (drop-of-length-le (drop from l) few, e, q) (drop-of-length-le l {i = length l} (omega arith)))
 
--- fewer octets are left
-pub shorter : (from to n : ℕ) → from < n → to ≡ min (from + 6) n → n - to < n - from
-shorter from to n l e = min-cases (from + 6) n _ (λ s q. omega arith) (λ s q. omega arith)
+-- fewer octets are left, whatever a record's length
+pub shorter : (k : ℕ) {from to n : ℕ} → to ≡ min (from + k) n → 0 < k → from < n → n - to < n - from
+shorter k {from} {to} {n} e p l = min-cases (from + k) n _ (λ s q. omega arith) (λ s q. omega arith)
 
 -- how many there are
 pub count : (n : ℕ) (l : List ℕ) → length l ≤ 6 * n → length (records n l) ≡ (length l + 5) / 6

@@ -1,5 +1,5 @@
-// A group file and a list of step records, run from the first record to the last: the one loop over
-// records, and the function whose contract carries demand 3.
+// A group file and a list of step records, run from the first record to the last. This is the one
+// loop that takes steps; the contract carries demand 3.
 use group::Group;
 use group::Outcome;
 ghost use Prim.Native.Nat.{min};

@@ -27,7 +27,7 @@ run-spec = tie.close (tie.spec Inv-loop μ-loop
     (λ c. search needs)
     (λ c κs. search needs)
     (λ c κs. search needs)
-    (λ c. shorter _ _ _ (omega arith) (c .before .before .before .before .before .before .before .least .ensures))
+    (λ c. shorter _ (c .before .before .before .before .before .before .before .least .ensures) (omega arith) (omega arith))
     (λ c.
     let put = c .before .before .before in
     let step = put .before .before in
