@@ -13,6 +13,7 @@ use Rattle.cabinet.specs.declared.Version.the-variants.{Known, Unknown}
 use Rattle.cabinet.specs.declared.Cabinet.{Cabinet}
 use Rattle.group.specs.declared.Group.{Group}
 use Rattle.group.specs.declared.Outcome.{Outcome}
+use Rattle.cabinet.specs.State.{works}
 use Rattle.cabinet.specs.Cabinet.{booked}
 use Rattle.group.specs.Group.{cabinet}
 use Rattle.load.specs.Load.{load}
@@ -78,20 +79,14 @@ loadLine k = loadWord ++ space ∷ decimal k ++ newline ∷ []
 abbrev pub stepLine : ℕ → ℕ → Text
 stepLine k answer = stepWord ++ space ∷ decimal k ++ space ∷ decimal answer ++ newline ∷ []
 
--- the rest of a cabinet's line: `failed` alone, else state, version and booking
-abbrev pub cabRest : State → Cabinet → Text
-cabRest Failed c = stateWord Failed
-cabRest Normal c = stateWord Normal ++ space ∷ versionWord (c .phase .version) ++ space ∷ decimal (booked (c .image))
-cabRest CheckpBegin c = stateWord CheckpBegin ++ space ∷ versionWord (c .phase .version) ++ space ∷ decimal (booked (c .image))
-cabRest Checkpointing c = stateWord Checkpointing ++ space ∷ versionWord (c .phase .version) ++ space ∷ decimal (booked (c .image))
-cabRest Checkpointed c = stateWord Checkpointed ++ space ∷ versionWord (c .phase .version) ++ space ∷ decimal (booked (c .image))
-cabRest Error c = stateWord Error ++ space ∷ versionWord (c .phase .version) ++ space ∷ decimal (booked (c .image))
-cabRest Recovering c = stateWord Recovering ++ space ∷ versionWord (c .phase .version) ++ space ∷ decimal (booked (c .image))
-cabRest Recovered c = stateWord Recovered ++ space ∷ versionWord (c .phase .version) ++ space ∷ decimal (booked (c .image))
-cabRest Crashed c = stateWord Crashed ++ space ∷ versionWord (c .phase .version) ++ space ∷ decimal (booked (c .image))
+-- the state and, unless it is failed, version and booking
+abbrev pub cabRest : Cabinet → Text
+cabRest c =
+    stateWord (c .phase .state)
+    ++ cond (works (c .phase .state)) (space ∷ versionWord (c .phase .version) ++ space ∷ decimal (booked (c .image))) []
 
 abbrev pub cabLine : ℕ → Cabinet → Text
-cabLine i c = cabWord ++ space ∷ decimal (i + 1) ++ space ∷ cabRest (c .phase .state) c ++ newline ∷ []
+cabLine i c = cabWord ++ space ∷ decimal (i + 1) ++ space ∷ cabRest c ++ newline ∷ []
 
 -- the lines of the cabinets below n
 abbrev pub cabLines : ℕ → Group → Text

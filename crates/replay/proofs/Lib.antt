@@ -1,3 +1,3 @@
 -- The records of a list one after the other, and demand 3 of every moment of a run.
-mod Records
-mod Moments
+pub mod Records
+pub mod Moments

@@ -1,27 +1,29 @@
 -- Demand 3 of every moment of a run: the theorem of `protocol`, for the records before a moment and the one that comes then.
 use Prim.Native.Nat.{ℕ, zero, suc, _≤_, _<_}
 use mathlib.Core.Path.{_≡_, refl, sym, ap, _∙_, subst}
-use mathlib.Core.Bool.{Bool, true, false, cond, _&&_, false≢true, true≢false}
-use mathlib.Core.List.{List, [], _∷_, _++_}
+use mathlib.Core.Bool.{Bool, true, false, cond}
+use mathlib.Core.List.{List, [], _∷_}
 use lib.ListN.{length, getD, take, drop}
+use lib.Seq.{sets}
 use lib.Dec.{eqb}
-use borrow.Author.Tests.{eq-eqb, ne-eqb}
+use mir.Syntax.{w8}
+use mir.Val.{Fits}
+use borrow.Author.Tests.{eq-eqb, ne-eqb, eqb-true}
 use native.Mathlib.Omega.{arith}
-use native.Mathlib.Decide.{ℕ-discrete, decLt}
+use native.Mathlib.Decide.{decLt}
 use Rattle.group.specs.declared.Group.{Group}
 use Rattle.group.specs.declared.Outcome.{Outcome}
 use Rattle.group.specs.Group.{answering}
 use Rattle.load.specs.Load.{load, cabinetCount, feederTotal}
-use Rattle.protocol.specs.Entry.{step}
 use Rattle.protocol.specs.Listing.{records}
 use Rattle.protocol.specs.History.{World, advance, run, opening, ends}
 use Rattle.protocol.specs.Restored.{Restored, Octets, Records}
 use Rattle.protocol.proofs.Claims.Demand.{demand-three, same-state}
-use Rattle.replay.specs.Replay.{recordsIn, after, stepAll, replayed, EndsWell}
+use Rattle.replay.specs.Replay.{recordsIn, after, stepAll, answersFrom, replayed, answersOf, EndsWell}
 
 -- ---- the run and the groups of it
 
-run-groups : (rs : List (List ℕ)) (w : World) → run w rs .group ≡ stepAll (w .group) rs
+pub run-groups : (rs : List (List ℕ)) (w : World) → run w rs .group ≡ stepAll (w .group) rs
 unfolding run advance stepAll
 run-groups [] w = refl
 run-groups (r ∷ rs) w = run-groups rs (advance w r)
@@ -41,6 +43,10 @@ next-moment (suc m) (r ∷ rs) w =
     ((λ h. ih .0 (omega arith)), (λ h. ih .1 (omega arith)))
 
 -- ---- octets
+
+-- what the machine holds in a slice of octets
+typed : (l : List ℕ) → ((i : ℕ) → Fits w8 (getD l i 0)) → Octets l
+typed l h i = omega (arith, h i)
 
 octets-take : (n : ℕ) (l : List ℕ) → Octets l → Octets (take n l)
 octets-take zero l o i = omega arith
@@ -74,22 +80,43 @@ record-at (suc m) (r ∷ rs) o = record-at m rs (o .1)
 
 -- ---- what the function promises
 
-pub accepted : (file list : List ℕ) (o : Outcome) (g : Group) → o ≡ load file → o .answer ≡ 0 → g ≡ stepAll (o .group) (recordsIn list) → answering 0 g ≡ replayed file list
-accepted file list o g e a q =
-    ap (answering 0) (q ∙ ap (λ (x : Outcome). stepAll (x .group) (recordsIn list)) e ∙ sym (run-groups (recordsIn list) (opening (load file .group))))
-    ∙ sym (ap (λ (t : Bool). cond t (answering 0 (run (opening (load file .group)) (recordsIn list) .group)) (load file)) (eq-eqb (load file .answer) 0 (sym (ap (λ (x : Outcome). x .answer) e) ∙ a)))
+module _ (file : List ℕ) (rs : List (List ℕ)) {o : Outcome} (e : o ≡ load file) where
+  taken : o .answer ≡ 0 → eqb (load file .answer) 0 ≡ true
+  taken z = eq-eqb (load file .answer) 0 (sym (ap (λ (x : Outcome). x .answer) e) ∙ z)
 
-pub refused : (file list : List ℕ) (o : Outcome) → o ≡ load file → (o .answer ≡ 0 → ⊥) → o ≡ replayed file list
-refused file list o e a =
-    e ∙ sym (ap (λ (t : Bool). cond t (answering 0 (run (opening (load file .group)) (recordsIn list) .group)) (load file)) (ne-eqb (load file .answer) 0 (λ z. a (ap (λ (x : Outcome). x .answer) e ∙ z))))
+  left : (o .answer ≡ 0 → ⊥) → eqb (load file .answer) 0 ≡ false
+  left n = ne-eqb (load file .answer) 0 (λ z. n (ap (λ (x : Outcome). x .answer) e ∙ z))
 
-pub ends-well : (file list : List ℕ) → load file .answer ≡ 0 → Octets file → Octets list → EndsWell file list
-ends-well file list e of ol m j v en = elim (decLt m (length (recordsIn list))) [
-  | yes l ↦ let step-on = next-moment m (recordsIn list) (opening (load file .group)) .1 l in
-      subst (λ (w : World). Restored (cabinetCount file) (feederTotal file) (w .history) (w .group)) (sym step-on)
-      (demand-three file of e (take m (recordsIn list)) (records-take m (recordsIn list) (records-octets (length list) list ol)) (getD (recordsIn list) m [])
-      (record-at m (recordsIn list) (records-octets (length list) list ol)) j v
-      (subst (λ (w : World). ends (after file list m .group) (w .group) j ≡ true) step-on en))
-  | no n ↦ let same = next-moment m (recordsIn list) (opening (load file .group)) .0 (omega arith) in
-      absurd (same-state (after file list m .group) j (subst (λ (w : World). ends (after file list m .group) (w .group) j ≡ true) same en))
-]
+  pub accepted : {g : Group} → o .answer ≡ 0 → g ≡ stepAll (o .group) rs → answering 0 g ≡ replayed file rs
+  accepted z q = rw (taken z) (ap (answering 0) (q ∙ ap (λ (x : Outcome). stepAll (x .group) rs) e ∙ sym (run-groups rs (opening (load file .group)))))
+
+  pub answered : (before : List ℕ) {after : List ℕ} → o .answer ≡ 0 → after ≡ sets before 0 (answersFrom (o .group) rs) → after ≡ sets before 0 (answersOf file rs)
+  answered before z q = rw (taken z, ← e) q
+
+  pub refused : (o .answer ≡ 0 → ⊥) → o ≡ replayed file rs
+  refused n = rw (left n) e
+
+  pub unanswered : (buffer : List ℕ) → (o .answer ≡ 0 → ⊥) → buffer ≡ sets buffer 0 (answersOf file rs)
+  unanswered buffer n = rw (left n)
+
+-- the answer of the whole is that of load
+pub same-answer : (file : List ℕ) (rs : List (List ℕ)) → replayed file rs .answer ≡ load file .answer
+same-answer file rs = go (eqb (load file .answer) 0) refl
+  where
+    go : (t : Bool) → eqb (load file .answer) 0 ≡ t → cond t (answering 0 (run (opening (load file .group)) rs .group)) (load file) .answer ≡ load file .answer
+    go true e = sym (eqb-true (load file .answer) 0 e)
+    go false e = refl
+
+pub ends-well : (file list : List ℕ) → ((i : ℕ) → Fits w8 (getD file i 0)) → ((i : ℕ) → Fits w8 (getD list i 0)) → load file .answer ≡ 0 → EndsWell file (recordsIn list)
+ends-well file list in-file in-list e m j v en =
+    let rs : List (List ℕ) = recordsIn list in
+    let octets : Records rs = records-octets (length list) list (typed list in-list) in
+    let moments = next-moment m rs (opening (load file .group)) in
+    elim (decLt m (length rs)) [
+      | yes l ↦
+          subst (λ (w : World). Restored (cabinetCount file) (feederTotal file) (w .history) (w .group)) (sym (moments .1 l))
+          (demand-three file (typed file in-file) e (take m rs) (records-take m rs octets) (getD rs m []) (record-at m rs octets) j v
+          (subst (λ (w : World). ends (after file rs m .group) (w .group) j ≡ true) (moments .1 l) en))
+      | no n ↦
+          absurd (same-state (after file rs m .group) j (subst (λ (w : World). ends (after file rs m .group) (w .group) j ≡ true) (moments .0 (omega arith)) en))
+    ]

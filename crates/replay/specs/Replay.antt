@@ -1,5 +1,5 @@
--- The run of a file and a list of step records, and demand 3 of every moment of it.
-use Prim.Native.Nat.{ℕ, zero, suc}
+-- The run of a file and step records, what the steps answer, and demand 3 of every moment of it.
+use Prim.Native.Nat.{ℕ, suc}
 use mathlib.Core.Path.{_≡_}
 use mathlib.Core.Bool.{true, cond}
 use mathlib.Core.List.{List, [], _∷_}
@@ -19,21 +19,30 @@ use Rattle.protocol.specs.Restored.{Restored, worldAfter}
 abbrev pub recordsIn : List ℕ → List (List ℕ)
 recordsIn list = records (length list) list
 
--- the group and its history after the first m records
-abbrev pub after : List ℕ → List ℕ → ℕ → World
-after file list m = worldAfter file (take m (recordsIn list))
+-- the group and its history after the first m of the records rs
+abbrev pub after : List ℕ → List (List ℕ) → ℕ → World
+after file rs m = worldAfter file (take m rs)
 
 -- "each step gets what the one before returned, refused or not"
 unfoldable pub stepAll : Group → List (List ℕ) → Group
 stepAll g [] = g
 stepAll g (r ∷ rs) = stepAll (step g r .group) rs
 
+-- what each of these steps answers, in order
+unfoldable pub answersFrom : Group → List (List ℕ) → List ℕ
+answersFrom g [] = []
+answersFrom g (r ∷ rs) = step g r .answer ∷ answersFrom (step g r .group) rs
+
 -- what load answers, and where it answers 0 the group after the last record
-abbrev pub replayed : List ℕ → List ℕ → Outcome
-replayed file list = cond (eqb (load file .answer) 0) (answering 0 (worldAfter file (recordsIn list) .group)) (load file)
+abbrev pub replayed : List ℕ → List (List ℕ) → Outcome
+replayed file rs = cond (eqb (load file .answer) 0) (answering 0 (worldAfter file rs .group)) (load file)
+
+-- what the steps answer; none is taken where load refuses
+abbrev pub answersOf : List ℕ → List (List ℕ) → List ℕ
+answersOf file rs = cond (eqb (load file .answer) 0) (answersFrom (load file .group) rs) []
 
 -- demand 3, whichever record it is in which the coordinator of a working cabinet j ends a recovery
-abbrev pub EndsWell : List ℕ → List ℕ → Type 0
-EndsWell file list =
-    (m j : ℕ) → works (stateOf (after file list m .group) j) ≡ true → ends (after file list m .group) (after file list (suc m) .group) j ≡ true
-    → Restored (cabinetCount file) (feederTotal file) (after file list (suc m) .history) (after file list (suc m) .group)
+abbrev pub EndsWell : List ℕ → List (List ℕ) → Type 0
+EndsWell file rs =
+    (m j : ℕ) → works (stateOf (after file rs m .group) j) ≡ true → ends (after file rs m .group) (after file rs (suc m) .group) j ≡ true
+    → Restored (cabinetCount file) (feederTotal file) (after file rs (suc m) .history) (after file rs (suc m) .group)

@@ -1,7 +1,4 @@
--- Laws that the proofs of this crate share, and what the listing needs of its files.
-pub mod Texts
-pub mod Digits
-pub mod Cabinets
-pub mod Records
-pub mod Whole
+-- What the text is made of, how long it is, and what the listing needs of its files.
+pub mod Lines
 pub mod Prefix
+pub mod Whole

@@ -12,7 +12,7 @@ use borrow.Author.Tests.{le-leb, eqb-true}
 use Rattle.group.specs.Group.{answering}
 use Rattle.load.specs.Load.{number, cabinetCount, totalLength, offsetsRight, refuse, noGroup, loadWith, load}
 use Rattle.protocol.specs.Listing.{records, listing}
-use Rattle.report.proofs.Records.{some-record}
+use Rattle.replay.proofs.Records.{some-record}
 
 -- ---- the steps
 
@@ -21,7 +21,7 @@ drop-take zero m l = rw zero-add
 drop-take (suc n) m [] = rw (take-nil (suc n + m), take-nil m)
 drop-take (suc n) m (x ∷ l) = rw suc-add (drop-take n m l)
 
-first-records : (n : ℕ) (l : List ℕ) → records n (take (6 * n) l) ≡ records n l
+pub first-records : (n : ℕ) (l : List ℕ) → records n (take (6 * n) l) ≡ records n l
 unfolding records
 first-records zero l = refl
 first-records (suc n) [] = rw (take-nil (6 * suc n))

@@ -1,2 +1,2 @@
--- The listing written: what a writing function leaves in its buffer.
-pub mod Written
+-- The step lines of a list of answers.
+pub mod StepLines

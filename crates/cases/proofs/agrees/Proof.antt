@@ -1,25 +1,21 @@
 -- `cases::agrees` meets its contract: the library stores the whole listing at the start of a buffer that has room for it.
 use Prim.Native.Nat.{ℕ, _≤_}
-use mathlib.Core.Path.{_≡_, _∙_, sym, ap}
+use mathlib.Core.Path.{_≡_, _∙_, sym}
 use mathlib.Core.Bool.{Bool}
 use mathlib.Core.List.{List}
 use lib.ListN.{length, take}
-use lib.Seq.{sets, sets-eq, take-append-seam}
-use native.Mathlib.Nat.{zero-add}
+use lib.Seq.{sets}
 use native.Mathlib.Omega.{arith}
 use borrow.Author.Needs.{needs}
-use Rattle.protocol.specs.Listing.{listing}
+use Rattle.buffer.proofs.Texts.{at-start}
 use Rattle.cases.specs.Tests.{Decides, Held}
 use Rattle.cases.proofs.agrees.Statement.{statement}
 use Rattle.cases.proofs.agrees.Tie as tie
 
-stored : (whole before : List ℕ) → length whole ≤ length before → take (length whole) (sets before 0 whole) ≡ whole
-stored whole before h = rw (sets-eq whole before 0 (omega arith)) (take-append-seam whole _)
-
 decided : (r : Bool) (whole text before after : List ℕ) (end : ℕ) → end ≡ length whole → after ≡ sets before 0 whole → end ≤ length before
     → Decides r (Held after end text) → Decides r (text ≡ whole)
 decided r whole text before after end l s room d =
-    let all : take end after ≡ whole = rw (l, s) (stored whole before (omega arith)) in
+    let all : take end after ≡ whole = rw (l, s) (at-start whole before (omega arith)) in
     record {
       sound = λ t. sym (d .sound t .start) ∙ all;
       complete = λ e. d .complete (record { ends = rw e l; start = all ∙ sym e });
@@ -41,7 +37,7 @@ returns : tie.Need-returns
 returns c =
     let wrote = c .before .before .before .write-listing .ensures in
     let room = slice-aggregate-write-listing (c .before .before .before .before) in
-    decided _ _ _ _ _ _ (wrote .0) (wrote .1 .0) (omega (arith, wrote .1 .1, room)) (c .holds .ensures)
+    decided _ _ _ _ _ _ (wrote .0) (wrote .1 .0) (omega (arith, wrote .1 .1 .0, room)) (c .holds .ensures)
 
 pub agrees-spec : {M : Type 1} → statement M
 agrees-spec =

@@ -6,7 +6,7 @@ use Rattle.listing.proofs.main.Statement.{statement}
 use Rattle.listing.proofs.main.Tie as tie
 
 fits : tie.Need-array-share-prefix-text
-fits c = rw (c .text2 .given) (c .before .write-listing .ensures .1 .1)
+fits c = rw (c .text2 .given) (c .before .write-listing .ensures .1 .1 .0)
 
 pub main-spec : {M : Type 1} → statement M
 main-spec = tie.close (tie.spec

@@ -1,8 +1,10 @@
 -- `replay`: load's refusal, or the run; and demand 3 of every moment of it.
 use borrow.Author.Needs.{needs}
-use mathlib.Core.Path.{sym, ap, _∙_}
-use Rattle.group.specs.declared.Outcome.{Outcome}
-use Rattle.replay.proofs.Moments.{accepted, refused, ends-well}
+use mathlib.Core.Path.{ap, _∙_}
+use lib.ListN.{length}
+use lib.Seq.{length-sets}
+use Rattle.replay.specs.Replay.{recordsIn, answersFrom}
+use Rattle.replay.proofs.Moments.{accepted, answered, refused, unanswered, ends-well}
 use Rattle.replay.proofs.replay.Statement.{statement}
 use Rattle.replay.proofs.replay.Tie as tie
 
@@ -11,10 +13,31 @@ replay-spec = tie.close (tie.spec
     (λ c κs. search needs)
     (λ c κs. search needs)
     (λ c.
-    let at = c .before .before .before .before .before .before .args in
-    let o = c .before .before .before .load .ensures in
-    let zero = c .before .if1 .taken in
-    (accepted (at .file .now) (at .list .now) _ _ o zero (c .run .ensures), λ e. ends-well (at .file .now) (at .list .now) (sym (ap (λ (x : Outcome). x .answer) o) ∙ zero)))
+    let run = c .before .before in
+    let load = run .before .before .before .before in
+    let a = load .before .before .before .before .args in
+    ap length (run .run .ensures .1) ∙ length-sets (a .answers .now) 0 (answersFrom (load .load .result .group) (recordsIn (a .list .now))))
     (λ c.
-    let at = c .before .before .before .before .before .args in
-    (refused (at .file .now) (at .list .now) _ (c .before .before .load .ensures) (c .if1 .left), λ e. absurd (c .if1 .left e))))
+    let run = c .before .before in
+    let test = run .before .before in
+    let load = test .before .before in
+    let known = load .before .before in
+    let a = known .before .before .args in
+    let o = load .load .ensures in (
+      accepted (a .file .now) (recordsIn (a .list .now)) o (test .if1 .taken) (run .run .ensures .0),
+      (
+        answered (a .file .now) (recordsIn (a .list .now)) o (a .answers .now) (test .if1 .taken) (run .run .ensures .1),
+        ends-well (a .file .now) (a .list .now) (known .before .shared-slice-known .given) (known .shared-slice-known2 .given),
+      ),
+    ))
+    (λ c.
+    let load = c .before .before in
+    let known = load .before .before in
+    let a = known .before .before .args in
+    let o = load .load .ensures in (
+      refused (a .file .now) (recordsIn (a .list .now)) o (c .if1 .left),
+      (
+        unanswered (a .file .now) (recordsIn (a .list .now)) o (a .answers .now) (c .if1 .left),
+        ends-well (a .file .now) (a .list .now) (known .before .shared-slice-known .given) (known .shared-slice-known2 .given),
+      ),
+    )))

@@ -1,28 +1,39 @@
 -- `run` goes through the records in order: the invariant is what is left to do.
 use borrow.Author.Needs.{needs}
 use Prim.Native.Nat.{_-_}
+use mathlib.Core.Path.{ap, _∙_}
 use native.Mathlib.Omega.{arith}
 use lib.ListN.{length}
-use Rattle.replay.specs.Replay.{recordsIn, stepAll}
+use lib.Seq.{sets, length-sets}
+use Rattle.replay.specs.Replay.{recordsIn, stepAll, answersFrom}
 use Rattle.replay.proofs.Records.{To-do, start, shorter, turn, ended}
 use Rattle.replay.proofs.run.Statement.{statement}
 use Rattle.replay.proofs.run.Tie as tie
 
 abbrev Inv-loop : tie.InvT-loop
-Inv-loop list g₀ from₀ g from = To-do list (stepAll g₀ (recordsIn list)) g from
+Inv-loop list answers₀ g₀ from₀ at₀ answers g from at =
+    To-do list (stepAll g₀ (recordsIn list)) (sets answers₀ 0 (answersFrom g₀ (recordsIn list))) answers g from at
 
 abbrev μ-loop : tie.MeasureT-loop
-μ-loop list g₀ from₀ g from = length list - from
+μ-loop list answers₀ g₀ from₀ at₀ answers g from at = length list - from
 
 pub run-spec : {M : Type 1} → statement M
 run-spec = tie.close (tie.spec Inv-loop μ-loop
-    (λ c. start _ _)
+    (λ c. start _ _ _ (omega arith))
     (λ c. search needs)
     (λ c κs. search needs)
     (λ c. search needs)
     (λ c. search needs)
     (λ c. search needs)
     (λ c κs. search needs)
-    (λ c. shorter _ _ _ (omega arith) (c .before .before .before .least .ensures))
-    (λ c. turn (c .before .before .before .before .before .loop .inv) (omega arith) (c .before .before .before .least .ensures) (c .before .step .ensures))
+    (λ c κs. search needs)
+    (λ c. shorter _ (c .before .before .before .before .before .before .before .least .ensures) (omega arith) (omega arith))
+    (λ c.
+    let put = c .before .before .before in
+    let step = put .before .before in
+    let to = step .before .before in
+    turn (to .before .before .loop .inv) (omega arith) (to .least .ensures) (step .step .ensures) (put .put .ensures))
+    (λ c.
+    let a = c .before .before .before .before .args in
+    ap length (ended (c .before .loop .inv) (omega arith) .1) ∙ length-sets (a .answers .now) 0 (answersFrom (a .g) (recordsIn (a .list .now))))
     (λ c. ended (c .before .loop .inv) (omega arith)))

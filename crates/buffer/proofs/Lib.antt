@@ -1,0 +1,3 @@
+-- Texts written one after the other, and the digits of a number.
+pub mod Texts
+pub mod Digits

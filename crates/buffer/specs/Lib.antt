@@ -1,0 +1,2 @@
+-- What a writing function leaves in its buffer.
+pub mod Written

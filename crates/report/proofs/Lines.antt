@@ -1,0 +1,78 @@
+-- The text of a run as step lines and cabinet lines, and how long it is.
+use Prim.Native.Nat.{ℕ, zero, suc, _+_, _*_, _≤_}
+use mathlib.Core.Path.{_≡_, refl, sym, ap, _∙_}
+use mathlib.Core.Bool.{Bool, true, false, cond}
+use mathlib.Core.List.{List, [], _∷_, _++_, append-assoc, append-nil}
+use native.Mathlib.Nat.{add-zero, add-suc, suc-add}
+use native.Mathlib.Omega.{arith}
+use lib.ListN.{length, length-append}
+use Rattle.cabinet.specs.declared.State.{State}
+use Rattle.cabinet.specs.declared.State.the-variants.{Failed, Normal, CheckpBegin, Checkpointing, Checkpointed, Error, Recovering, Recovered, Crashed}
+use Rattle.cabinet.specs.declared.Version.{Version}
+use Rattle.cabinet.specs.declared.Version.the-variants.{Known, Unknown}
+use Rattle.cabinet.specs.declared.Cabinet.{Cabinet}
+use Rattle.cabinet.specs.State.{works}
+use Rattle.cabinet.specs.Cabinet.{booked}
+use Rattle.group.specs.declared.Group.{Group}
+use Rattle.group.specs.Group.{cabinet}
+use Rattle.protocol.specs.Entry.{step}
+use Rattle.protocol.specs.Listing.{Text, stateWord, versionWord, decimal, loadLine, stepLine, cabLine, cabLines, runFrom}
+use Rattle.buffer.proofs.Digits.{at-most}
+use Rattle.replay.specs.Replay.{stepAll, answersFrom}
+use Rattle.report.specs.StepLines.{stepLines}
+
+-- ---- one line more, and the whole run
+
+pub one-more : (k : ℕ) (answers : List ℕ) (answer : ℕ) → stepLines k (answers ++ (answer ∷ [])) ≡ stepLines k answers ++ stepLine (k + length answers) answer
+one-more k [] answer = rw (add-zero k) (append-nil (stepLine k answer))
+one-more k (a ∷ answers) answer =
+    rw (add-suc k (length answers), ← suc-add k (length answers))
+    (ap (λ (t : Text). stepLine k a ++ t) (one-more (suc k) answers answer) ∙ sym (append-assoc (stepLine k a) (stepLines (suc k) answers) (stepLine (suc k + length answers) answer)))
+
+pub run-lines : (k : ℕ) (g : Group) (rs : List (List ℕ)) → stepLines k (answersFrom g rs) ++ cabLines (stepAll g rs .n) (stepAll g rs) ≡ runFrom k g rs
+unfolding answersFrom stepAll runFrom
+run-lines k g [] = refl
+run-lines k g (r ∷ rs) =
+    append-assoc (stepLine k (step g r .answer)) _ _ ∙ ap (λ (t : Text). stepLine k (step g r .answer) ++ t) (run-lines (suc k) (step g r .group) rs)
+
+-- ---- lengths
+
+pub load-length : (k : ℕ) → length (loadLine k) ≤ 11
+load-length k = simp length-append (omega (arith, at-most 5 k))
+
+step-length : (k answer : ℕ) → length (stepLine k answer) ≤ 17
+step-length k answer = simp length-append (omega (arith, at-most 5 k, at-most 5 answer))
+
+pub steps-length : (k : ℕ) (answers : List ℕ) → length (stepLines k answers) ≤ 17 * length answers
+steps-length k [] = omega arith
+steps-length k (a ∷ answers) = rw (length-append (stepLine k a) (stepLines (suc k) answers)) (omega (arith, step-length k a, steps-length (suc k) answers))
+
+state-length : (s : State) → length (stateWord s) ≤ 13
+state-length Failed = omega arith
+state-length Normal = omega arith
+state-length CheckpBegin = omega arith
+state-length Checkpointing = omega arith
+state-length Checkpointed = omega arith
+state-length Error = omega arith
+state-length Recovering = omega arith
+state-length Recovered = omega arith
+state-length Crashed = omega arith
+
+version-length : (v : Version) → length (versionWord v) ≤ 1
+version-length (Known b) = omega arith
+version-length (Unknown b) = omega arith
+
+either-length : (b : Bool) (t : Text) → length (cond b t []) ≤ length t
+either-length true t = omega arith
+either-length false t = omega arith
+
+cab-length : (i : ℕ) (c : Cabinet) → length (cabLine i c) ≤ 40
+cab-length i c =
+    let t : Text = 32 ∷ versionWord (c .phase .version) ++ 32 ∷ decimal (booked (c .image)) in
+    let e : length t ≤ 8 = simp length-append (omega (arith, version-length (c .phase .version), at-most 5 (booked (c .image)))) in
+    simp length-append
+    (omega (arith, at-most 5 (i + 1), state-length (c .phase .state), either-length (works (c .phase .state)) t))
+
+pub cabs-length : (n : ℕ) (g : Group) → length (cabLines n g) ≤ 40 * n
+cabs-length zero g = omega arith
+cabs-length (suc n) g = rw (length-append (cabLines n g) (cabLine n (cabinet g n))) (omega (arith, cabs-length n g, cab-length n (cabinet g n)))

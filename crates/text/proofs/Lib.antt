@@ -1,0 +1,2 @@
+-- The end of a cabinet's line.
+mod Cabinets
