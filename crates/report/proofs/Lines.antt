@@ -23,11 +23,16 @@ use Rattle.report.specs.StepLines.{stepLines}
 
 -- ---- one line more, and the whole run
 
-pub one-more : (k : ℕ) (answers : List ℕ) (answer : ℕ) → stepLines k (answers ++ (answer ∷ [])) ≡ stepLines k answers ++ stepLine (k + length answers) answer
+one-more : (k : ℕ) (answers : List ℕ) (answer : ℕ) → stepLines k (answers ++ (answer ∷ [])) ≡ stepLines k answers ++ stepLine (k + length answers) answer
 one-more k [] answer = rw (add-zero k) (append-nil (stepLine k answer))
 one-more k (a ∷ answers) answer =
     rw (add-suc k (length answers), ← suc-add k (length answers))
     (ap (λ (t : Text). stepLine k a ++ t) (one-more (suc k) answers answer) ∙ sym (append-assoc (stepLine k a) (stepLines (suc k) answers) (stepLine (suc k + length answers) answer)))
+
+pub next-line : (answers : List ℕ) (i answer : ℕ) → length answers ≡ i → stepLines 1 (answers ++ (answer ∷ [])) ≡ stepLines 1 answers ++ stepLine (i + 1) answer
+next-line answers i answer e =
+    let k : i + 1 ≡ 1 + length answers = omega arith in
+    rw k (one-more 1 answers answer)
 
 pub run-lines : (k : ℕ) (g : Group) (rs : List (List ℕ)) → stepLines k (answersFrom g rs) ++ cabLines (stepAll g rs .n) (stepAll g rs) ≡ runFrom k g rs
 unfolding answersFrom stepAll runFrom

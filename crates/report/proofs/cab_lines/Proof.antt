@@ -4,7 +4,8 @@ use Prim.Native.Nat.{_≤_, _-_}
 use mathlib.Core.Path.{_≡_}
 use native.Mathlib.Omega.{arith}
 use native.Mathlib.Numerals.{add-one}
-use Rattle.protocol.specs.Listing.{cabLines}
+use Rattle.group.specs.Group.{cabinet}
+use Rattle.protocol.specs.Listing.{cabLine, cabLines}
 use Rattle.buffer.specs.Written.{Written}
 use Rattle.buffer.proofs.Texts.{then, nothing}
 use Rattle.report.proofs.cab_lines.Statement.{statement}
@@ -25,7 +26,8 @@ cab-lines-spec = tie.close (tie.spec Inv-loop μ-loop
     (λ c. search needs)
     (λ c.
     let l = c .before .before .before .before .before .before .loop in
+    let g = c .before .before .before .before .before .before .before .before .args .g in
     let line = rw (c .before .before .before .cabinet .ensures) at (c .before .before .cab-line .ensures) in
-    (search needs, rw (add-one (l .i)) (then (l .inv .1) line)))
+    (search needs, rw (add-one (l .i)) (then {d = cabLine (l .i) (cabinet g (l .i))} (l .inv .1) line)))
     (λ c. search needs)
     (λ c. let e : c .before .loop .i ≡ c .before .before .before .args .g .n = omega arith in (rw e at (c .before .loop .inv .1), search needs)))

@@ -1,15 +1,13 @@
 -- `step_lines` goes through the answers in order: the invariant is that the lines of those passed are written.
 use borrow.Author.Needs.{needs}
-use Prim.Native.Nat.{_+_, _≤_, _-_}
-use mathlib.Core.Path.{_≡_}
-use native.Mathlib.Omega.{arith}
+use Prim.Native.Nat.{_≤_, _-_}
 use native.Mathlib.Numerals.{add-one}
-use lib.ListN.{length, take}
+use lib.ListN.{length, getD, take}
 use lib.Seq.{take-suc, take-all, length-take-le}
 use Rattle.buffer.specs.Written.{Written}
 use Rattle.buffer.proofs.Texts.{then, nothing}
 use Rattle.report.specs.StepLines.{stepLines}
-use Rattle.report.proofs.Lines.{one-more}
+use Rattle.report.proofs.Lines.{next-line}
 use Rattle.report.proofs.step_lines.Statement.{statement}
 use Rattle.report.proofs.step_lines.Tie as tie
 
@@ -31,9 +29,7 @@ step-lines-spec = tie.close (tie.spec Inv-loop μ-loop
     (λ c.
     let l = c .before .before .before .before .before .before .loop in
     let answers = c .before .before .before .before .before .before .before .before .before .args .answers .now in
-    let n : length (take (l .i) answers) ≡ l .i = length-take-le (l .i) answers (l .inv .0) in
-    let k : l .i + 1 ≡ 1 + length (take (l .i) answers) = omega arith in
-    let line = rw k at (c .before .before .step-line .ensures) in
-    (search needs, rw (add-one (l .i), take-suc answers (l .i) 0 (search needs), one-more 1 (take (l .i) answers)) (then (l .inv .1) line)))
+    let number = next-line (take (l .i) answers) (l .i) (getD answers (l .i) 0) (length-take-le (l .i) answers (l .inv .0)) in
+    (search needs, rw (add-one (l .i), take-suc answers (l .i) 0 (search needs), number) (then (l .inv .1) (c .before .before .step-line .ensures))))
     (λ c. search needs)
     (λ c. rw (take-all _ _ (c .loop-test .left)) at (c .before .loop .inv .1)))
