@@ -4,11 +4,11 @@ use line::Check;
 use line::Payload;
 use line::Place;
 ghost use mathlib.Core.Path.{_≡_};
-ghost use mathlib.Core.Bool.{false, cond, _||_};
+ghost use mathlib.Core.Bool.{false, cond};
 ghost use Prim.Native.Nat.{_-_, _*_, _+_, _<_};
 ghost use lib.Dec.{eqb};
 ghost use lib.ListN.{getD, set};
-ghost use Rattle.marks.specs.Marks.{marked, covers};
+ghost use Rattle.marks.specs.Marks.{covers};
 ghost use Rattle.line.specs.Packet.{startCheck};
 ghost use Rattle.cabinet.specs.State.{
   rank,
@@ -135,12 +135,6 @@ pub struct Cabinet {
 
 // ---- states and versions
 
-fn or(a: bool, b: bool) -> bool
-    ensures { λ r. ⌜ r ≡ a || b ⌝ }
-{
-    if a { true } else { b }
-}
-
 // A number for each state, by which states are compared.
 pub fn rank(s: State) -> u8
     ensures { λ r. ⌜ r ≡ rank s ⌝ }
@@ -174,21 +168,21 @@ pub fn works(s: State) -> bool
 pub fn in_recovery(s: State) -> bool
     ensures { λ r. ⌜ r ≡ inRecovery s ⌝ }
 {
-    or(is_in(s, State::Error), in_restoring(s))
+    marks::or(is_in(s, State::Error), in_restoring(s))
 }
 
 // In recovering or recovered.
 pub fn in_restoring(s: State) -> bool
     ensures { λ r. ⌜ r ≡ inRestoring s ⌝ }
 {
-    or(is_in(s, State::Recovering), is_in(s, State::Recovered))
+    marks::or(is_in(s, State::Recovering), is_in(s, State::Recovered))
 }
 
 // Past the cut of a save: in checkpointing or checkpointed.
 pub fn in_saving(s: State) -> bool
     ensures { λ r. ⌜ r ≡ inSaving s ⌝ }
 {
-    or(
+    marks::or(
         is_in(s, State::Checkpointing),
         is_in(s, State::Checkpointed),
     )
@@ -260,23 +254,7 @@ pub fn is_for(alarm: Alarm, place: Place) -> bool
     }
 }
 
-// ---- marks and registers by number: past the eighth none is marked, and nothing changes
-
-pub fn marked(marks: [bool; 8], j: u8) -> bool
-    ensures { λ r. ⌜ r ≡ marked marks j ⌝ }
-{
-    if j < 8 { marks[j as usize] } else { false }
-}
-
-pub fn set_mark(marks: [bool; 8], j: u8, mark: bool) -> [bool; 8]
-    ensures { λ r. ⌜ r ≡ set marks j mark ⌝ }
-{
-    let mut changed = marks;
-    if j < 8 {
-        changed[j as usize] = mark;
-    }
-    changed
-}
+// ---- registers by number: past the eighth all are at their start, and nothing changes
 
 pub fn check_at(checks: [Check; 8], j: u8) -> Check
     ensures { λ r. ⌜ r ≡ getD checks j startCheck ⌝ }
@@ -315,7 +293,7 @@ fn restarted(marks: [bool; 8], checks: [Check; 8]) -> [Check; 8]
     let mut left = checks;
     let mut j: u8 = 0;
     while j < 8 {
-        let next = restart_if(marked(marks, j), left, j);
+        let next = restart_if(marks::marked(marks, j), left, j);
         left = next;
         j += 1;
     }
@@ -408,10 +386,10 @@ fn without_link(links: [bool; 8], i: u8, a: u8, b: u8) -> [bool; 8]
     ensures { λ r. ⌜ r ≡ cond (eqb i a) (set links b false) (cond (eqb i b) (set links a false) links) ⌝ }
 {
     if i == a {
-        return set_mark(links, b, false);
+        return marks::set_mark(links, b, false);
     }
     if i == b {
-        return set_mark(links, a, false);
+        return marks::set_mark(links, a, false);
     }
     links
 }
@@ -424,7 +402,7 @@ pub fn struck_at(i: u8, place: Place, table: Table) -> Table
     let links = table.links;
     match place {
         Place::Cabinet(a) => Table {
-            cabinets: set_mark(cabinets, a, false),
+            cabinets: marks::set_mark(cabinets, a, false),
             links: links,
         },
         Place::Link(a, b) => Table {
@@ -615,7 +593,7 @@ impl Cabinet {
     {
         let mut registers = self.registers;
         let hurt = registers.hurt;
-        let hurt = set_mark(hurt, j, true);
+        let hurt = marks::set_mark(hurt, j, true);
         registers.hurt = hurt;
         self.with_registers(registers)
     }
@@ -644,11 +622,11 @@ impl Cabinet {
         let taken = set_check(taken, j, Check::start());
         registers.taken = taken;
         let hurt = registers.hurt;
-        let hurt = set_mark(hurt, j, false);
+        let hurt = marks::set_mark(hurt, j, false);
         registers.hurt = hurt;
         let mut noted = self.noted;
         let come = noted.come;
-        let come = set_mark(come, j, true);
+        let come = marks::set_mark(come, j, true);
         noted.come = come;
         self.with_registers(registers).with_noted(noted)
     }
@@ -698,7 +676,7 @@ impl Cabinet {
         ensures { λ r. ⌜ r ≡ owing self j owes ⌝ }
     {
         let owed = self.owed;
-        self.with_owed(set_mark(owed, j, owes))
+        self.with_owed(marks::set_mark(owed, j, owes))
     }
 
     // The coordinator has the saved report on j.
@@ -707,7 +685,7 @@ impl Cabinet {
     {
         let mut noted = self.noted;
         let saved = noted.saved;
-        let saved = set_mark(saved, j, true);
+        let saved = marks::set_mark(saved, j, true);
         noted.saved = saved;
         self.with_noted(noted)
     }
@@ -750,7 +728,7 @@ impl Cabinet {
     {
         let mut noted = self.noted;
         let heard = noted.heard;
-        let heard = set_mark(heard, j, true);
+        let heard = marks::set_mark(heard, j, true);
         noted.heard = heard;
         self.with_noted(noted)
     }
@@ -788,7 +766,7 @@ impl Cabinet {
     {
         let mut noted = self.noted;
         let restored = noted.restored;
-        let restored = set_mark(restored, j, true);
+        let restored = marks::set_mark(restored, j, true);
         noted.restored = restored;
         self.with_noted(noted)
     }

@@ -9,13 +9,13 @@ use line::Line;
 use line::Packet;
 ghost use mathlib.Core.Path.{_≡_};
 ghost use mathlib.Core.Bool.{cond, _&&_};
+ghost use Prim.Native.Nat.{_<_};
 ghost use lib.ListN.{getD};
 ghost use Rattle.cabinet.specs.declared.State.the-variants.{Error, Crashed};
 ghost use Rattle.cabinet.specs.State.{works, isIn, inRecovery, isUnknown};
 ghost use Rattle.cabinet.specs.Cabinet.{crashing};
-ghost use Rattle.line.specs.declared.Packet.the-variants.{Checkp};
-ghost use Rattle.group.specs.Lines.{emptyLines, lineTo, withLineTo, putIf, putRowTo, putAll, checkps, putCheckps};
-ghost use Rattle.group.specs.Group.{cabinet, withCabinet, stateOf, outgoing, withOutgoing, line, withLine, blankSlots, slot, withSlots, withSlot, rowsOf, ofRows, withSound, those, some, working, recoveringOnes, unsure, isCrashed, answering, taken, crashAll, crashed};
+ghost use Rattle.group.specs.Lines.{emptyLines, lineTo, withLineTo, putIf, putRowTo, putAll, checkpCell, checkps, putCheckps};
+ghost use Rattle.group.specs.Group.{cabinet, withCabinet, stateOf, outgoing, withOutgoing, line, withLine, blankSlots, slot, withSlots, withSlot, noRow, rowsOf, rowAt, ofRows, withSound, those, some, working, recoveringOnes, unsure, isCrashed, answering, taken, crashAll, crashed};
 
 // One row of eight marks for a cabinet: its links.
 pub struct Row {
@@ -115,11 +115,12 @@ impl Outgoing {
     }
 }
 
-fn checkp_cell(c: Check) -> Cell
-    ensures { λ r. ⌜ r ≡ record { packet = Checkp c } ⌝ }
+fn checkp_at(registers: [Check; 8], j: u8) -> Cell
+    ensures { λ r. ⌜ r ≡ checkpCell registers j ⌝ }
 {
+    let check = cabinet::check_at(registers, j);
     Cell {
-        packet: Packet::Checkp(c),
+        packet: Packet::Checkp(check),
     }
 }
 
@@ -127,20 +128,22 @@ fn checkps(registers: [Check; 8]) -> [Cell; 8]
     ensures { λ r. ⌜ r ≡ checkps registers ⌝ }
 {
     [
-        checkp_cell(registers[0]),
-        checkp_cell(registers[1]),
-        checkp_cell(registers[2]),
-        checkp_cell(registers[3]),
-        checkp_cell(registers[4]),
-        checkp_cell(registers[5]),
-        checkp_cell(registers[6]),
-        checkp_cell(registers[7]),
+        checkp_at(registers, 0),
+        checkp_at(registers, 1),
+        checkp_at(registers, 2),
+        checkp_at(registers, 3),
+        checkp_at(registers, 4),
+        checkp_at(registers, 5),
+        checkp_at(registers, 6),
+        checkp_at(registers, 7),
     ]
 }
 
-fn marks_of(row: Row) -> [bool; 8]
-    ensures { λ r. ⌜ r ≡ row .marks ⌝ }
+fn marks_at(rows: [Row; 8], i: usize) -> [bool; 8]
+    requires { ⌜ i < 8 ⌝ }
+    ensures { λ r. ⌜ r ≡ getD rows i noRow .marks ⌝ }
 {
+    let row = rows[i];
     row.marks
 }
 
@@ -149,20 +152,22 @@ fn rows_of(rows: [Row; 8]) -> [[bool; 8]; 8]
     ensures { λ r. ⌜ r ≡ rowsOf rows ⌝ }
 {
     [
-        marks_of(rows[0]),
-        marks_of(rows[1]),
-        marks_of(rows[2]),
-        marks_of(rows[3]),
-        marks_of(rows[4]),
-        marks_of(rows[5]),
-        marks_of(rows[6]),
-        marks_of(rows[7]),
+        marks_at(rows, 0),
+        marks_at(rows, 1),
+        marks_at(rows, 2),
+        marks_at(rows, 3),
+        marks_at(rows, 4),
+        marks_at(rows, 5),
+        marks_at(rows, 6),
+        marks_at(rows, 7),
     ]
 }
 
-fn row_with(marks: [bool; 8]) -> Row
-    ensures { λ r. ⌜ r ≡ record { marks = marks } ⌝ }
+fn row_at(rows: [[bool; 8]; 8], i: usize) -> Row
+    requires { ⌜ i < 8 ⌝ }
+    ensures { λ r. ⌜ r ≡ rowAt rows i ⌝ }
 {
+    let marks = rows[i];
     Row { marks: marks }
 }
 
@@ -170,14 +175,14 @@ pub fn of_rows(rows: [[bool; 8]; 8]) -> [Row; 8]
     ensures { λ r. ⌜ r ≡ ofRows rows ⌝ }
 {
     [
-        row_with(rows[0]),
-        row_with(rows[1]),
-        row_with(rows[2]),
-        row_with(rows[3]),
-        row_with(rows[4]),
-        row_with(rows[5]),
-        row_with(rows[6]),
-        row_with(rows[7]),
+        row_at(rows, 0),
+        row_at(rows, 1),
+        row_at(rows, 2),
+        row_at(rows, 3),
+        row_at(rows, 4),
+        row_at(rows, 5),
+        row_at(rows, 6),
+        row_at(rows, 7),
     ]
 }
 
@@ -232,13 +237,6 @@ impl Slots {
         }
         s
     }
-}
-
-// A call, so that it leaves no branch in its callers' proofs.
-fn and(a: bool, b: bool) -> bool
-    ensures { λ r. ⌜ r ≡ a && b ⌝ }
-{
-    if a { b } else { false }
 }
 
 impl Group {
@@ -413,7 +411,7 @@ impl Group {
         let c = self.cabinet(i);
         let p = c.phase;
         let v = p.version;
-        and(
+        marks::and(
             cabinet::is_in(self.state_of(i), State::Error),
             cabinet::is_unknown(v),
         )

@@ -56,12 +56,6 @@ ghost use Rattle.load.specs.Load.{
   load,
 };
 
-fn and(a: bool, b: bool) -> bool
-    ensures { λ r. ⌜ r ≡ a && b ⌝ }
-{
-    if a { b } else { false }
-}
-
 // One less, and 0 at 0.
 fn less_one(x: usize) -> usize
     ensures { λ r. ⌜ r ≡ x - 1 ⌝ }
@@ -175,9 +169,9 @@ fn offsets_right(file: &[u8]) -> bool
     ensures { λ r. ⌜ r ≡ offsetsRight (now (file .entry)) ⌝ }
 {
     let total = total_length(file);
-    let lengths = and(number(file, 8) == total, total == file.len());
-    let links = and(number(file, 6) == link_table(file), lengths);
-    and(number(file, 4) == 10, links)
+    let lengths = marks::and(number(file, 8) == total, total == file.len());
+    let links = marks::and(number(file, 6) == link_table(file), lengths);
+    marks::and(number(file, 4) == 10, links)
 }
 
 // The mark of cabinet i is 0 or 1, its home is 1 to n, and its home is a store.
@@ -187,8 +181,8 @@ fn cabinet_right(file: &[u8], i: usize) -> bool
 {
     let home = home_of(file, i);
     let stores = store_mark(file, less_one(home)) == 1;
-    let within = and(1 <= home, and(home <= cabinet_count(file), stores));
-    and(store_mark(file, i) <= 1, within)
+    let within = marks::and(1 <= home, marks::and(home <= cabinet_count(file), stores));
+    marks::and(store_mark(file, i) <= 1, within)
 }
 
 fn cabinets_right(file: &[u8], n: usize) -> bool
@@ -198,7 +192,7 @@ fn cabinets_right(file: &[u8], n: usize) -> bool
     let mut right = true;
     let mut i = 0;
     while i < n {
-        right = and(right, cabinet_right(file, i));
+        right = marks::and(right, cabinet_right(file, i));
         i += 1;
     }
     right
@@ -211,9 +205,9 @@ fn link_right(file: &[u8], k: usize) -> bool
 {
     let lower = lower_of(file, k);
     let higher = higher_of(file, k);
-    and(
+    marks::and(
         1 <= lower,
-        and(lower < higher, higher <= cabinet_count(file)),
+        marks::and(lower < higher, higher <= cabinet_count(file)),
     )
 }
 
@@ -235,7 +229,7 @@ fn links_right(file: &[u8], m: usize) -> bool
     let mut right = true;
     let mut k = 0;
     while k < m {
-        right = and(right, and(link_right(file, k), rises_to(file, k)));
+        right = marks::and(right, marks::and(link_right(file, k), rises_to(file, k)));
         k += 1;
     }
     right
@@ -327,7 +321,7 @@ fn count_right(file: &[u8]) -> bool
     ensures { λ r. ⌜ r ≡ leb 2 (cabinetCount (now (file .entry))) && leb (cabinetCount (now (file .entry))) 8 ⌝ }
 {
     let n = cabinet_count(file);
-    and(2 <= n, n <= 8)
+    marks::and(2 <= n, n <= 8)
 }
 
 fn all_cabinets_right(file: &[u8]) -> bool
