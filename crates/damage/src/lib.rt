@@ -20,10 +20,10 @@ fn damage_refusal(g: Group, a: u8, b: u8, p: u8, q: u16) -> u8
     ensures { λ r. ⌜ r ≡ damageRefusal g a b p q ⌝ }
 {
     let hit = g.line(a, b).packet_at(p);
-    let first = moves::need(!hurt_already(g, a, b, hit), 20, 0);
-    let changes = moves::need(0 < q, 15, first);
-    let some = moves::need(!line::is_empty(hit), 18, changes);
-    moves::need(marks::is_linked(g.link_rows(), a, b), 13, some)
+    let first = records::need(!hurt_already(g, a, b, hit), 20, 0);
+    let changes = records::need(0 < q, 15, first);
+    let some = records::need(!line::is_empty(hit), 18, changes);
+    records::need(marks::is_linked(g.link_rows(), a, b), 13, some)
 }
 
 fn hurt_if(asked: bool, g: Group, a: u8, b: u8) -> Group

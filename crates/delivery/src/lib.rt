@@ -33,8 +33,8 @@ fn receive(before: Group, g: Group, a: u8, b: u8, p: Packet) -> Outcome
 fn deliver_refusal(linked: bool, l: Line) -> u8
     ensures { λ r. ⌜ r ≡ need linked 13 (need (not (isEmpty (oldest l))) 18 0) ⌝ }
 {
-    let some = moves::need(!line::is_empty(l.oldest()), 18, 0);
-    moves::need(linked, 13, some)
+    let some = records::need(!line::is_empty(l.oldest()), 18, 0);
+    records::need(linked, 13, some)
 }
 
 // The packet p is off the line in h. Over a link struck at b it is dropped.

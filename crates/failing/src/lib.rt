@@ -1,10 +1,10 @@
 // The step fail: a cabinet fails, and its neighbours enter error.
-use cabinet::State;
 use group::Group;
 use group::Outcome;
-use group::Outgoing;
 use line::Line;
 use line::Place;
+use outgoing::Outgoing;
+use state::State;
 ghost use mathlib.Core.Path.{_≡_};
 ghost use Rattle.protocol.specs.Moves.{enterErrorIf, emptiedTo, markFailed, neighbours, alarmTo};
 ghost use Rattle.protocol.specs.Kinds.{failCrashes, failStep};
@@ -43,7 +43,7 @@ fn enter_error_if(asked: bool, g: Group, i: u8, p: Place) -> Group
 fn is_neighbour(g: Group, i: u8, a: u8) -> bool
     ensures { λ r. ⌜ r ≡ neighbours g i a ⌝ }
 {
-    let works = cabinet::works(g.state_of(i));
+    let works = state::works(g.state_of(i));
     marks::and(works, marks::marked(g.cabinet(i).in_use(), a))
 }
 

@@ -1,10 +1,10 @@
 // What a cabinet does with a normal packet, a checkp and an invalid one: the packets at which a link fault is found.
 use cabinet::Cabinet;
-use cabinet::State;
 use group::Group;
 use group::Outcome;
 use line::Check;
 use line::Payload;
+use state::State;
 ghost use mathlib.Core.Path.{_≡_};
 ghost use Rattle.protocol.specs.Moves.{takeCheckp, findLinkFault};
 ghost use Rattle.protocol.specs.Receive.{takesFrom, receiveNormal, joinIf, receiveCheckp, receiveInvalid};
@@ -32,8 +32,8 @@ fn takes_from(c: Cabinet, a: u8) -> bool
     let come = noted.come;
     let early = !marks::marked(come, a);
     marks::or(
-        cabinet::is_in(s, State::Normal),
-        marks::and(cabinet::is_in(s, State::CheckpBegin), early),
+        state::is_in(s, State::Normal),
+        marks::and(state::is_in(s, State::CheckpBegin), early),
     )
 }
 
@@ -76,8 +76,8 @@ pub fn receive_checkp(before: Group, g: Group, a: u8, b: u8, v: Check) -> Outcom
     let c = g.cabinet(b);
     let phase = c.phase;
     let s = phase.state;
-    let normal = cabinet::is_in(s, State::Normal);
-    if marks::or(normal, cabinet::is_in(s, State::CheckpBegin)) {
+    let normal = state::is_in(s, State::Normal);
+    if marks::or(normal, state::is_in(s, State::CheckpBegin)) {
         let registers = c.registers;
         let taken = registers.taken;
         if v.same(cabinet::check_at(taken, a)) {

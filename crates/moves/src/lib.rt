@@ -1,28 +1,20 @@
-// What the kinds of step are made of: a check of a refusal, and the moves of one cabinet.
-// Each is promised equal to its definition in protocol.
-use cabinet::State;
-use cabinet::Version;
+// The moves of one cabinet that the kinds of step are made of, each promised equal to its definition in protocol.
 use group::Group;
-use group::Outgoing;
 use line::Packet;
 use line::Place;
+use outgoing::Outgoing;
+use state::State;
+use state::Version;
 ghost use mathlib.Core.Path.{_≡_};
 ghost use Rattle.protocol.specs.Moves.{broadcast, join, cutIfAll, resumeWith, commit, recoverWith, recoverIfKnown, raise, enterError, endRecovery};
 ghost use Rattle.protocol.specs.Receive.{serving};
-ghost use Rattle.protocol.specs.Kinds.{need};
 
-// One check of a chain of refusals: k unless the test holds, else what the next checks say.
-pub fn need(holds: bool, k: u8, next: u8) -> u8
-    ensures { λ r. ⌜ r ≡ need holds k next ⌝ }
-{
-    if holds { next } else { k }
-}
-
+// In normal or in one of the three saving states.
 pub fn serving(s: State) -> bool
     ensures { λ r. ⌜ r ≡ serving s ⌝ }
 {
-    let begun = marks::or(cabinet::is_in(s, State::CheckpBegin), cabinet::in_saving(s));
-    marks::or(cabinet::is_in(s, State::Normal), begun)
+    let begun = marks::or(state::is_in(s, State::CheckpBegin), state::in_saving(s));
+    marks::or(state::is_in(s, State::Normal), begun)
 }
 
 // A packet on all lines in use of cabinet i.
@@ -68,7 +60,7 @@ pub fn commit(g: Group, k: u8) -> Group
 {
     let phase = g.cabinet(k).phase;
     let v = phase.version;
-    resume_with(g, k, cabinet::flipped(v))
+    resume_with(g, k, state::flipped(v))
 }
 
 // ---- recovering

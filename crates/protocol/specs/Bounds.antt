@@ -10,10 +10,10 @@ use Rattle.line.specs.declared.Cell.{Cell}
 use Rattle.line.specs.declared.Line.{Line}
 use Rattle.line.specs.Packet.{isEmpty}
 use Rattle.line.specs.Line.{packetAt, oldest, rest, normals}
-use Rattle.cabinet.specs.Cabinet.{booked}
+use Rattle.image.specs.Image.{booked}
 use Rattle.group.specs.declared.Group.{Group}
 use Rattle.group.specs.Group.{cabinet, withOutgoing, line, withLine, isCrashed}
-use Rattle.group.specs.Lines.{emptyLines}
+use Rattle.outgoing.specs.Lines.{emptyLines}
 use Rattle.load.specs.Load.{load}
 use Rattle.protocol.specs.Moves.{raise}
 use Rattle.protocol.specs.Receive.{takesFrom}

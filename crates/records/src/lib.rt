@@ -8,11 +8,21 @@ ghost use mathlib.Core.Path.{_≡_};
 ghost use mathlib.Core.Bool.{cond, _&&_};
 ghost use Prim.Native.Nat.{_+_, _-_, _*_};
 ghost use lib.Dec.{ltb, leb};
-ghost use Rattle.cabinet.specs.State.{works};
+ghost use Rattle.state.specs.State.{works};
 ghost use Rattle.group.specs.declared.Group.{Group};
 ghost use Rattle.group.specs.Group.{stateOf};
 ghost use Rattle.protocol.specs.declared.Decoded.the-variants.{Unused};
+ghost use Rattle.protocol.specs.Kinds.{need};
 ghost use Rattle.protocol.specs.Entry.{aloneOf, fieldsOf, decode, decodedNumber, firstOf, secondOf, actorWorks, entryRefusal};
+
+// ---- refusals
+
+// One check of a chain of refusals: k unless the test holds, else what the next checks say.
+pub fn need(holds: bool, k: u8, next: u8) -> u8
+    ensures { λ r. ⌜ r ≡ need holds k next ⌝ }
+{
+    if holds { next } else { k }
+}
 
 // ---- the record
 
@@ -170,7 +180,7 @@ fn works_at(i: u8, c: Cabinet) -> bool
 {
     let phase = c.phase;
     let state = phase.state;
-    marks::and(i < 8, cabinet::works(state))
+    marks::and(i < 8, state::works(state))
 }
 
 // Check 12, by whether the cabinets that the step names have not failed: the one that acts has not.
@@ -218,6 +228,6 @@ pub fn entry_refusal(g: Group, s: Step) -> u8
     let able = actor_works(s, works_at(i, c), works_at(j, d));
     let named = marks::and(is_cabinet(g.n, a), is_cabinet(g.n, b));
     let running = !g.is_crashed();
-    let acts = moves::need(able, 12, 0);
-    moves::need(running, 10, moves::need(named, 11, acts))
+    let acts = need(able, 12, 0);
+    need(running, 10, need(named, 11, acts))
 }

@@ -36,7 +36,7 @@ pub fn replay(file: &[u8], list: &[u8]) -> Outcome
     ensures { λ r. ⌜ r ≡ replayed (now (file .entry)) (now (list .entry)) ⌝ }
     ensures { λ r. ⌜ (r .answer ≡ 0 → Octets (now (file .entry)) → Octets (now (list .entry)) → EndsWell (now (file .entry)) (now (list .entry))) ⌝ }
 {
-    let o = load::load(file);
+    let o = loading::load(file);
     if o.answer == 0 {
         let g = run(o.group, list);
         Outcome {

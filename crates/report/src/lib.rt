@@ -4,9 +4,9 @@
 // place never wraps; in what each function requires of it there is room for the octets that the
 // function adds before its last call.
 use cabinet::Cabinet;
-use cabinet::State;
-use cabinet::Version;
 use group::Group;
+use state::State;
+use state::Version;
 ghost use Prim.Native.Nat.{ℕ, suc, _+_, _<_, _≤_, _^_, min};
 ghost use mathlib.Core.Path.{_≡_};
 ghost use mathlib.Core.List.{[], _∷_};
@@ -154,7 +154,7 @@ fn cab_rest(out: &mut [u8], at: usize, c: Cabinet) -> usize
     let version = phase.version;
     let at = put(out, at, b' ');
     let at = state_word(out, at, state);
-    if cabinet::works(state) {
+    if state::works(state) {
         let at = put(out, at, b' ');
         let at = put(out, at, version_octet(version));
         return number(out, at, c.image.booked() as usize);
@@ -225,7 +225,7 @@ pub fn write_listing(file: &[u8], list: &[u8], out: &mut [u8]) -> usize
     ensures { λ r. ⌜ now (out .exit) ≡ sets (now (out .entry)) 0 (listing (now (file .entry)) (now (list .entry))) ⌝ }
     ensures { λ r. ⌜ r ≤ 200000 ⌝ }
 {
-    let o = load::load(file);
+    let o = loading::load(file);
     if o.answer == 0 {
         run(out, o.group, list)
     } else {

@@ -1,10 +1,10 @@
 // The steps of a recovery: fetch, restored and wait over.
 use cabinet::Alarm;
 use cabinet::Cabinet;
-use cabinet::State;
 use group::Group;
 use group::Outcome;
 use line::Place;
+use state::State;
 ghost use mathlib.Core.Path.{_≡_};
 ghost use Rattle.protocol.specs.Kinds.{fetchRefusal, fetchPiece, fetchStep, mayReport, restoredRefusal, reportRestored, endIfAll, restoredStep, lostPlace, lostCoordinator, waitOverRefusal, waitOverStep};
 
@@ -14,8 +14,8 @@ fn fetch_refusal(g: Group, a: u8) -> u8
     ensures { λ r. ⌜ r ≡ fetchRefusal g a ⌝ }
 {
     let c = g.cabinet(a);
-    let ready = moves::need(cabinet::in_restoring(g.state_of(c.home)), 19, 0);
-    moves::need(cabinet::is_in(g.state_of(a), State::Recovering), 14, ready)
+    let ready = records::need(state::in_restoring(g.state_of(c.home)), 19, 0);
+    records::need(state::is_in(g.state_of(a), State::Recovering), 14, ready)
 }
 
 fn fetch_piece(g: Group, a: u8) -> Group
@@ -27,7 +27,7 @@ fn fetch_piece(g: Group, a: u8) -> Group
     let version = phase.version;
     let noted = c.noted;
     let image = c.image;
-    let from = g.slot(a, cabinet::bit_of(version));
+    let from = g.slot(a, state::bit_of(version));
     g.with_cabinet(a, c.fetched(image.with_piece(noted.pieces, from)))
 }
 
@@ -56,7 +56,7 @@ fn may_report(c: Cabinet, k: Cabinet, a: u8) -> bool
     let state = phase.state;
     let first = !marks::marked(restored, a);
     let in_use = c.in_use();
-    let ready = cabinet::in_restoring(state);
+    let ready = state::in_restoring(state);
     marks::and(first, marks::and(marks::covers(heard, in_use), ready))
 }
 
@@ -65,10 +65,10 @@ fn restored_refusal(g: Group, a: u8) -> u8
 {
     let c = g.cabinet(a);
     let may = may_report(c, g.cabinet(c.coordinator()), a);
-    moves::need(
-        cabinet::is_in(g.state_of(a), State::Recovered),
+    records::need(
+        state::is_in(g.state_of(a), State::Recovered),
         14,
-        moves::need(may, 19, 0),
+        records::need(may, 19, 0),
     )
 }
 
@@ -86,7 +86,7 @@ fn end_if_all(g: Group, k: u8) -> Group
     let restored = noted.restored;
     let table = c.table;
     let cabinets = table.cabinets;
-    let recovered = cabinet::is_in(g.state_of(k), State::Recovered);
+    let recovered = state::is_in(g.state_of(k), State::Recovered);
     if marks::and(recovered, marks::covers(restored, cabinets)) {
         moves::end_recovery(g, k)
     } else {
@@ -135,11 +135,11 @@ fn wait_over_refusal(g: Group, a: u8) -> u8
     let c = g.cabinet(a);
     let phase = c.phase;
     let alarm = phase.alarm;
-    let waits = cabinet::is_in(g.state_of(a), State::Error);
+    let waits = state::is_in(g.state_of(a), State::Error);
     let unsure = g.unsure();
     let working = g.working();
-    let all = moves::need(marks::covers(unsure, working), 19, 0);
-    moves::need(marks::and(waits, lost_coordinator(alarm, c)), 14, all)
+    let all = records::need(marks::covers(unsure, working), 19, 0);
+    records::need(marks::and(waits, lost_coordinator(alarm, c)), 14, all)
 }
 
 pub fn wait_over_step(g: Group, a: u8) -> Outcome
@@ -150,7 +150,7 @@ pub fn wait_over_step(g: Group, a: u8) -> Outcome
         let c = g.cabinet(a);
         let phase = c.phase;
         let version = phase.version;
-        group::taken(moves::recover_with(g, a, cabinet::bit_of(version)))
+        group::taken(moves::recover_with(g, a, state::bit_of(version)))
     } else {
         group::answering(k, g)
     }

@@ -1,12 +1,12 @@
 // The steps of a save: begin, write and saved.
 use cabinet::Cabinet;
-use cabinet::State;
 use group::Group;
 use group::Outcome;
+use state::State;
 ghost use mathlib.Core.Path.{_≡_};
 ghost use mathlib.Core.Bool.{not};
-ghost use Rattle.cabinet.specs.declared.State.the-variants.{Checkpointing};
-ghost use Rattle.cabinet.specs.State.{isIn, inRecovery, bitOf};
+ghost use Rattle.state.specs.declared.State.the-variants.{Checkpointing};
+ghost use Rattle.state.specs.State.{isIn, inRecovery, bitOf};
 ghost use Rattle.group.specs.Group.{cabinet};
 ghost use Rattle.protocol.specs.Kinds.{need, beginRefusal, beginStep, writePiece, oweIf, writeStep, savedRefusal, reportSaved, commitIfAll, savedStep};
 
@@ -18,8 +18,8 @@ fn begin_refusal(g: Group, a: u8) -> u8
     let c = g.cabinet(a);
     let phase = c.phase;
     let state = phase.state;
-    let normal = cabinet::is_in(state, State::Normal);
-    moves::need(marks::and(normal, c.coordinator() == a), 14, 0)
+    let normal = state::is_in(state, State::Normal);
+    records::need(marks::and(normal, c.coordinator() == a), 14, 0)
 }
 
 pub fn begin_step(g: Group, a: u8) -> Outcome
@@ -38,8 +38,8 @@ pub fn begin_step(g: Group, a: u8) -> Outcome
 fn write_refusal(s: State, home: State) -> u8
     ensures { λ r. ⌜ r ≡ need (isIn s Checkpointing) 14 (need (not (inRecovery home)) 19 0) ⌝ }
 {
-    let ready = moves::need(!cabinet::in_recovery(home), 19, 0);
-    moves::need(cabinet::is_in(s, State::Checkpointing), 14, ready)
+    let ready = records::need(!state::in_recovery(home), 19, 0);
+    records::need(state::is_in(s, State::Checkpointing), 14, ready)
 }
 
 // The slot that pieces go to: not that of the version.
@@ -48,7 +48,7 @@ fn other_slot(c: Cabinet) -> bool
 {
     let phase = c.phase;
     let version = phase.version;
-    !cabinet::bit_of(version)
+    !state::bit_of(version)
 }
 
 fn write_piece(g: Group, a: u8, c: Cabinet) -> Group
@@ -95,8 +95,8 @@ fn saved_refusal(g: Group, a: u8) -> u8
     let c = g.cabinet(a);
     let home = g.cabinet(c.home);
     let owed = home.owed;
-    let saving = cabinet::in_saving(g.state_of(home.coordinator()));
-    moves::need(marks::and(marks::marked(owed, a), saving), 19, 0)
+    let saving = state::in_saving(g.state_of(home.coordinator()));
+    records::need(marks::and(marks::marked(owed, a), saving), 19, 0)
 }
 
 // The report on a goes from home h to coordinator k.

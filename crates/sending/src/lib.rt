@@ -1,21 +1,22 @@
 // The steps of a cabinet at work: send and note.
 use cabinet::Cabinet;
-use cabinet::State;
 use group::Group;
 use group::Outcome;
-use group::Outgoing;
 use line::Line;
 use line::Packet;
 use line::Payload;
+use outgoing::Outgoing;
+use state::State;
 ghost use mathlib.Core.Path.{_≡_};
 ghost use mathlib.Core.Bool.{_&&_};
 ghost use Prim.Native.Nat.{_%_};
 ghost use lib.Dec.{ltb, leb};
 ghost use Rattle.marks.specs.Marks.{marked};
 ghost use Rattle.line.specs.Line.{normals};
-ghost use Rattle.cabinet.specs.declared.State.the-variants.{Normal};
-ghost use Rattle.cabinet.specs.State.{isIn};
-ghost use Rattle.cabinet.specs.Cabinet.{inUse, booked};
+ghost use Rattle.state.specs.declared.State.the-variants.{Normal};
+ghost use Rattle.state.specs.State.{isIn};
+ghost use Rattle.image.specs.Image.{booked};
+ghost use Rattle.cabinet.specs.Cabinet.{inUse};
 ghost use Rattle.group.specs.Group.{cabinet, outgoing};
 ghost use Rattle.protocol.specs.Kinds.{need, sent, sendStep, noteStep};
 
@@ -32,11 +33,11 @@ fn send_refusal(c: Cabinet, l: Line, b: u8, q: u16) -> u8
     let state = phase.state;
     let image = c.image;
     let linked = marks::marked(c.in_use(), b);
-    let normal = cabinet::is_in(state, State::Normal);
-    let room = moves::need(l.normals() < 8, 17, 0);
-    let covered = moves::need(q <= image.booked(), 16, room);
-    let some = moves::need(0 < q, 15, covered);
-    moves::need(linked, 13, moves::need(normal, 14, some))
+    let normal = state::is_in(state, State::Normal);
+    let room = records::need(l.normals() < 8, 17, 0);
+    let covered = records::need(q <= image.booked(), 16, room);
+    let some = records::need(0 < q, 15, covered);
+    records::need(linked, 13, records::need(normal, 14, some))
 }
 
 // The sender is c, its lines are o.
@@ -68,8 +69,8 @@ fn note_refusal(s: State, p: u8, q: u16) -> u8
     ensures { λ r. ⌜ r ≡ need (isIn s Normal) 14 (need (leb 2 p && (leb p 31 && leb q 255)) 15 0) ⌝ }
 {
     let fits = marks::and(2 <= p, marks::and(p <= 31, q <= 255));
-    let normal = cabinet::is_in(s, State::Normal);
-    moves::need(normal, 14, moves::need(fits, 15, 0))
+    let normal = state::is_in(s, State::Normal);
+    records::need(normal, 14, records::need(fits, 15, 0))
 }
 
 fn low_octet(q: u16) -> u8

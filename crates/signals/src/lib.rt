@@ -1,10 +1,10 @@
 // What a cabinet does with resume, recover and fault.
 use cabinet::Cabinet;
-use cabinet::State;
 use group::Group;
 use group::Outcome;
 use line::Packet;
 use line::Place;
+use state::State;
 ghost use mathlib.Core.Path.{_≡_};
 ghost use Rattle.protocol.specs.Moves.{adopt, hear};
 ghost use Rattle.protocol.specs.Receive.{resumesFrom, receiveResume, receiveRecover, receiveFault};
@@ -20,7 +20,7 @@ fn adopt(g: Group, a: u8, b: u8) -> Group
     let v = phase.version;
     let others = marks::set_mark(c.in_use(), a, false);
     let o = g.outgoing(b).put_all(others, Packet::Resume);
-    g.with_cabinet(b, c.resuming(cabinet::adopted(v)))
+    g.with_cabinet(b, c.resuming(state::adopted(v)))
         .with_outgoing(b, o)
 }
 
@@ -33,7 +33,7 @@ fn resumes_from(c: Cabinet, a: u8, b: u8) -> bool
     let heard = noted.heard;
     let other = !(c.coordinator() == b);
     marks::and(
-        cabinet::is_in(s, State::Recovered),
+        state::is_in(s, State::Recovered),
         marks::and(marks::marked(heard, a), other),
     )
 }
@@ -44,7 +44,7 @@ pub fn receive_resume(g: Group, a: u8, b: u8) -> Outcome
     let c = g.cabinet(b);
     let phase = c.phase;
     let s = phase.state;
-    if cabinet::is_in(s, State::Checkpointed) {
+    if state::is_in(s, State::Checkpointed) {
         group::taken(adopt(g, a, b))
     } else {
         if resumes_from(c, a, b) {
@@ -64,7 +64,7 @@ pub fn receive_recover(g: Group, a: u8, b: u8, v: bool) -> Outcome
     let phase = c.phase;
     let s = phase.state;
     let noted = c.noted;
-    let waits = cabinet::is_in(s, State::Error);
+    let waits = state::is_in(s, State::Error);
     let heard = noted.heard;
     if marks::and(waits, marks::marked(heard, a)) {
         group::taken(moves::recover_with(g, b, v))
@@ -89,7 +89,7 @@ pub fn receive_fault(before: Group, g: Group, a: u8, b: u8, p: Place) -> Outcome
     if moves::serving(s) {
         return group::taken(hear(moves::enter_error(g, b, p), a, b));
     }
-    if cabinet::in_recovery(s) {
+    if state::in_recovery(s) {
         let phase = g.cabinet(b).phase;
         let alarm = phase.alarm;
         if cabinet::is_for(alarm, p) {

@@ -5,7 +5,7 @@ use Rattle.group.specs.declared.Row.{Row}
 use Rattle.group.specs.Group.{noRow}
 use native.Mathlib.Omega.{arith}
 use lib.ListN.{length}
-use Rattle.group.proofs.Lists.{getD-in}
+use Rattle.marks.proofs.Lists.{getD-in}
 use Rattle.group.proofs.marks_at.Statement.{statement}
 use Rattle.group.proofs.marks_at.Tie as tie
 

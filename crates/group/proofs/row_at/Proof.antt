@@ -5,7 +5,7 @@ use Rattle.marks.specs.Marks.{Marks, noMarks}
 use Rattle.group.specs.declared.Row.{Row}
 use native.Mathlib.Omega.{arith}
 use lib.ListN.{length}
-use Rattle.group.proofs.Lists.{getD-in}
+use Rattle.marks.proofs.Lists.{getD-in}
 use Rattle.group.proofs.row_at.Statement.{statement}
 use Rattle.group.proofs.row_at.Tie as tie
 

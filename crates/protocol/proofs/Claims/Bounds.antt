@@ -17,13 +17,14 @@ use Rattle.line.specs.declared.Cell.{Cell}
 use Rattle.line.specs.declared.Line.{Line}
 use Rattle.line.specs.Packet.{isEmpty}
 use Rattle.line.specs.Line.{emptyCell, emptyLine, packetAt, oldest, rest, restCells, put}
-use Rattle.cabinet.specs.declared.State.{State}
-use Rattle.cabinet.specs.declared.State.the-variants.{Failed, Normal, CheckpBegin, Checkpointing, Checkpointed, Error, Recovering, Recovered, Crashed}
-use Rattle.cabinet.specs.State.{isIn, works, inRecovery}
-use Rattle.cabinet.specs.Cabinet.{booked, inUse, alarmed}
-use Rattle.group.specs.declared.Outgoing.{Outgoing}
+use Rattle.state.specs.declared.State.{State}
+use Rattle.state.specs.declared.State.the-variants.{Failed, Normal, CheckpBegin, Checkpointing, Checkpointed, Error, Recovering, Recovered, Crashed}
+use Rattle.state.specs.State.{isIn, works, inRecovery}
+use Rattle.image.specs.Image.{booked}
+use Rattle.cabinet.specs.Cabinet.{inUse, alarmed}
+use Rattle.outgoing.specs.declared.Outgoing.{Outgoing}
 use Rattle.group.specs.declared.Group.{Group}
-use Rattle.group.specs.Lines.{emptyLines, lineTo, withLineTo, putIf, putRowTo, putAll}
+use Rattle.outgoing.specs.Lines.{emptyLines, lineTo, withLineTo, putIf, putRowTo, putAll}
 use Rattle.group.specs.Group.{cabinet, withCabinet, outgoing, withOutgoing, stateOf, line, withLine, isCrashed}
 use Rattle.load.specs.Load.{load, feederTotal}
 use Rattle.protocol.specs.Moves.{broadcast, raise}

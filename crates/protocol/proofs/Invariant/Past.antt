@@ -5,10 +5,10 @@ use mathlib.Core.Logic.{_≢_, _⊎_, inl}
 use mathlib.Core.Bool.{Bool, true, false, cond, not, _&&_, true≢false}
 use mathlib.Core.List.{List, _∷_}
 use mathlib.Core.Option.{Option, none, some}
-use Rattle.cabinet.specs.declared.State.the-variants.{Normal, Checkpointing}
-use Rattle.cabinet.specs.declared.Image.{Image}
-use Rattle.cabinet.specs.State.{isIn, inRecovery}
-use Rattle.cabinet.specs.Cabinet.{booked}
+use Rattle.state.specs.declared.State.the-variants.{Normal, Checkpointing}
+use Rattle.image.specs.declared.Image.{Image}
+use Rattle.state.specs.State.{isIn, inRecovery}
+use Rattle.image.specs.Image.{booked}
 use Rattle.group.specs.declared.Group.{Group}
 use Rattle.group.specs.Group.{stateOf}
 use Rattle.protocol.specs.declared.Step.{Step}

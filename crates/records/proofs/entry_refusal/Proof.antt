@@ -8,11 +8,11 @@ use lib.ListN.{length, length-map, getD, List·getD-eq-default}
 use borrow.Author.Needs.{needs}
 use borrow.Author.Tests.{ltb-true, ltb-false}
 use Rattle.cabinet.specs.declared.Cabinet.{Cabinet}
-use Rattle.cabinet.specs.State.{works}
+use Rattle.state.specs.State.{works}
 use Rattle.cabinet.specs.Cabinet.{absent}
 use Rattle.group.specs.declared.Group.{Group}
 use Rattle.group.specs.Group.{cabinet, stateOf}
-use Rattle.group.proofs.Lists.{getD-in}
+use Rattle.marks.proofs.Lists.{getD-in}
 use Rattle.protocol.specs.Entry.{firstOf, secondOf}
 use Rattle.records.proofs.entry_refusal.Statement.{statement}
 use Rattle.records.proofs.entry_refusal.Tie as tie

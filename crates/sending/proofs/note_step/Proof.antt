@@ -6,8 +6,8 @@ use mathlib.Core.Path.{_≡_, refl, sym, _∙_}
 use mathlib.Core.Bool.{Bool, true, false, _&&_}
 use native.Mathlib.Omega.{arith}
 use lib.Dec.{leb}
-use Rattle.cabinet.specs.declared.State.the-variants.{Normal}
-use Rattle.cabinet.specs.State.{isIn}
+use Rattle.state.specs.declared.State.the-variants.{Normal}
+use Rattle.state.specs.State.{isIn}
 use Rattle.group.specs.Group.{cabinet}
 use Rattle.protocol.specs.Kinds.{need, noteStep}
 use Rattle.sending.proofs.note_step.Statement.{statement}
