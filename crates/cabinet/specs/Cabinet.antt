@@ -10,42 +10,20 @@ use Rattle.line.specs.declared.Payload.{Payload}
 use Rattle.line.specs.declared.Place.{Place}
 use Rattle.line.specs.declared.Place.the-variants.{Cabinet as AtCabinet, Link as AtLink}
 use Rattle.line.specs.Packet.{startCheck, stepCheck}
-use Rattle.cabinet.specs.declared.State.{State}
-use Rattle.cabinet.specs.declared.State.the-variants.{Failed, Normal, CheckpBegin, Checkpointing, Checkpointed, Error, Recovering, Recovered, Crashed}
-use Rattle.cabinet.specs.declared.Version.{Version}
-use Rattle.cabinet.specs.declared.Version.the-variants.{Known}
+use Rattle.image.specs.Image.{blankImage, booked, withBooked}
+use Rattle.state.specs.declared.State.{State}
+use Rattle.state.specs.declared.State.the-variants.{Failed, Normal, CheckpBegin, Checkpointing, Checkpointed, Error, Recovering, Recovered, Crashed}
+use Rattle.state.specs.declared.Version.{Version}
+use Rattle.state.specs.declared.Version.the-variants.{Known}
 use Rattle.cabinet.specs.declared.Alarm.{Alarm}
 use Rattle.cabinet.specs.declared.Alarm.the-variants.{Quiet, Fault}
 use Rattle.cabinet.specs.declared.Phase.{Phase}
 use Rattle.cabinet.specs.declared.Table.{Table}
 use Rattle.cabinet.specs.declared.Noted.{Noted}
 use Rattle.cabinet.specs.declared.Registers.{Registers}
-use Rattle.cabinet.specs.declared.Image.{Image}
+use Rattle.image.specs.declared.Image.{Image}
 use Rattle.cabinet.specs.declared.Cabinet.{Cabinet}
-use Rattle.cabinet.specs.State.{works, doubted}
-
--- ---- images
-
-abbrev pub blankImage : Image
-blankImage = record { octets = replicate 32 0 }
-
--- "octets 0 and 1 the booking in amperes"
-abbrev pub booked : Image → ℕ
-booked m = getD (m .octets) 0 0 * 256 + getD (m .octets) 1 0
-
-abbrev pub withBooked : Image → ℕ → Image
-withBooked m v = record { octets = set (set (m .octets) 0 (v / 256)) 1 (v % 256) }
-
-abbrev pub withOctet : Image → ℕ → ℕ → Image
-withOctet m p v = record { octets = set (m .octets) p v }
-
--- "It moves in four pieces of 8 octets, 0 to 3": the first n octets of piece k, from one image into another
-abbrev pub pieceTo : ℕ → ℕ → Image → Image → Image
-pieceTo zero k from to = to
-pieceTo (suc n) k from to = withOctet (pieceTo n k from to) (k * 8 + n) (getD (from .octets) (k * 8 + n) 0)
-
-abbrev pub withPiece : ℕ → Image → Image → Image
-withPiece k from to = pieceTo 8 k from to
+use Rattle.state.specs.State.{works, doubted}
 
 -- ---- a cabinet's parts, each replaced by one function
 

@@ -1,3 +1,3 @@
 -- One cabinet: the definitions that the functions of this crate are promised equal to.
-pub mod State
+pub mod Alarm
 pub mod Cabinet

@@ -1,87 +1,21 @@
 // One cabinet by value: its logical state, table, notes, check registers and image.
 // Cabinets are numbered 0 to 7 here: a cabinet's number in a file or a record, less one.
+use image::Image;
 use line::Check;
 use line::Payload;
 use line::Place;
+use state::State;
+use state::Version;
 ghost use mathlib.Core.Path.{_≡_};
-ghost use mathlib.Core.Bool.{false, cond, _||_};
-ghost use Prim.Native.Nat.{_-_, _*_, _+_, _<_};
+ghost use mathlib.Core.Bool.{false, cond};
+ghost use Prim.Native.Nat.{_-_};
 ghost use lib.Dec.{eqb};
 ghost use lib.ListN.{getD, set};
-ghost use Rattle.marks.specs.Marks.{marked, covers};
+ghost use Rattle.marks.specs.Marks.{covers};
 ghost use Rattle.line.specs.Packet.{startCheck};
-ghost use Rattle.cabinet.specs.State.{
-  rank,
-  isIn,
-  works,
-  inRecovery,
-  inRestoring,
-  inSaving,
-  isUnknown,
-  bitOf,
-  doubted,
-  flipped,
-  adopted,
-  isFor,
-};
-ghost use Rattle.cabinet.specs.Cabinet.{
-  blankImage,
-  booked,
-  withBooked,
-  withOctet,
-  withPiece,
-  withPhase,
-  withTable,
-  withNoted,
-  withRegisters,
-  withImage,
-  withOwed,
-  withState,
-  withPieces,
-  nothingNoted,
-  startRegisters,
-  absent,
-  inUse,
-  coordinator,
-  struckAt,
-  sending,
-  taking,
-  hurtFrom,
-  restartIf,
-  restartTo,
-  beginning,
-  comparing,
-  cutting,
-  wrote,
-  owing,
-  savedFor,
-  resuming,
-  alarmed,
-  hearing,
-  recovering,
-  fetched,
-  restoredFor,
-  crashing,
-};
-
-// The eight logical states of the 1984 paper, III-D, and failed.
-pub enum State {
-    Failed,
-    Normal,
-    CheckpBegin,
-    Checkpointing,
-    Checkpointed,
-    Error,
-    Recovering,
-    Recovered,
-    Crashed,
-}
-
-// The version variable: 0 is false, 1 is true. While it is unknown the old version is kept with it.
-pub enum Version {
-    Known(bool),
-    Unknown(bool),
-}
+ghost use Rattle.cabinet.specs.Alarm.{isFor};
+ghost use Rattle.state.specs.State.{doubted};
+ghost use Rattle.cabinet.specs.Cabinet.{withPhase, withTable, withNoted, withRegisters, withImage, withOwed, withState, withPieces, nothingNoted, startRegisters, absent, inUse, coordinator, struckAt, sending, taking, hurtFrom, restartIf, restartTo, beginning, comparing, cutting, wrote, owing, savedFor, resuming, alarmed, hearing, recovering, fetched, restoredFor, crashing};
 
 // The fault that a cabinet entered error for.
 pub enum Alarm {
@@ -118,10 +52,6 @@ pub struct Registers {
     pub hurt: [bool; 8],
 }
 
-pub struct Image {
-    pub octets: [u8; 32],
-}
-
 pub struct Cabinet {
     pub phase: Phase,
     pub table: Table,
@@ -133,121 +63,13 @@ pub struct Cabinet {
     pub owed: [bool; 8],
 }
 
-// ---- states and versions
-
-fn or(a: bool, b: bool) -> bool
-    ensures { λ r. ⌜ r ≡ a || b ⌝ }
-{
-    if a { true } else { b }
-}
-
-// A number for each state, by which states are compared.
-pub fn rank(s: State) -> u8
-    ensures { λ r. ⌜ r ≡ rank s ⌝ }
-{
-    match s {
-        State::Failed => 0,
-        State::Normal => 1,
-        State::CheckpBegin => 2,
-        State::Checkpointing => 3,
-        State::Checkpointed => 4,
-        State::Error => 5,
-        State::Recovering => 6,
-        State::Recovered => 7,
-        State::Crashed => 8,
-    }
-}
-
-pub fn is_in(s: State, t: State) -> bool
-    ensures { λ r. ⌜ r ≡ isIn s t ⌝ }
-{
-    rank(s) == rank(t)
-}
-
-pub fn works(s: State) -> bool
-    ensures { λ r. ⌜ r ≡ works s ⌝ }
-{
-    !is_in(s, State::Failed)
-}
-
-// In error, recovering or recovered.
-pub fn in_recovery(s: State) -> bool
-    ensures { λ r. ⌜ r ≡ inRecovery s ⌝ }
-{
-    or(is_in(s, State::Error), in_restoring(s))
-}
-
-// In recovering or recovered.
-pub fn in_restoring(s: State) -> bool
-    ensures { λ r. ⌜ r ≡ inRestoring s ⌝ }
-{
-    or(is_in(s, State::Recovering), is_in(s, State::Recovered))
-}
-
-// Past the cut of a save: in checkpointing or checkpointed.
-pub fn in_saving(s: State) -> bool
-    ensures { λ r. ⌜ r ≡ inSaving s ⌝ }
-{
-    or(
-        is_in(s, State::Checkpointing),
-        is_in(s, State::Checkpointed),
-    )
-}
-
-pub fn is_unknown(v: Version) -> bool
-    ensures { λ r. ⌜ r ≡ isUnknown v ⌝ }
-{
-    match v {
-        Version::Known(_) => false,
-        Version::Unknown(_) => true,
-    }
-}
-
-// The version, and while it is unknown the old one.
-pub fn bit_of(v: Version) -> bool
-    ensures { λ r. ⌜ r ≡ bitOf v ⌝ }
-{
-    match v {
-        Version::Known(bit) => bit,
-        Version::Unknown(old) => old,
-    }
-}
-
-// The version kept as old and set to unknown.
-pub fn doubted(v: Version) -> Version
-    ensures { λ r. ⌜ r ≡ doubted v ⌝ }
-{
-    match v {
-        Version::Known(bit) => Version::Unknown(bit),
-        Version::Unknown(old) => Version::Unknown(old),
-    }
-}
+// ---- versions and faults
 
 // The version once all pieces are saved: it stays known at the coordinator.
 fn known_if(coordinates: bool, v: Version) -> Version
     ensures { λ r. ⌜ r ≡ cond coordinates v (doubted v) ⌝ }
 {
-    if coordinates { v } else { doubted(v) }
-}
-
-// The coordinator's version once it commits.
-pub fn flipped(v: Version) -> Version
-    ensures { λ r. ⌜ r ≡ flipped v ⌝ }
-{
-    match v {
-        Version::Known(bit) => Version::Known(!bit),
-        Version::Unknown(old) => Version::Unknown(old),
-    }
-}
-
-// The version once resume is taken in checkpointed.
-pub fn adopted(v: Version) -> Version
-    ensures { λ r. ⌜ r ≡ adopted v ⌝ }
-{
-    match v {
-        Version::Known(bit) => Version::Known(bit),
-        Version::Unknown(old) => Version::Known(!old),
-    }
+    if coordinates { v } else { state::doubted(v) }
 }
 
 // The fault that was entered error for is at this place.
@@ -260,23 +82,7 @@ pub fn is_for(alarm: Alarm, place: Place) -> bool
     }
 }
 
-// ---- marks and registers by number: past the eighth none is marked, and nothing changes
-
-pub fn marked(marks: [bool; 8], j: u8) -> bool
-    ensures { λ r. ⌜ r ≡ marked marks j ⌝ }
-{
-    if j < 8 { marks[j as usize] } else { false }
-}
-
-pub fn set_mark(marks: [bool; 8], j: u8, mark: bool) -> [bool; 8]
-    ensures { λ r. ⌜ r ≡ set marks j mark ⌝ }
-{
-    let mut changed = marks;
-    if j < 8 {
-        changed[j as usize] = mark;
-    }
-    changed
-}
+// ---- registers by number: past the eighth all are at their start, and nothing changes
 
 pub fn check_at(checks: [Check; 8], j: u8) -> Check
     ensures { λ r. ⌜ r ≡ getD checks j startCheck ⌝ }
@@ -315,90 +121,17 @@ fn restarted(marks: [bool; 8], checks: [Check; 8]) -> [Check; 8]
     let mut left = checks;
     let mut j: u8 = 0;
     while j < 8 {
-        let next = restart_if(marked(marks, j), left, j);
+        let next = restart_if(marks::marked(marks, j), left, j);
         left = next;
         j += 1;
     }
     left
 }
 
-// ---- images
-
-fn wide(octet: u8) -> u16
-    ensures { λ r. ⌜ (r ≡ octet) × (r < 256) ⌝ }
-{
-    octet as u16
-}
-
 fn minus(x: u16, y: u16) -> u16
     ensures { λ r. ⌜ r ≡ x - y ⌝ }
 {
     if y <= x { x - y } else { 0 }
-}
-
-impl Image {
-    pub fn blank() -> Image
-        ensures { λ r. ⌜ r ≡ blankImage ⌝ }
-    {
-        Image { octets: [0; 32] }
-    }
-
-    // The booking in amperes.
-    pub fn booked(self) -> u16
-        ensures { λ r. ⌜ r ≡ booked self ⌝ }
-    {
-        let high = wide(self.octets[0]);
-        let low = wide(self.octets[1]);
-        high * 256 + low
-    }
-
-    pub fn with_booked(self, amount: u16) -> Image
-        ensures { λ r. ⌜ r ≡ withBooked self amount ⌝ }
-    {
-        let mut image = self;
-        let high = (amount / 256) as u8;
-        let low = (amount % 256) as u8;
-        image.octets[0] = high;
-        image.octets[1] = low;
-        image
-    }
-
-    pub fn with_octet(self, p: u8, octet: u8) -> Image
-        ensures { λ r. ⌜ r ≡ withOctet self p octet ⌝ }
-    {
-        let mut image = self;
-        if p < 32 {
-            image.octets[p as usize] = octet;
-        }
-        image
-    }
-
-    // Octet n of piece k, from another image.
-    fn with_octet_from(self, k: u8, n: usize, from: Image) -> Image
-        requires { ⌜ n < 8 ⌝ }
-        ensures { λ r. ⌜ r ≡ withOctet self (k * 8 + n) (getD (from .octets) (k * 8 + n) 0) ⌝ }
-    {
-        let mut image = self;
-        let place = (k as usize) * 8 + n;
-        if place < 32 {
-            let octet = from.octets[place];
-            image.octets[place] = octet;
-        }
-        image
-    }
-
-    // Piece k, from another image.
-    pub fn with_piece(self, k: u8, from: Image) -> Image
-        ensures { λ r. ⌜ r ≡ withPiece k from self ⌝ }
-    {
-        let mut to = self;
-        let mut n = 0;
-        while n < 8 {
-            to = to.with_octet_from(k, n, from);
-            n += 1;
-        }
-        to
-    }
 }
 
 // ---- a table with a place struck
@@ -408,10 +141,10 @@ fn without_link(links: [bool; 8], i: u8, a: u8, b: u8) -> [bool; 8]
     ensures { λ r. ⌜ r ≡ cond (eqb i a) (set links b false) (cond (eqb i b) (set links a false) links) ⌝ }
 {
     if i == a {
-        return set_mark(links, b, false);
+        return marks::set_mark(links, b, false);
     }
     if i == b {
-        return set_mark(links, a, false);
+        return marks::set_mark(links, a, false);
     }
     links
 }
@@ -424,7 +157,7 @@ pub fn struck_at(i: u8, place: Place, table: Table) -> Table
     let links = table.links;
     match place {
         Place::Cabinet(a) => Table {
-            cabinets: set_mark(cabinets, a, false),
+            cabinets: marks::set_mark(cabinets, a, false),
             links: links,
         },
         Place::Link(a, b) => Table {
@@ -615,7 +348,7 @@ impl Cabinet {
     {
         let mut registers = self.registers;
         let hurt = registers.hurt;
-        let hurt = set_mark(hurt, j, true);
+        let hurt = marks::set_mark(hurt, j, true);
         registers.hurt = hurt;
         self.with_registers(registers)
     }
@@ -644,11 +377,11 @@ impl Cabinet {
         let taken = set_check(taken, j, Check::start());
         registers.taken = taken;
         let hurt = registers.hurt;
-        let hurt = set_mark(hurt, j, false);
+        let hurt = marks::set_mark(hurt, j, false);
         registers.hurt = hurt;
         let mut noted = self.noted;
         let come = noted.come;
-        let come = set_mark(come, j, true);
+        let come = marks::set_mark(come, j, true);
         noted.come = come;
         self.with_registers(registers).with_noted(noted)
     }
@@ -698,7 +431,7 @@ impl Cabinet {
         ensures { λ r. ⌜ r ≡ owing self j owes ⌝ }
     {
         let owed = self.owed;
-        self.with_owed(set_mark(owed, j, owes))
+        self.with_owed(marks::set_mark(owed, j, owes))
     }
 
     // The coordinator has the saved report on j.
@@ -707,7 +440,7 @@ impl Cabinet {
     {
         let mut noted = self.noted;
         let saved = noted.saved;
-        let saved = set_mark(saved, j, true);
+        let saved = marks::set_mark(saved, j, true);
         noted.saved = saved;
         self.with_noted(noted)
     }
@@ -750,7 +483,7 @@ impl Cabinet {
     {
         let mut noted = self.noted;
         let heard = noted.heard;
-        let heard = set_mark(heard, j, true);
+        let heard = marks::set_mark(heard, j, true);
         noted.heard = heard;
         self.with_noted(noted)
     }
@@ -788,7 +521,7 @@ impl Cabinet {
     {
         let mut noted = self.noted;
         let restored = noted.restored;
-        let restored = set_mark(restored, j, true);
+        let restored = marks::set_mark(restored, j, true);
         noted.restored = restored;
         self.with_noted(noted)
     }
@@ -799,7 +532,7 @@ impl Cabinet {
     {
         let phase = self.phase;
         let state = phase.state;
-        if works(state) {
+        if state::works(state) {
             self.with_state(State::Crashed)
         } else {
             self

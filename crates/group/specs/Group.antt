@@ -9,18 +9,19 @@ use Rattle.marks.specs.Marks.{Marks, lowest, noMarks}
 use Rattle.marks.specs.Reach.{Rows}
 use Rattle.line.specs.declared.Line.{Line}
 use Rattle.line.specs.Line.{emptyLine}
-use Rattle.cabinet.specs.declared.State.{State}
-use Rattle.cabinet.specs.declared.State.the-variants.{Error, Crashed}
-use Rattle.cabinet.specs.declared.Image.{Image}
+use Rattle.state.specs.declared.State.{State}
+use Rattle.state.specs.declared.State.the-variants.{Error, Crashed}
+use Rattle.image.specs.declared.Image.{Image}
 use Rattle.cabinet.specs.declared.Cabinet.{Cabinet}
 use Rattle.group.specs.declared.Row.{Row}
-use Rattle.group.specs.declared.Outgoing.{Outgoing}
+use Rattle.outgoing.specs.declared.Outgoing.{Outgoing}
 use Rattle.group.specs.declared.Slots.{Slots}
 use Rattle.group.specs.declared.Group.{Group}
 use Rattle.group.specs.declared.Outcome.{Outcome}
-use Rattle.cabinet.specs.State.{works, isIn, inRecovery, isUnknown}
-use Rattle.cabinet.specs.Cabinet.{absent, blankImage, crashing}
-use Rattle.group.specs.Lines.{emptyLines, lineTo, withLineTo}
+use Rattle.state.specs.State.{works, isIn, inRecovery, isUnknown}
+use Rattle.image.specs.Image.{blankImage}
+use Rattle.cabinet.specs.Cabinet.{absent, crashing}
+use Rattle.outgoing.specs.Lines.{emptyLines, lineTo, withLineTo}
 
 -- ---- the components, each replaced by one function
 

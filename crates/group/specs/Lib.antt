@@ -1,3 +1,2 @@
 -- The state of a group: the definitions that the functions of this crate are promised equal to.
-pub mod Lines
 pub mod Group

@@ -1,30 +1,23 @@
 // The state of a group by value: cabinets, the link rows, the lines and the store.
 // Cabinets are numbered 0 to 7 here: a cabinet's number in a file or a record, less one.
 use cabinet::Cabinet;
-use cabinet::Image;
-use cabinet::State;
-use line::Cell;
-use line::Check;
+use image::Image;
 use line::Line;
-use line::Packet;
+use outgoing::Outgoing;
+use state::State;
 ghost use mathlib.Core.Path.{_≡_};
 ghost use mathlib.Core.Bool.{cond, _&&_};
+ghost use Prim.Native.Nat.{_<_};
 ghost use lib.ListN.{getD};
-ghost use Rattle.cabinet.specs.declared.State.the-variants.{Error, Crashed};
-ghost use Rattle.cabinet.specs.State.{works, isIn, inRecovery, isUnknown};
+ghost use Rattle.state.specs.declared.State.the-variants.{Error, Crashed};
+ghost use Rattle.state.specs.State.{works, isIn, inRecovery, isUnknown};
 ghost use Rattle.cabinet.specs.Cabinet.{crashing};
-ghost use Rattle.line.specs.declared.Packet.the-variants.{Checkp};
-ghost use Rattle.group.specs.Lines.{emptyLines, lineTo, withLineTo, putIf, putRowTo, putAll, checkps, putCheckps};
-ghost use Rattle.group.specs.Group.{cabinet, withCabinet, stateOf, outgoing, withOutgoing, line, withLine, blankSlots, slot, withSlots, withSlot, rowsOf, ofRows, withSound, those, some, working, recoveringOnes, unsure, isCrashed, answering, taken, crashAll, crashed};
+ghost use Rattle.outgoing.specs.Lines.{emptyLines};
+ghost use Rattle.group.specs.Group.{cabinet, withCabinet, stateOf, outgoing, withOutgoing, line, withLine, blankSlots, slot, withSlots, withSlot, noRow, rowsOf, rowAt, ofRows, withSound, those, some, working, recoveringOnes, unsure, isCrashed, answering, taken, crashAll, crashed};
 
 // One row of eight marks for a cabinet: its links.
 pub struct Row {
     pub marks: [bool; 8],
-}
-
-// A cabinet's eight outgoing lines.
-pub struct Outgoing {
-    pub lines: [Line; 8],
 }
 
 // A cabinet's two slots in the store.
@@ -49,98 +42,11 @@ pub struct Outcome {
     pub group: Group,
 }
 
-impl Outgoing {
-    pub fn empty() -> Outgoing
-        ensures { λ r. ⌜ r ≡ emptyLines ⌝ }
-    {
-        let line = Line::empty();
-        Outgoing { lines: [line; 8] }
-    }
-
-    pub fn line_to(self, j: u8) -> Line
-        ensures { λ r. ⌜ r ≡ lineTo self j ⌝ }
-    {
-        let k = j as usize;
-        if k < 8 { self.lines[k] } else { Line::empty() }
-    }
-
-    pub fn with_line_to(self, j: u8, l: Line) -> Outgoing
-        ensures { λ r. ⌜ r ≡ withLineTo self j l ⌝ }
-    {
-        let k = j as usize;
-        let mut o = self;
-        if k < 8 {
-            o.lines[k] = l;
-        }
-        o
-    }
-
-    fn put_if(self, asked: bool, j: u8, p: Packet) -> Outgoing
-        ensures { λ r. ⌜ r ≡ putIf asked self j p ⌝ }
-    {
-        if asked {
-            self.with_line_to(j, self.line_to(j).put(p))
-        } else {
-            self
-        }
-    }
-
-    // On each marked line its packet of the row.
-    fn put_row(self, marks: [bool; 8], row: [Cell; 8]) -> Outgoing
-        ensures { λ r. ⌜ r ≡ putRowTo 8 marks row self ⌝ }
-    {
-        let mut o = self;
-        let mut j: u8 = 0;
-        while j < 8 {
-            let k = j as usize;
-            let c = row[k];
-            let p = c.packet;
-            o = o.put_if(marks[k], j, p);
-            j += 1;
-        }
-        o
-    }
-
-    pub fn put_all(self, marks: [bool; 8], p: Packet) -> Outgoing
-        ensures { λ r. ⌜ r ≡ putAll marks p self ⌝ }
-    {
-        self.put_row(marks, [Cell { packet: p }; 8])
-    }
-
-    // On each marked line a checkp with that line's register.
-    pub fn put_checkps(self, marks: [bool; 8], registers: [Check; 8]) -> Outgoing
-        ensures { λ r. ⌜ r ≡ putCheckps marks registers self ⌝ }
-    {
-        self.put_row(marks, checkps(registers))
-    }
-}
-
-fn checkp_cell(c: Check) -> Cell
-    ensures { λ r. ⌜ r ≡ record { packet = Checkp c } ⌝ }
+fn marks_at(rows: [Row; 8], i: usize) -> [bool; 8]
+    requires { ⌜ i < 8 ⌝ }
+    ensures { λ r. ⌜ r ≡ getD rows i noRow .marks ⌝ }
 {
-    Cell {
-        packet: Packet::Checkp(c),
-    }
-}
-
-fn checkps(registers: [Check; 8]) -> [Cell; 8]
-    ensures { λ r. ⌜ r ≡ checkps registers ⌝ }
-{
-    [
-        checkp_cell(registers[0]),
-        checkp_cell(registers[1]),
-        checkp_cell(registers[2]),
-        checkp_cell(registers[3]),
-        checkp_cell(registers[4]),
-        checkp_cell(registers[5]),
-        checkp_cell(registers[6]),
-        checkp_cell(registers[7]),
-    ]
-}
-
-fn marks_of(row: Row) -> [bool; 8]
-    ensures { λ r. ⌜ r ≡ row .marks ⌝ }
-{
+    let row = rows[i];
     row.marks
 }
 
@@ -149,20 +55,22 @@ fn rows_of(rows: [Row; 8]) -> [[bool; 8]; 8]
     ensures { λ r. ⌜ r ≡ rowsOf rows ⌝ }
 {
     [
-        marks_of(rows[0]),
-        marks_of(rows[1]),
-        marks_of(rows[2]),
-        marks_of(rows[3]),
-        marks_of(rows[4]),
-        marks_of(rows[5]),
-        marks_of(rows[6]),
-        marks_of(rows[7]),
+        marks_at(rows, 0),
+        marks_at(rows, 1),
+        marks_at(rows, 2),
+        marks_at(rows, 3),
+        marks_at(rows, 4),
+        marks_at(rows, 5),
+        marks_at(rows, 6),
+        marks_at(rows, 7),
     ]
 }
 
-fn row_with(marks: [bool; 8]) -> Row
-    ensures { λ r. ⌜ r ≡ record { marks = marks } ⌝ }
+fn row_at(rows: [[bool; 8]; 8], i: usize) -> Row
+    requires { ⌜ i < 8 ⌝ }
+    ensures { λ r. ⌜ r ≡ rowAt rows i ⌝ }
 {
+    let marks = rows[i];
     Row { marks: marks }
 }
 
@@ -170,14 +78,14 @@ pub fn of_rows(rows: [[bool; 8]; 8]) -> [Row; 8]
     ensures { λ r. ⌜ r ≡ ofRows rows ⌝ }
 {
     [
-        row_with(rows[0]),
-        row_with(rows[1]),
-        row_with(rows[2]),
-        row_with(rows[3]),
-        row_with(rows[4]),
-        row_with(rows[5]),
-        row_with(rows[6]),
-        row_with(rows[7]),
+        row_at(rows, 0),
+        row_at(rows, 1),
+        row_at(rows, 2),
+        row_at(rows, 3),
+        row_at(rows, 4),
+        row_at(rows, 5),
+        row_at(rows, 6),
+        row_at(rows, 7),
     ]
 }
 
@@ -232,13 +140,6 @@ impl Slots {
         }
         s
     }
-}
-
-// A call, so that it leaves no branch in its callers' proofs.
-fn and(a: bool, b: bool) -> bool
-    ensures { λ r. ⌜ r ≡ a && b ⌝ }
-{
-    if a { b } else { false }
 }
 
 impl Group {
@@ -367,7 +268,7 @@ impl Group {
     fn works_at(self, i: u8) -> bool
         ensures { λ r. ⌜ r ≡ works (stateOf self i) ⌝ }
     {
-        cabinet::works(self.state_of(i))
+        state::works(self.state_of(i))
     }
 
     pub fn working(self) -> [bool; 8]
@@ -388,7 +289,7 @@ impl Group {
     fn recovers_at(self, i: u8) -> bool
         ensures { λ r. ⌜ r ≡ inRecovery (stateOf self i) ⌝ }
     {
-        cabinet::in_recovery(self.state_of(i))
+        state::in_recovery(self.state_of(i))
     }
 
     // Those in error, recovering or recovered.
@@ -413,9 +314,9 @@ impl Group {
         let c = self.cabinet(i);
         let p = c.phase;
         let v = p.version;
-        and(
-            cabinet::is_in(self.state_of(i), State::Error),
-            cabinet::is_unknown(v),
+        marks::and(
+            state::is_in(self.state_of(i), State::Error),
+            state::is_unknown(v),
         )
     }
 
@@ -438,7 +339,7 @@ impl Group {
     fn crashed_at(self, i: u8) -> bool
         ensures { λ r. ⌜ r ≡ isIn (stateOf self i) Crashed ⌝ }
     {
-        cabinet::is_in(self.state_of(i), State::Crashed)
+        state::is_in(self.state_of(i), State::Crashed)
     }
 
     fn crashed_ones(self) -> [bool; 8]

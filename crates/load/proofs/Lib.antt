@@ -1,5 +1,5 @@
 -- What several functions' proofs share, and what holds of a group that was loaded.
-mod Lists
-mod Passed
+pub mod Lists
+pub mod Passed
 mod Links
 pub mod Loaded

@@ -8,12 +8,6 @@ use lib.ListN.{length, getD, replicate}
 use lib.Seq.{ext-getD}
 
 module _ {A : Type 0} where
-  -- within a list the default does not matter
-  pub any-default : (xs : List A) (i : ℕ) (d e : A) → i < length xs → getD xs i d ≡ getD xs i e
-  any-default [] i d e h = absurd (omega arith)
-  any-default (x ∷ xs) zero d e h = refl
-  any-default (x ∷ xs) (suc i) d e h = any-default xs i d e (omega arith)
-
   -- lists of eight are equal if their elements are
   pub eight : {a₀ a₁ a₂ a₃ a₄ a₅ a₆ a₇ b₀ b₁ b₂ b₃ b₄ b₅ b₆ b₇ : A}
       → a₀ ≡ b₀ → a₁ ≡ b₁ → a₂ ≡ b₂ → a₃ ≡ b₃ → a₄ ≡ b₄ → a₅ ≡ b₅ → a₆ ≡ b₆ → a₇ ≡ b₇

@@ -13,19 +13,21 @@ use borrow.Author.Tests.{lt-ltb, le-ltb, leb-true, eqb-true, eq-eqb, ne-eqb}
 use Rattle.marks.specs.Marks.{Marks, marked, noMarks}
 use Rattle.marks.specs.Reach.{Rows, mark, connected}
 use Rattle.line.specs.Line.{emptyLine}
-use Rattle.cabinet.specs.declared.Image.{Image}
+use Rattle.image.specs.declared.Image.{Image}
 use Rattle.cabinet.specs.declared.Cabinet.{Cabinet}
-use Rattle.cabinet.specs.State.{works}
-use Rattle.cabinet.specs.Cabinet.{blankImage, booked, absent}
-use Rattle.group.specs.declared.Outgoing.{Outgoing}
+use Rattle.state.specs.State.{works}
+use Rattle.image.specs.Image.{blankImage, booked}
+use Rattle.cabinet.specs.Cabinet.{absent}
+use Rattle.outgoing.specs.declared.Outgoing.{Outgoing}
 use Rattle.group.specs.declared.Slots.{Slots}
 use Rattle.group.specs.declared.Group.{Group}
 use Rattle.group.specs.declared.Outcome.{Outcome}
-use Rattle.group.specs.Lines.{emptyLines, lineTo}
+use Rattle.outgoing.specs.Lines.{emptyLines, lineTo}
 use Rattle.group.specs.Group.{cabinet, outgoing, line, blankSlots, slot, rowAt, rowsOf, ofRows, working, answering}
 use Rattle.load.specs.Load.{cabinetCount, linkCount, homeOf, storeMark, bookingOf, cabinetRight, cabinetsRight, linkRows, rowsIn, present, bookings, feederTotal, loadRefusal, imageOf, startingCabinet, cabinetOf, cabinetsOf, slotsOf, storeOf, groupOf, noGroup, loadWith, load}
 use Rattle.load.specs.Starts.{bookedTo, Starts}
-use Rattle.load.proofs.Lists.{eight, made, read-back, repeated, chosen, other, any-default}
+use Rattle.load.proofs.Lists.{eight, made, read-back, repeated, chosen, other}
+use Rattle.marks.proofs.Lists.{getD-in}
 use Rattle.load.proofs.Passed.{Passed, passed}
 use Rattle.load.proofs.Links.{Fair, fair-links, connected-same}
 
@@ -207,7 +209,7 @@ module _ (f : List ℕ) (rows : Rows) where
     row-eight : (i : ℕ) → length (getD rows i noMarks) ≡ 8
     row-eight i =
         elim (decLt i 8) [
-          | yes h ↦ ap length (any-default rows i noMarks [] (omega (arith, fair .size))) ∙ fair .row-size i h
+          | yes h ↦ ap length (getD-in rows i noMarks [] (omega (arith, fair .size))) ∙ fair .row-size i h
           | no h ↦ ap length (List·getD-eq-default rows noMarks {n = i} (omega (arith, fair .size)))
         ]
 

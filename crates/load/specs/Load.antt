@@ -6,17 +6,18 @@ use lib.ListN.{length, getD, set, replicate}
 use lib.Dec.{eqb, ltb, leb}
 use Rattle.marks.specs.Marks.{Marks, marked, noMarks}
 use Rattle.marks.specs.Reach.{Rows, mark, connected}
-use Rattle.cabinet.specs.declared.State.the-variants.{Normal}
-use Rattle.cabinet.specs.declared.Version.the-variants.{Known}
+use Rattle.state.specs.declared.State.the-variants.{Normal}
+use Rattle.state.specs.declared.Version.the-variants.{Known}
 use Rattle.cabinet.specs.declared.Alarm.the-variants.{Quiet}
-use Rattle.cabinet.specs.declared.Image.{Image}
+use Rattle.image.specs.declared.Image.{Image}
 use Rattle.cabinet.specs.declared.Cabinet.{Cabinet}
-use Rattle.group.specs.declared.Outgoing.{Outgoing}
+use Rattle.outgoing.specs.declared.Outgoing.{Outgoing}
 use Rattle.group.specs.declared.Slots.{Slots}
 use Rattle.group.specs.declared.Group.{Group}
 use Rattle.group.specs.declared.Outcome.{Outcome}
-use Rattle.cabinet.specs.Cabinet.{blankImage, nothingNoted, startRegisters, absent}
-use Rattle.group.specs.Lines.{emptyLines}
+use Rattle.image.specs.Image.{blankImage}
+use Rattle.cabinet.specs.Cabinet.{nothingNoted, startRegisters, absent}
+use Rattle.outgoing.specs.Lines.{emptyLines}
 use Rattle.group.specs.Group.{noRow, blankSlots, ofRows, answering}
 
 -- ---- the fields

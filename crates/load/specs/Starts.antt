@@ -8,12 +8,13 @@ use lib.Dec.{ltb}
 use Rattle.marks.specs.Marks.{marked, noMarks}
 use Rattle.marks.specs.Reach.{mark, connected}
 use Rattle.line.specs.Line.{emptyLine}
-use Rattle.cabinet.specs.declared.State.the-variants.{Normal}
-use Rattle.cabinet.specs.declared.Version.the-variants.{Known}
+use Rattle.state.specs.declared.State.the-variants.{Normal}
+use Rattle.state.specs.declared.Version.the-variants.{Known}
 use Rattle.cabinet.specs.declared.Alarm.the-variants.{Quiet}
-use Rattle.cabinet.specs.Cabinet.{blankImage, booked, nothingNoted, startRegisters, absent}
+use Rattle.image.specs.Image.{blankImage, booked}
+use Rattle.cabinet.specs.Cabinet.{nothingNoted, startRegisters, absent}
 use Rattle.group.specs.declared.Group.{Group}
-use Rattle.group.specs.Lines.{emptyLines}
+use Rattle.outgoing.specs.Lines.{emptyLines}
 use Rattle.group.specs.Group.{cabinet, outgoing, line, slot, rowsOf, working}
 use Rattle.load.specs.Load.{cabinetCount, rowsIn, present, feederTotal, imageOf, startingCabinet}
 

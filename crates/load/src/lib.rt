@@ -1,83 +1,29 @@
-// A group file to the group, lines and store.
+// A group file: its fields and the checks of a load.
 // A cabinet has its number in the file, less one: 0 to 7. Offsets are whole numbers and never wrap.
-use cabinet::Alarm;
-use cabinet::Cabinet;
-use cabinet::Image;
-use cabinet::Phase;
-use cabinet::State;
-use cabinet::Table;
-use cabinet::Version;
-use group::Group;
-use group::Outcome;
-use group::Outgoing;
-use group::Row;
-use group::Slots;
 ghost use mathlib.Core.Path.{_≡_};
 ghost use mathlib.Core.Bool.{true, _&&_};
 ghost use Prim.Native.Nat.{_-_, _<_, _≤_};
 ghost use lib.ListN.{getD, set};
 ghost use lib.Dec.{leb};
-ghost use Rattle.marks.specs.Marks.{noMarks};
 ghost use Rattle.marks.specs.Reach.{connected};
-ghost use Rattle.load.specs.Load.{
-  number,
-  cabinetCount,
-  linkCount,
-  linkTable,
-  totalLength,
-  homeOf,
-  storeMark,
-  bookingOf,
-  lowerOf,
-  higherOf,
-  orderOf,
-  offsetsRight,
-  cabinetRight,
-  cabinetsRight,
-  linkRight,
-  risesTo,
-  linksRight,
-  linked,
-  withLink,
-  linkRows,
-  rowsIn,
-  present,
-  bookings,
-  feederTotal,
-  loadRefusal,
-  imageOf,
-  startingCabinet,
-  cabinetOf,
-  cabinetsOf,
-  slotsOf,
-  storeOf,
-  groupOf,
-  noGroup,
-  load,
-};
-
-fn and(a: bool, b: bool) -> bool
-    ensures { λ r. ⌜ r ≡ a && b ⌝ }
-{
-    if a { b } else { false }
-}
+ghost use Rattle.load.specs.Load.{number, cabinetCount, linkCount, linkTable, totalLength, homeOf, storeMark, bookingOf, lowerOf, higherOf, orderOf, offsetsRight, cabinetRight, cabinetsRight, linkRight, risesTo, linksRight, linked, withLink, linkRows, rowsIn, present, bookings, feederTotal, loadRefusal};
 
 // One less, and 0 at 0.
-fn less_one(x: usize) -> usize
+pub fn less_one(x: usize) -> usize
     ensures { λ r. ⌜ r ≡ x - 1 ⌝ }
 {
     if 1 <= x { x - 1 } else { 0 }
 }
 
 // The octet at a place, 0 past the end of the file.
-fn octet(file: &[u8], at: usize) -> u8
+pub fn octet(file: &[u8], at: usize) -> u8
     ensures { λ r. ⌜ r ≡ getD (now (file .entry)) at 0 ⌝ }
 {
     if at < file.len() { file[at] } else { 0 }
 }
 
 // The same as a number to count with.
-fn small(file: &[u8], at: usize) -> usize
+pub fn small(file: &[u8], at: usize) -> usize
     ensures { λ r. ⌜ r ≡ getD (now (file .entry)) at 0 ⌝ }
     ensures { λ r. ⌜ r < 256 ⌝ }
 {
@@ -93,7 +39,7 @@ fn number(file: &[u8], at: usize) -> usize
     small(file, at) * 256 + small(file, at + 1)
 }
 
-fn cabinet_count(file: &[u8]) -> usize
+pub fn cabinet_count(file: &[u8]) -> usize
     ensures { λ r. ⌜ r ≡ cabinetCount (now (file .entry)) ⌝ }
     ensures { λ r. ⌜ r < 65536 ⌝ }
 {
@@ -175,9 +121,9 @@ fn offsets_right(file: &[u8]) -> bool
     ensures { λ r. ⌜ r ≡ offsetsRight (now (file .entry)) ⌝ }
 {
     let total = total_length(file);
-    let lengths = and(number(file, 8) == total, total == file.len());
-    let links = and(number(file, 6) == link_table(file), lengths);
-    and(number(file, 4) == 10, links)
+    let lengths = marks::and(number(file, 8) == total, total == file.len());
+    let links = marks::and(number(file, 6) == link_table(file), lengths);
+    marks::and(number(file, 4) == 10, links)
 }
 
 // The mark of cabinet i is 0 or 1, its home is 1 to n, and its home is a store.
@@ -187,8 +133,8 @@ fn cabinet_right(file: &[u8], i: usize) -> bool
 {
     let home = home_of(file, i);
     let stores = store_mark(file, less_one(home)) == 1;
-    let within = and(1 <= home, and(home <= cabinet_count(file), stores));
-    and(store_mark(file, i) <= 1, within)
+    let within = marks::and(1 <= home, marks::and(home <= cabinet_count(file), stores));
+    marks::and(store_mark(file, i) <= 1, within)
 }
 
 fn cabinets_right(file: &[u8], n: usize) -> bool
@@ -198,7 +144,7 @@ fn cabinets_right(file: &[u8], n: usize) -> bool
     let mut right = true;
     let mut i = 0;
     while i < n {
-        right = and(right, cabinet_right(file, i));
+        right = marks::and(right, cabinet_right(file, i));
         i += 1;
     }
     right
@@ -211,9 +157,9 @@ fn link_right(file: &[u8], k: usize) -> bool
 {
     let lower = lower_of(file, k);
     let higher = higher_of(file, k);
-    and(
+    marks::and(
         1 <= lower,
-        and(lower < higher, higher <= cabinet_count(file)),
+        marks::and(lower < higher, higher <= cabinet_count(file)),
     )
 }
 
@@ -235,7 +181,7 @@ fn links_right(file: &[u8], m: usize) -> bool
     let mut right = true;
     let mut k = 0;
     while k < m {
-        right = and(right, and(link_right(file, k), rises_to(file, k)));
+        right = marks::and(right, marks::and(link_right(file, k), rises_to(file, k)));
         k += 1;
     }
     right
@@ -288,14 +234,14 @@ fn link_rows(file: &[u8], m: usize) -> [[bool; 8]; 8]
     rows
 }
 
-fn rows_in(file: &[u8]) -> [[bool; 8]; 8]
+pub fn rows_in(file: &[u8]) -> [[bool; 8]; 8]
     ensures { λ r. ⌜ r ≡ rowsIn (now (file .entry)) ⌝ }
 {
     link_rows(file, link_count(file))
 }
 
 // The row of the cabinets that the file has.
-fn present(file: &[u8]) -> [bool; 8]
+pub fn present(file: &[u8]) -> [bool; 8]
     ensures { λ r. ⌜ r ≡ present (now (file .entry)) ⌝ }
 {
     let n = cabinet_count(file);
@@ -327,7 +273,7 @@ fn count_right(file: &[u8]) -> bool
     ensures { λ r. ⌜ r ≡ leb 2 (cabinetCount (now (file .entry))) && leb (cabinetCount (now (file .entry))) 8 ⌝ }
 {
     let n = cabinet_count(file);
-    and(2 <= n, n <= 8)
+    marks::and(2 <= n, n <= 8)
 }
 
 fn all_cabinets_right(file: &[u8]) -> bool
@@ -355,7 +301,7 @@ fn total_right(file: &[u8]) -> bool
 }
 
 // The number of the first refusal that applies, 0 where none does. A check is made only where those before it passed.
-fn load_refusal(file: &[u8]) -> u8
+pub fn load_refusal(file: &[u8]) -> u8
     ensures { λ r. ⌜ r ≡ loadRefusal (now (file .entry)) ⌝ }
 {
     if 10 <= file.len() {} else {
@@ -380,147 +326,4 @@ fn load_refusal(file: &[u8]) -> u8
         return 7;
     }
     0
-}
-
-// The image of cabinet i: its booking in octets 0 and 1, and no notes.
-fn image_of(file: &[u8], i: usize) -> Image
-    requires { ⌜ i < 65536 ⌝ }
-    ensures { λ r. ⌜ r ≡ imageOf (now (file .entry)) i ⌝ }
-{
-    let high = octet(file, 12 + 4 * i);
-    let low = octet(file, 13 + 4 * i);
-    let mut octets = [0; 32];
-    octets[0] = high;
-    octets[1] = low;
-    Image { octets: octets }
-}
-
-fn row_of(rows: [[bool; 8]; 8], i: usize) -> [bool; 8]
-    requires { ⌜ i < 8 ⌝ }
-    ensures { λ r. ⌜ r ≡ getD rows i noMarks ⌝ }
-{
-    rows[i]
-}
-
-fn starting_cabinet(file: &[u8], rows: [[bool; 8]; 8], i: usize) -> Cabinet
-    requires { ⌜ i < 8 ⌝ }
-    ensures { λ r. ⌜ r ≡ startingCabinet (now (file .entry)) rows i ⌝ }
-{
-    Cabinet {
-        phase: Phase {
-            state: State::Normal,
-            version: Version::Known(false),
-            alarm: Alarm::Quiet,
-        },
-        table: Table {
-            cabinets: present(file),
-            links: row_of(rows, i),
-        },
-        noted: cabinet::nothing_noted(),
-        registers: cabinet::start_registers(),
-        image: image_of(file, i),
-        home: less_one(home_of(file, i)) as u8,
-        store: store_mark(file, i) == 1,
-        owed: [false; 8],
-    }
-}
-
-// What stands at number i: a cabinet of the file, or none.
-fn cabinet_of(file: &[u8], rows: [[bool; 8]; 8], i: usize) -> Cabinet
-    requires { ⌜ i < 8 ⌝ }
-    ensures { λ r. ⌜ r ≡ cabinetOf (now (file .entry)) rows i ⌝ }
-{
-    if i < cabinet_count(file) {
-        starting_cabinet(file, rows, i)
-    } else {
-        Cabinet::absent()
-    }
-}
-
-fn cabinets_of(file: &[u8], rows: [[bool; 8]; 8]) -> [Cabinet; 8]
-    ensures { λ r. ⌜ r ≡ cabinetsOf (now (file .entry)) rows ⌝ }
-{
-    [
-        cabinet_of(file, rows, 0),
-        cabinet_of(file, rows, 1),
-        cabinet_of(file, rows, 2),
-        cabinet_of(file, rows, 3),
-        cabinet_of(file, rows, 4),
-        cabinet_of(file, rows, 5),
-        cabinet_of(file, rows, 6),
-        cabinet_of(file, rows, 7),
-    ]
-}
-
-// The two slots of number i: slot 0 holds the starting image.
-fn slots_of(file: &[u8], i: usize) -> Slots
-    requires { ⌜ i < 8 ⌝ }
-    ensures { λ r. ⌜ r ≡ slotsOf (now (file .entry)) i ⌝ }
-{
-    if i < cabinet_count(file) {
-        Slots {
-            zero: image_of(file, i),
-            one: Image::blank(),
-        }
-    } else {
-        Slots::blank()
-    }
-}
-
-fn store_of(file: &[u8]) -> [Slots; 8]
-    ensures { λ r. ⌜ r ≡ storeOf (now (file .entry)) ⌝ }
-{
-    [
-        slots_of(file, 0),
-        slots_of(file, 1),
-        slots_of(file, 2),
-        slots_of(file, 3),
-        slots_of(file, 4),
-        slots_of(file, 5),
-        slots_of(file, 6),
-        slots_of(file, 7),
-    ]
-}
-
-// The group of a file that no check refuses. The count fits an octet then.
-fn group_of(file: &[u8], rows: [[bool; 8]; 8]) -> Group
-    requires { ⌜ cabinetCount (now file) ≤ 8 ⌝ }
-    ensures { λ r. ⌜ r ≡ groupOf (now (file .entry)) rows ⌝ }
-{
-    let links = group::of_rows(rows);
-    Group {
-        n: cabinet_count(file) as u8,
-        cabinets: cabinets_of(file, rows),
-        links: links,
-        sound: links,
-        outgoing: [Outgoing::empty(); 8],
-        store: store_of(file),
-    }
-}
-
-// A refused file leaves no group.
-fn no_group() -> Group
-    ensures { λ r. ⌜ r ≡ noGroup ⌝ }
-{
-    let row = Row { marks: [false; 8] };
-    Group {
-        n: 0,
-        cabinets: [Cabinet::absent(); 8],
-        links: [row; 8],
-        sound: [row; 8],
-        outgoing: [Outgoing::empty(); 8],
-        store: [Slots::blank(); 8],
-    }
-}
-
-// The group file's answer: 0 with the group, or the number of the first refusal that applies.
-pub fn load(file: &[u8]) -> Outcome
-    ensures { λ r. ⌜ r ≡ load (now (file .entry)) ⌝ }
-{
-    let refusal = load_refusal(file);
-    if refusal == 0 {
-        group::answering(0, group_of(file, rows_in(file)))
-    } else {
-        group::answering(refusal, no_group())
-    }
 }

@@ -1,2 +1,3 @@
 -- What several functions' proofs share.
 mod Count
+pub mod Lists

@@ -3,8 +3,9 @@ ghost use mathlib.Core.Path.{_≡_};
 ghost use mathlib.Core.Bool.{false, _&&_, _||_};
 ghost use Prim.Native.Nat.{ℕ, _<_, _≤_};
 ghost use lib.ListN.{set};
-ghost use Rattle.marks.specs.Marks.{lowest, covers, both};
+ghost use Rattle.marks.specs.Marks.{marked, inBoth, lowest, covers, both};
 ghost use Rattle.marks.specs.Reach.{
+  mark,
   cleared,
   struck,
   touched,
@@ -18,16 +19,33 @@ ghost use Rattle.marks.specs.Reach.{
 };
 
 // `and` and `or` are calls, so that they leave no branch in their callers' proofs.
-fn and(a: bool, b: bool) -> bool
+pub fn and(a: bool, b: bool) -> bool
     ensures { λ r. ⌜ r ≡ a && b ⌝ }
 {
     if a { b } else { false }
 }
 
-fn or(a: bool, b: bool) -> bool
+pub fn or(a: bool, b: bool) -> bool
     ensures { λ r. ⌜ r ≡ a || b ⌝ }
 {
     if a { true } else { b }
+}
+
+// A mark by its number: past the eighth none is marked, and nothing changes.
+pub fn marked(marks: [bool; 8], j: u8) -> bool
+    ensures { λ r. ⌜ r ≡ marked marks j ⌝ }
+{
+    if j < 8 { marks[j as usize] } else { false }
+}
+
+pub fn set_mark(marks: [bool; 8], j: u8, mark: bool) -> [bool; 8]
+    ensures { λ r. ⌜ r ≡ set marks j mark ⌝ }
+{
+    let mut changed = marks;
+    if j < 8 {
+        changed[j as usize] = mark;
+    }
+    changed
 }
 
 // The lowest number marked, 8 where none is.
@@ -57,31 +75,38 @@ pub fn covers(have: [bool; 8], want: [bool; 8]) -> bool
     all
 }
 
+// Number i is marked in both.
+fn in_both(a: [bool; 8], b: [bool; 8], i: u8) -> bool
+    ensures { λ r. ⌜ r ≡ inBoth a b i ⌝ }
+{
+    and(marked(a, i), marked(b, i))
+}
+
 // The marks that stand in both.
 pub fn both(a: [bool; 8], b: [bool; 8]) -> [bool; 8]
     ensures { λ r. ⌜ r ≡ both a b ⌝ }
 {
     [
-        and(a[0], b[0]),
-        and(a[1], b[1]),
-        and(a[2], b[2]),
-        and(a[3], b[3]),
-        and(a[4], b[4]),
-        and(a[5], b[5]),
-        and(a[6], b[6]),
-        and(a[7], b[7]),
+        in_both(a, b, 0),
+        in_both(a, b, 1),
+        in_both(a, b, 2),
+        in_both(a, b, 3),
+        in_both(a, b, 4),
+        in_both(a, b, 5),
+        in_both(a, b, 6),
+        in_both(a, b, 7),
     ]
 }
 
-// The marks with j's cleared; unchanged where j is not below 8.
-fn without(marks: [bool; 8], j: u8) -> [bool; 8]
-    ensures { λ r. ⌜ r ≡ set marks j false ⌝ }
+// The row of cabinet a has a mark for b; none is past the eighth.
+pub fn is_linked(rows: [[bool; 8]; 8], a: u8, b: u8) -> bool
+    ensures { λ r. ⌜ r ≡ mark rows a b ⌝ }
 {
-    let mut left = marks;
-    if j < 8 {
-        left[j as usize] = false;
+    if a < 8 {
+        marked(rows[a as usize], b)
+    } else {
+        false
     }
-    left
 }
 
 // The rows with i's mark for j cleared.
@@ -90,7 +115,7 @@ fn cleared(rows: [[bool; 8]; 8], i: u8, j: u8) -> [[bool; 8]; 8]
 {
     let mut left = rows;
     if i < 8 {
-        left[i as usize] = without(rows[i as usize], j);
+        left[i as usize] = set_mark(rows[i as usize], j, false);
     }
     left
 }

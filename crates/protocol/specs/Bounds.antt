@@ -9,7 +9,7 @@ use Rattle.line.specs.declared.Packet.the-variants.{Normal as NormalPacket}
 use Rattle.line.specs.declared.Cell.{Cell}
 use Rattle.line.specs.Packet.{isEmpty}
 use Rattle.line.specs.Line.{oldest, normals}
-use Rattle.cabinet.specs.Cabinet.{booked}
+use Rattle.image.specs.Image.{booked}
 use Rattle.group.specs.declared.Group.{Group}
 use Rattle.group.specs.Group.{cabinet, line, isCrashed}
 use Rattle.load.specs.Load.{load}

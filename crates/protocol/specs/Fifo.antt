@@ -14,11 +14,11 @@ use Rattle.line.specs.declared.Packet.the-variants.{Empty, Normal as NormalPack
 use Rattle.line.specs.declared.Cell.{Cell}
 use Rattle.line.specs.Packet.{startCheck, damaged, isEmpty}
 use Rattle.line.specs.Line.{packetAt}
-use Rattle.cabinet.specs.declared.State.the-variants.{Normal, CheckpBegin, Checkpointing, Checkpointed, Error, Recovering}
+use Rattle.state.specs.declared.State.the-variants.{Normal, CheckpBegin, Checkpointing, Checkpointed, Error, Recovering}
 use Rattle.cabinet.specs.declared.Alarm.{Alarm}
 use Rattle.cabinet.specs.declared.Alarm.the-variants.{Quiet, Fault as At}
 use Rattle.cabinet.specs.declared.Cabinet.{Cabinet}
-use Rattle.cabinet.specs.State.{isIn, works, inRecovery, bitOf}
+use Rattle.state.specs.State.{isIn, works, inRecovery, bitOf}
 use Rattle.cabinet.specs.Cabinet.{inUse}
 use Rattle.group.specs.declared.Group.{Group}
 use Rattle.group.specs.Group.{cabinet, line}

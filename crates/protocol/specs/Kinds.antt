@@ -12,15 +12,16 @@ use Rattle.line.specs.declared.Packet.{Packet}
 use Rattle.line.specs.declared.Packet.the-variants.{Normal as NormalPacket}
 use Rattle.line.specs.Packet.{isEmpty, isNormal, damaged}
 use Rattle.line.specs.Line.{oldest, rest, put, normals, packetAt, replaced}
-use Rattle.cabinet.specs.declared.State.the-variants.{Normal, Checkpointing, Error, Recovering, Recovered}
+use Rattle.state.specs.declared.State.the-variants.{Normal, Checkpointing, Error, Recovering, Recovered}
 use Rattle.cabinet.specs.declared.Alarm.{Alarm}
 use Rattle.cabinet.specs.declared.Alarm.the-variants.{Quiet, Fault}
 use Rattle.line.specs.declared.Place.{Place}
 use Rattle.cabinet.specs.declared.Cabinet.{Cabinet}
 use Rattle.group.specs.declared.Group.{Group}
 use Rattle.group.specs.declared.Outcome.{Outcome}
-use Rattle.cabinet.specs.State.{isIn, inRecovery, inRestoring, inSaving, bitOf}
-use Rattle.cabinet.specs.Cabinet.{inUse, coordinator, booked, withImage, withOctet, withPiece, sending, hurtFrom, wrote, owing, savedFor, fetched, restoredFor}
+use Rattle.state.specs.State.{isIn, inRecovery, inRestoring, inSaving, bitOf}
+use Rattle.image.specs.Image.{booked, withOctet, withPiece}
+use Rattle.cabinet.specs.Cabinet.{inUse, coordinator, withImage, sending, hurtFrom, wrote, owing, savedFor, fetched, restoredFor}
 use Rattle.group.specs.Group.{cabinet, withCabinet, stateOf, line, withLine, slot, withSlot, rowsOf, some, working, recoveringOnes, unsure, answering, taken, crashed}
 use Rattle.protocol.specs.Moves.{join, cutIfAll, commit, recoverWith, markFailed, alarmTo, endRecovery}
 use Rattle.protocol.specs.Receive.{receive}

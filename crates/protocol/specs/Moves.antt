@@ -12,15 +12,15 @@ use Rattle.line.specs.declared.Packet.{Packet}
 use Rattle.line.specs.declared.Packet.the-variants.{Resume, Recover, Fault}
 use Rattle.line.specs.Packet.{linkPlace}
 use Rattle.line.specs.Line.{emptyLine}
-use Rattle.cabinet.specs.declared.State.the-variants.{Failed}
-use Rattle.cabinet.specs.declared.Version.{Version}
-use Rattle.cabinet.specs.declared.Version.the-variants.{Known, Unknown}
+use Rattle.state.specs.declared.State.the-variants.{Failed}
+use Rattle.state.specs.declared.Version.{Version}
+use Rattle.state.specs.declared.Version.the-variants.{Known, Unknown}
 use Rattle.cabinet.specs.declared.Cabinet.{Cabinet}
 use Rattle.group.specs.declared.Group.{Group}
 use Rattle.group.specs.declared.Outcome.{Outcome}
-use Rattle.cabinet.specs.State.{flipped, adopted, works}
+use Rattle.state.specs.State.{flipped, adopted, works}
 use Rattle.cabinet.specs.Cabinet.{inUse, beginning, comparing, cutting, resuming, alarmed, hearing, recovering, withState}
-use Rattle.group.specs.Lines.{emptyLines, withLineTo, putAll, putCheckps}
+use Rattle.outgoing.specs.Lines.{emptyLines, withLineTo, putAll, putCheckps}
 use Rattle.group.specs.Group.{cabinet, withCabinet, stateOf, outgoing, withOutgoing, withLine, rowsOf, withSound, working, taken, crashed}
 
 -- a packet on all lines in use of cabinet i

@@ -11,12 +11,13 @@ use Rattle.line.specs.declared.Place.{Place}
 use Rattle.line.specs.declared.Packet.{Packet}
 use Rattle.line.specs.declared.Packet.the-variants.{Empty, Normal as NormalPacket, Checkp, Resume, Recover, Fault, Invalid}
 use Rattle.line.specs.Packet.{startCheck, sameCheck}
-use Rattle.cabinet.specs.declared.State.{State}
-use Rattle.cabinet.specs.declared.State.the-variants.{Normal, CheckpBegin, Checkpointed, Error, Recovered}
+use Rattle.state.specs.declared.State.{State}
+use Rattle.state.specs.declared.State.the-variants.{Normal, CheckpBegin, Checkpointed, Error, Recovered}
 use Rattle.cabinet.specs.declared.Cabinet.{Cabinet}
 use Rattle.group.specs.declared.Group.{Group}
 use Rattle.group.specs.declared.Outcome.{Outcome}
-use Rattle.cabinet.specs.State.{isIn, inSaving, inRecovery, isFor}
+use Rattle.cabinet.specs.Alarm.{isFor}
+use Rattle.state.specs.State.{isIn, inSaving, inRecovery}
 use Rattle.cabinet.specs.Cabinet.{coordinator, taking}
 use Rattle.group.specs.Group.{cabinet, withCabinet, stateOf, taken, crashed}
 use Rattle.protocol.specs.Moves.{join, takeCheckp, adopt, recoverWith, enterError, hear, findLinkFault, endRecovery}

@@ -7,10 +7,10 @@ use mathlib.Core.List.{List, [], _∷_}
 use mathlib.Core.Option.{Option, none, some}
 use lib.ListN.{getD}
 use Rattle.line.specs.declared.Payload.{Payload}
-use Rattle.cabinet.specs.declared.Version.the-variants.{Known}
-use Rattle.cabinet.specs.declared.Image.{Image}
-use Rattle.cabinet.specs.State.{works}
-use Rattle.cabinet.specs.Cabinet.{booked}
+use Rattle.state.specs.declared.Version.the-variants.{Known}
+use Rattle.image.specs.declared.Image.{Image}
+use Rattle.state.specs.State.{works}
+use Rattle.image.specs.Image.{booked}
 use Rattle.group.specs.declared.Group.{Group}
 use Rattle.group.specs.Group.{cabinet, stateOf}
 use Rattle.load.specs.Load.{load, cabinetCount, feederTotal}

@@ -9,10 +9,10 @@ use mathlib.Core.Option.{Option, none, some}
 use Rattle.marks.specs.Marks.{marked}
 use Rattle.line.specs.declared.Packet.the-variants.{Resume}
 use Rattle.line.specs.Line.{oldest, packetAt}
-use Rattle.cabinet.specs.declared.State.the-variants.{Checkpointing, Checkpointed}
-use Rattle.cabinet.specs.declared.Version.the-variants.{Known}
-use Rattle.cabinet.specs.declared.Image.{Image}
-use Rattle.cabinet.specs.State.{works, isUnknown, bitOf}
+use Rattle.state.specs.declared.State.the-variants.{Checkpointing, Checkpointed}
+use Rattle.state.specs.declared.Version.the-variants.{Known}
+use Rattle.image.specs.declared.Image.{Image}
+use Rattle.state.specs.State.{works, isUnknown, bitOf}
 use Rattle.cabinet.specs.Cabinet.{inUse, coordinator}
 use Rattle.group.specs.declared.Group.{Group}
 use Rattle.group.specs.Group.{cabinet, stateOf, line, slot, isCrashed}

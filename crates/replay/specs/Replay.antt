@@ -7,7 +7,7 @@ use lib.ListN.{length, take}
 use lib.Dec.{eqb}
 use Rattle.group.specs.declared.Group.{Group}
 use Rattle.group.specs.declared.Outcome.{Outcome}
-use Rattle.cabinet.specs.State.{works}
+use Rattle.state.specs.State.{works}
 use Rattle.group.specs.Group.{stateOf, answering}
 use Rattle.load.specs.Load.{load, cabinetCount, feederTotal}
 use Rattle.protocol.specs.Entry.{step}

@@ -50,7 +50,7 @@ pub fn replay(file: &[u8], list: &[u8], answers: &mut [u8]) -> Outcome
     ensures { λ r. ⌜ now (answers .exit) ≡ sets (now (answers .entry)) 0 (answersOf (now (file .entry)) (recordsIn (now (list .entry)))) ⌝ }
     ensures { λ r. ⌜ (load (now (file .entry)) .answer ≡ 0 → EndsWell (now (file .entry)) (recordsIn (now (list .entry)))) ⌝ }
 {
-    let o = load::load(file);
+    let o = loading::load(file);
     if o.answer == 0 {
         let g = run(o.group, list, answers);
         Outcome {

@@ -6,13 +6,13 @@ use mathlib.Core.List.{List, [], _∷_, _++_, append-assoc, append-nil}
 use native.Mathlib.Nat.{add-zero, add-suc, suc-add}
 use native.Mathlib.Omega.{arith}
 use lib.ListN.{length, length-append}
-use Rattle.cabinet.specs.declared.State.{State}
-use Rattle.cabinet.specs.declared.State.the-variants.{Failed, Normal, CheckpBegin, Checkpointing, Checkpointed, Error, Recovering, Recovered, Crashed}
-use Rattle.cabinet.specs.declared.Version.{Version}
-use Rattle.cabinet.specs.declared.Version.the-variants.{Known, Unknown}
+use Rattle.state.specs.declared.State.{State}
+use Rattle.state.specs.declared.State.the-variants.{Failed, Normal, CheckpBegin, Checkpointing, Checkpointed, Error, Recovering, Recovered, Crashed}
+use Rattle.state.specs.declared.Version.{Version}
+use Rattle.state.specs.declared.Version.the-variants.{Known, Unknown}
 use Rattle.cabinet.specs.declared.Cabinet.{Cabinet}
-use Rattle.cabinet.specs.State.{works}
-use Rattle.cabinet.specs.Cabinet.{booked}
+use Rattle.state.specs.State.{works}
+use Rattle.image.specs.Image.{booked}
 use Rattle.group.specs.declared.Group.{Group}
 use Rattle.group.specs.Group.{cabinet}
 use Rattle.protocol.specs.Entry.{step}

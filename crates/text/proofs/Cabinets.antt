@@ -4,8 +4,8 @@ use mathlib.Core.Path.{_≡_}
 use mathlib.Core.Bool.{Bool, true, false}
 use mathlib.Core.List.{List, _∷_, _++_, append-nil}
 use Rattle.cabinet.specs.declared.Cabinet.{Cabinet}
-use Rattle.cabinet.specs.State.{works}
-use Rattle.cabinet.specs.Cabinet.{booked}
+use Rattle.state.specs.State.{works}
+use Rattle.image.specs.Image.{booked}
 use Rattle.protocol.specs.Listing.{stateWord, versionWord, decimal, cabRest}
 use Rattle.buffer.specs.Written.{Written}
 

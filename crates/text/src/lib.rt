@@ -1,7 +1,7 @@
 // The lines of the listing, each written into a buffer that the caller lends, as in `buffer`.
 use cabinet::Cabinet;
-use cabinet::State;
-use cabinet::Version;
+use state::State;
+use state::Version;
 ghost use mathlib.Core.Path.{_≡_};
 ghost use mathlib.Core.List.{[], _∷_};
 ghost use Rattle.protocol.specs.Listing.{
@@ -71,7 +71,7 @@ fn cab_rest(out: &mut [u8], at: usize, c: Cabinet) -> usize
     let version = phase.version;
     let at = buffer::put(out, at, b' ');
     let at = state_word(out, at, state);
-    if cabinet::works(state) {
+    if state::works(state) {
         let at = buffer::put(out, at, b' ');
         let at = buffer::put(out, at, version_octet(version));
         return buffer::number(out, at, c.image.booked());

@@ -4,7 +4,7 @@ use mathlib.Core.Path.{_≡_, _∙_, sym}
 use native.Mathlib.Omega.{arith}
 use lib.ListN.{length, List·getD-eq-default}
 use Rattle.line.specs.Packet.{startCheck}
-use Rattle.cabinet.proofs.Within.{getD-within}
+use Rattle.marks.proofs.Lists.{getD-in}
 use Rattle.cabinet.proofs.check_at.Statement.{statement}
 use Rattle.cabinet.proofs.check_at.Tie as tie
 
@@ -16,7 +16,7 @@ check-at-spec = tie.close (tie.spec
     (λ c.
     let checks = c .before .before .args .t1 in
     let h : length checks ≡ 8 = search needs in
-    getD-within checks (c .before .before .args .j) _ startCheck (omega (arith, c .before .if1 .taken)))
+    getD-in checks (c .before .before .args .j) _ startCheck (omega (arith, c .before .if1 .taken)))
     (λ c.
     let checks = c .before .before .args .t1 in
     let h : length checks ≡ 8 = search needs in

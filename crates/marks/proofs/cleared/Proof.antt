@@ -14,7 +14,7 @@ cleared-spec = tie.close (tie.spec
     (λ c κs. search needs)
     (λ c. search needs)
     (λ c. search needs)
-    (λ c. rw (c .without .ensures))
+    (λ c. rw (c .set-mark .ensures))
     (λ c.
     let rows = c .before .args .t1 in
     let h : length rows ≡ 8 = search needs in

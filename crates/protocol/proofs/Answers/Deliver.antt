@@ -14,11 +14,12 @@ use Rattle.line.specs.declared.Packet.{Packet}
 use Rattle.line.specs.declared.Packet.the-variants.{Empty, Normal as NormalPacket, Checkp, Resume, Recover, Fault, Invalid}
 use Rattle.line.specs.Packet.{startCheck, sameCheck}
 use Rattle.line.specs.Line.{rest}
-use Rattle.cabinet.specs.declared.State.{State}
-use Rattle.cabinet.specs.declared.State.the-variants.{Normal, CheckpBegin}
+use Rattle.state.specs.declared.State.{State}
+use Rattle.state.specs.declared.State.the-variants.{Normal, CheckpBegin}
 use Rattle.cabinet.specs.declared.Alarm.the-variants.{Fault as For}
 use Rattle.group.specs.declared.Group.{Group}
-use Rattle.cabinet.specs.State.{isIn, inRecovery, isFor}
+use Rattle.cabinet.specs.Alarm.{isFor}
+use Rattle.state.specs.State.{isIn, inRecovery}
 use Rattle.group.specs.Group.{cabinet, stateOf, line, withOutgoing, withLine, working}
 use Rattle.protocol.specs.Moves.{findLinkFault}
 use Rattle.protocol.specs.Receive.{serving, takesFrom, receiveNormal, receiveCheckp, receiveResume, receiveRecover, receiveFault, receiveInvalid, receive}

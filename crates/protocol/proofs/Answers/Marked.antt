@@ -4,7 +4,7 @@ use mathlib.Core.List.{map}
 use Rattle.crc.specs.Crc.{crcBit, crcBits, crcOctet, crcFrom}
 use Rattle.marks.specs.Marks.{lowest, covers, both}
 use Rattle.marks.specs.Reach.{connected}
-use Rattle.group.specs.Lines.{emptyLines, lineTo, withLineTo, putAll}
+use Rattle.outgoing.specs.Lines.{emptyLines, lineTo, withLineTo, putAll}
 use Rattle.group.specs.Group.{cabinet, withCabinet, outgoing, withOutgoing, line, withLine, blankSlots, slot, rowsOf, ofRows, some, working, recoveringOnes, isCrashed}
 use Rattle.load.specs.Load.{load}
 use Rattle.protocol.specs.Moves.{broadcast, resumeWith, recoverWith, raise, enterError, markFailed, alarmTo, endRecovery}

@@ -14,13 +14,14 @@ use Rattle.line.specs.declared.Check.{Check}
 use Rattle.line.specs.declared.Place.{Place}
 use Rattle.line.specs.declared.Place.the-variants.{Cabinet as AtCabinet, Link as AtLink}
 use Rattle.line.specs.Packet.{sameCheck, samePlace}
-use Rattle.cabinet.specs.declared.State.{State}
-use Rattle.cabinet.specs.declared.State.the-variants.{Failed, Normal, CheckpBegin, Checkpointing, Checkpointed, Error, Recovering, Recovered, Crashed}
+use Rattle.state.specs.declared.State.{State}
+use Rattle.state.specs.declared.State.the-variants.{Failed, Normal, CheckpBegin, Checkpointing, Checkpointed, Error, Recovering, Recovered, Crashed}
 use Rattle.cabinet.specs.declared.Alarm.{Alarm}
 use Rattle.cabinet.specs.declared.Alarm.the-variants.{Quiet, Fault as For}
 use Rattle.cabinet.specs.declared.Cabinet.{Cabinet}
 use Rattle.group.specs.declared.Group.{Group}
-use Rattle.cabinet.specs.State.{rank, isIn, inRecovery, inSaving, isFor}
+use Rattle.cabinet.specs.Alarm.{isFor}
+use Rattle.state.specs.State.{rank, isIn, inRecovery, inSaving}
 use Rattle.group.specs.Group.{cabinet, stateOf, those, some, recoveringOnes}
 use Rattle.protocol.specs.Receive.{serving}
 use Rattle.protocol.specs.Crash.{Recovers, Saves, Serves, SomeRecovers, Unreached}

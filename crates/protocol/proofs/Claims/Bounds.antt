@@ -14,10 +14,10 @@ use Rattle.line.specs.declared.Packet.the-variants.{Normal as NormalPacket}
 use Rattle.line.specs.declared.Cell.{Cell}
 use Rattle.line.specs.Packet.{isEmpty}
 use Rattle.line.specs.Line.{oldest, rest}
-use Rattle.cabinet.specs.declared.State.{State}
-use Rattle.cabinet.specs.declared.State.the-variants.{Failed, Normal, CheckpBegin, Checkpointing, Checkpointed, Error, Recovering, Recovered, Crashed}
-use Rattle.cabinet.specs.State.{isIn, works, inRecovery}
-use Rattle.cabinet.specs.Cabinet.{booked}
+use Rattle.state.specs.declared.State.{State}
+use Rattle.state.specs.declared.State.the-variants.{Failed, Normal, CheckpBegin, Checkpointing, Checkpointed, Error, Recovering, Recovered, Crashed}
+use Rattle.state.specs.State.{isIn, works, inRecovery}
+use Rattle.image.specs.Image.{booked}
 use Rattle.group.specs.declared.Group.{Group}
 use Rattle.group.specs.Group.{cabinet, stateOf, line, isCrashed}
 use Rattle.load.specs.Load.{load, feederTotal}

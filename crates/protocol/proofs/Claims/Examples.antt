@@ -9,9 +9,9 @@ use native.Mathlib.Omega.{arith}
 use Rattle.crc.specs.Crc.{crcBit, crcBits, crcOctet, crcFrom}
 use Rattle.marks.specs.Marks.{lowest, covers, both}
 use Rattle.marks.specs.Reach.{struck, connected}
-use Rattle.group.specs.Lines.{emptyLines, lineTo, withLineTo, putAll, putCheckps}
+use Rattle.outgoing.specs.Lines.{emptyLines, lineTo, withLineTo, putAll, putCheckps}
 use Rattle.group.specs.Group.{cabinet, stateOf, withCabinet, outgoing, withOutgoing, line, withLine, blankSlots, slot, withSlots, withSlot, rowsOf, ofRows, withSound, some, working, recoveringOnes, unsure, isCrashed}
-use Rattle.cabinet.specs.State.{works}
+use Rattle.state.specs.State.{works}
 use Rattle.load.specs.Load.{load, cabinetCount, feederTotal}
 use Rattle.protocol.specs.Moves.{broadcast, join, cutIfAll, takeCheckp, resumeWith, commit, adopt, recoverWith, raise, enterError, hear, findLinkFault, markFailed, alarmTo, endRecovery}
 use Rattle.protocol.specs.Receive.{receiveNormal, receiveCheckp, receiveResume, receiveRecover, receiveFault}

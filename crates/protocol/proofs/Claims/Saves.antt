@@ -13,12 +13,13 @@ use native.Mathlib.Omega.{arith}
 use Rattle.line.specs.declared.Packet.the-variants.{Empty, Resume}
 use Rattle.line.specs.Packet.{isEmpty}
 use Rattle.line.specs.Line.{packetAt}
-use Rattle.cabinet.specs.declared.State.the-variants.{Checkpointing, Checkpointed, Recovering}
-use Rattle.cabinet.specs.declared.Version.{Version}
-use Rattle.cabinet.specs.declared.Version.the-variants.{Known, Unknown}
-use Rattle.cabinet.specs.declared.Image.{Image}
-use Rattle.cabinet.specs.State.{isIn, works, inRestoring, isUnknown, bitOf}
-use Rattle.cabinet.specs.Cabinet.{booked, coordinator}
+use Rattle.state.specs.declared.State.the-variants.{Checkpointing, Checkpointed, Recovering}
+use Rattle.state.specs.declared.Version.{Version}
+use Rattle.state.specs.declared.Version.the-variants.{Known, Unknown}
+use Rattle.image.specs.declared.Image.{Image}
+use Rattle.state.specs.State.{isIn, works, inRestoring, isUnknown, bitOf}
+use Rattle.image.specs.Image.{booked}
+use Rattle.cabinet.specs.Cabinet.{coordinator}
 use Rattle.group.specs.declared.Group.{Group}
 use Rattle.group.specs.declared.Outcome.{Outcome}
 use Rattle.group.specs.Group.{cabinet, stateOf, line, slot, isCrashed, taken}

@@ -7,7 +7,7 @@ use Rattle.marks.specs.Marks.{lowest, covers, both}
 use Rattle.marks.specs.Reach.{struck, connected}
 use Rattle.line.specs.Packet.{isEmpty}
 use Rattle.line.specs.Line.{oldest}
-use Rattle.group.specs.Lines.{emptyLines, lineTo, withLineTo, putAll, putCheckps}
+use Rattle.outgoing.specs.Lines.{emptyLines, lineTo, withLineTo, putAll, putCheckps}
 use Rattle.group.specs.Group.{cabinet, withCabinet, outgoing, withOutgoing, line, withLine, blankSlots, slot, withSlots, withSlot, rowsOf, ofRows, withSound, some, working, recoveringOnes, unsure, isCrashed, crashAll}
 use Rattle.load.specs.Load.{load}
 use Rattle.protocol.specs.Moves.{broadcast, join, cutIfAll, takeCheckp, resumeWith, commit, adopt, recoverWith, raise, enterError, hear, findLinkFault, markFailed, alarmTo, endRecovery}

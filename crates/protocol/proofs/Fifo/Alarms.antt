@@ -12,11 +12,11 @@ use Rattle.line.specs.declared.Check.{Check}
 use Rattle.line.specs.declared.Packet.{Packet}
 use Rattle.line.specs.declared.Place.{Place}
 use Rattle.line.specs.declared.Place.the-variants.{Cabinet as AtCabinet}
-use Rattle.cabinet.specs.declared.State.{State}
-use Rattle.cabinet.specs.declared.State.the-variants.{Normal, Error, Failed, Crashed}
-use Rattle.cabinet.specs.declared.Version.{Version}
+use Rattle.state.specs.declared.State.{State}
+use Rattle.state.specs.declared.State.the-variants.{Normal, Error, Failed, Crashed}
+use Rattle.state.specs.declared.Version.{Version}
 use Rattle.cabinet.specs.declared.Alarm.{Alarm}
-use Rattle.cabinet.specs.State.{isIn, works, inRecovery}
+use Rattle.state.specs.State.{isIn, works, inRecovery}
 use Rattle.group.specs.declared.Group.{Group}
 use Rattle.group.specs.Group.{stateOf}
 use Rattle.protocol.specs.Moves.{markFailed, alarmTo, neighbours, enterErrorIf}

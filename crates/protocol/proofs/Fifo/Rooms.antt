@@ -5,7 +5,7 @@ use mathlib.Core.Logic.{⊎-elim}
 use mathlib.Core.Bool.{true}
 use mathlib.Core.List.{[]}
 use native.Mathlib.Omega.{arith}
-use Rattle.cabinet.specs.State.{works}
+use Rattle.state.specs.State.{works}
 use Rattle.group.specs.declared.Group.{Group}
 use Rattle.group.specs.Group.{stateOf}
 use Rattle.protocol.proofs.State.Fun.{is-false, and-true}

@@ -4,10 +4,10 @@ use mathlib.Core.Path.{_≡_, refl, sym, ap, _∙_, subst}
 use mathlib.Core.Bool.{Bool, true, false, not, _&&_}
 use lib.Dec.{eqb, ltb}
 use Rattle.marks.specs.Marks.{marked, covers}
-use Rattle.cabinet.specs.declared.State.the-variants.{Normal, Checkpointing, Checkpointed, Error, Recovering, Recovered}
-use Rattle.cabinet.specs.declared.Version.{Version}
+use Rattle.state.specs.declared.State.the-variants.{Normal, Checkpointing, Checkpointed, Error, Recovering, Recovered}
+use Rattle.state.specs.declared.Version.{Version}
 use Rattle.cabinet.specs.declared.Cabinet.{Cabinet}
-use Rattle.cabinet.specs.State.{isIn, works, inRecovery, inRestoring, inSaving, bitOf}
+use Rattle.state.specs.State.{isIn, works, inRecovery, inRestoring, inSaving, bitOf}
 use Rattle.cabinet.specs.Cabinet.{inUse, coordinator}
 use Rattle.group.specs.declared.Group.{Group}
 use Rattle.group.specs.Group.{cabinet, withCabinet, stateOf}

@@ -9,12 +9,12 @@ use native.Mathlib.Decide.{ℕ-discrete}
 use Rattle.line.specs.declared.Check.{Check}
 use Rattle.line.specs.declared.Packet.{Packet}
 use Rattle.line.specs.declared.Packet.the-variants.{Checkp, Resume, Recover}
-use Rattle.cabinet.specs.declared.State.{State}
-use Rattle.cabinet.specs.declared.State.the-variants.{Failed, Normal, CheckpBegin, Checkpointing, Checkpointed, Error, Recovering, Recovered, Crashed}
-use Rattle.cabinet.specs.declared.Version.{Version}
+use Rattle.state.specs.declared.State.{State}
+use Rattle.state.specs.declared.State.the-variants.{Failed, Normal, CheckpBegin, Checkpointing, Checkpointed, Error, Recovering, Recovered, Crashed}
+use Rattle.state.specs.declared.Version.{Version}
 use Rattle.cabinet.specs.declared.Alarm.{Alarm}
-use Rattle.cabinet.specs.declared.Image.{Image}
-use Rattle.cabinet.specs.State.{isIn, works, inRecovery, bitOf}
+use Rattle.image.specs.declared.Image.{Image}
+use Rattle.state.specs.State.{isIn, works, inRecovery, bitOf}
 use Rattle.protocol.specs.History.{upd}
 use Rattle.protocol.specs.Receive.{serving}
 use Rattle.protocol.specs.Fifo.{faultOf}

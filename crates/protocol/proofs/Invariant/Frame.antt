@@ -7,10 +7,10 @@ use mathlib.Core.Bool.{Bool, true, not, _&&_}
 use mathlib.Core.List.{List}
 use native.Mathlib.Decide.{ℕ-discrete}
 use Rattle.line.specs.declared.Packet.{Packet}
-use Rattle.cabinet.specs.declared.Image.{Image}
-use Rattle.cabinet.specs.State.{works, inRecovery, isUnknown}
+use Rattle.image.specs.declared.Image.{Image}
+use Rattle.state.specs.State.{works, inRecovery, isUnknown}
 use Rattle.protocol.specs.History.{upd}
-use Rattle.cabinet.specs.declared.State.{State}
+use Rattle.state.specs.declared.State.{State}
 use Rattle.protocol.proofs.State.Fun.{upd-elim, upd-same, upd-other, sum-cong, upd-id, kept, kept-at}
 use Rattle.protocol.proofs.State.View.{View, Own, Side, used}
 use Rattle.protocol.proofs.Invariant.Facts.{Big, Mind, Wire, Ghost, Pair, Node, Books, aware, unaware, amount}

@@ -15,8 +15,8 @@ use Rattle.line.specs.declared.Packet.the-variants.{Empty, Normal as NormalPack
 use Rattle.line.specs.Packet.{startCheck, stepCheck, isNormal, isEmpty}
 use mathlib.Core.Logic.{_⊎_, inl, inr, ⊎-elim}
 use Rattle.line.specs.declared.Place.{Place}
-use Rattle.cabinet.specs.declared.Version.{Version}
-use Rattle.cabinet.specs.declared.Version.the-variants.{Known}
+use Rattle.state.specs.declared.Version.{Version}
+use Rattle.state.specs.declared.Version.the-variants.{Known}
 use Rattle.protocol.proofs.State.Fun.{never}
 use Rattle.protocol.proofs.Invariant.Facts.{amountsIn, isCheckp, count, resumeFirst, checkOf, Amounts, Differ, same, here, later, Alarms, amount, isFault, isSafe, isInvalid, checkpLast}
 

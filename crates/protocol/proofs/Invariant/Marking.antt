@@ -2,8 +2,8 @@
 use Prim.Native.Nat.{ℕ}
 use mathlib.Core.Path.{_≡_, refl, sym, ap, _∙_, subst}
 use mathlib.Core.Option.{some}
-use Rattle.cabinet.specs.declared.Image.{Image}
-use Rattle.cabinet.specs.Cabinet.{booked}
+use Rattle.image.specs.declared.Image.{Image}
+use Rattle.image.specs.Image.{booked}
 use Rattle.protocol.specs.History.{History, latest, newest, upd}
 use Rattle.protocol.proofs.State.Fun.{upd-elim, kept-at, upd-case}
 use Rattle.protocol.proofs.State.View.{View, Side, used, setCabinet}

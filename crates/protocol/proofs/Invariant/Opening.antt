@@ -14,21 +14,22 @@ use Rattle.marks.specs.Marks.{Marks, marked, noMarks}
 use Rattle.marks.specs.Reach.{mark}
 use Rattle.line.specs.declared.Packet.{Packet}
 use Rattle.line.specs.Packet.{startCheck}
-use Rattle.cabinet.specs.declared.State.{State}
-use Rattle.cabinet.specs.declared.State.the-variants.{Failed, Normal, CheckpBegin, Checkpointing, Checkpointed, Error, Recovering, Recovered, Crashed}
-use Rattle.cabinet.specs.declared.Version.{Version}
-use Rattle.cabinet.specs.declared.Version.the-variants.{Known, Unknown}
-use Rattle.cabinet.specs.declared.Image.{Image}
+use Rattle.state.specs.declared.State.{State}
+use Rattle.state.specs.declared.State.the-variants.{Failed, Normal, CheckpBegin, Checkpointing, Checkpointed, Error, Recovering, Recovered, Crashed}
+use Rattle.state.specs.declared.Version.{Version}
+use Rattle.state.specs.declared.Version.the-variants.{Known, Unknown}
+use Rattle.image.specs.declared.Image.{Image}
 use Rattle.cabinet.specs.declared.Cabinet.{Cabinet}
-use Rattle.cabinet.specs.State.{isIn, works, inSaving, isUnknown}
-use Rattle.cabinet.specs.Cabinet.{booked, absent}
+use Rattle.state.specs.State.{isIn, works, inSaving, isUnknown}
+use Rattle.image.specs.Image.{booked}
+use Rattle.cabinet.specs.Cabinet.{absent}
 use Rattle.group.specs.declared.Group.{Group}
 use Rattle.group.specs.Group.{cabinet, slot, rowsOf}
 use Rattle.load.specs.Load.{present, feederTotal}
 use Rattle.load.specs.Starts.{Starts, bookedTo}
 use Rattle.protocol.specs.History.{Cut, atStart, startCut}
 use Rattle.protocol.specs.Restored.{sentIn, takenIn}
-use Rattle.group.proofs.Lists.{getD-in}
+use Rattle.marks.proofs.Lists.{getD-in}
 use Rattle.protocol.proofs.State.Fun.{never, and-true, cond-elim, sum, sum-zero, sum-tail}
 use Rattle.protocol.proofs.State.View.{Own, Side, view, content}
 use Rattle.protocol.proofs.State.Shape.{Pictured}

@@ -10,7 +10,7 @@ use Rattle.marks.specs.Marks.{Marks, marked, noMarks, lowest}
 use Rattle.marks.specs.MarksLaws.{lowest-marked, lowest-le-marked}
 use Rattle.marks.specs.Reach.{Rows, mark, connected}
 use Rattle.marks.specs.ReachLaws.{Path, here, step, connected-paths}
-use Rattle.cabinet.specs.State.{works}
+use Rattle.state.specs.State.{works}
 use Rattle.group.specs.declared.Row.{Row}
 use Rattle.group.specs.declared.Group.{Group}
 use Rattle.group.specs.Group.{cabinet, stateOf, line, outgoing, slot, working, rowsOf, ofRows, withSound}

@@ -8,9 +8,9 @@ use Rattle.line.specs.declared.Place.{Place}
 use Rattle.line.specs.declared.Place.the-variants.{Cabinet as AtCabinet, Link as AtLink}
 use Rattle.cabinet.specs.declared.Alarm.{Alarm}
 use Rattle.cabinet.specs.declared.Alarm.the-variants.{Fault as At}
-use Rattle.cabinet.specs.declared.Image.{Image}
-use Rattle.cabinet.specs.State.{works, isUnknown}
-use Rattle.cabinet.specs.Cabinet.{booked}
+use Rattle.image.specs.declared.Image.{Image}
+use Rattle.state.specs.State.{works, isUnknown}
+use Rattle.image.specs.Image.{booked}
 use Rattle.protocol.proofs.State.Fun.{sum}
 use Rattle.protocol.proofs.State.View.{View, used}
 use Rattle.protocol.proofs.Invariant.Facts.{Big, Ghost, Pair, Node, Books, aware, unaware, amount}

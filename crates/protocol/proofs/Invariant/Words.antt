@@ -14,8 +14,8 @@ use Rattle.line.specs.declared.Place.{Place}
 use Rattle.line.specs.declared.Cell.{Cell}
 use Rattle.line.specs.Packet.{isNormal}
 use Rattle.line.specs.Line.{normalsIn}
-use Rattle.cabinet.specs.declared.Version.{Version}
-use Rattle.cabinet.specs.State.{works, inRecovery}
+use Rattle.state.specs.declared.Version.{Version}
+use Rattle.state.specs.State.{works, inRecovery}
 use Rattle.cabinet.specs.Cabinet.{coordinator, absent}
 use Rattle.group.specs.declared.Group.{Group}
 use Rattle.group.specs.Group.{cabinet, line, some, recoveringOnes, stateOf}

@@ -15,13 +15,13 @@ use Rattle.line.specs.declared.Packet.{Packet}
 use Rattle.line.specs.declared.Packet.the-variants.{Resume, Empty}
 use Rattle.line.specs.declared.Cell.{Cell}
 use Rattle.line.specs.Line.{emptyCell, oldest, rest}
-use Rattle.cabinet.specs.declared.State.the-variants.{Normal, Checkpointed}
-use Rattle.cabinet.specs.declared.Version.{Version}
-use Rattle.cabinet.specs.declared.Version.the-variants.{Known, Unknown}
-use Rattle.cabinet.specs.State.{isIn, works, isUnknown, adopted}
+use Rattle.state.specs.declared.State.the-variants.{Normal, Checkpointed}
+use Rattle.state.specs.declared.Version.{Version}
+use Rattle.state.specs.declared.Version.the-variants.{Known, Unknown}
+use Rattle.state.specs.State.{isIn, works, isUnknown, adopted}
 use Rattle.cabinet.specs.Cabinet.{inUse, resuming}
 use Rattle.group.specs.declared.Group.{Group}
-use Rattle.group.specs.Lines.{putAll}
+use Rattle.outgoing.specs.Lines.{putAll}
 use Rattle.group.specs.Group.{cabinet, withCabinet, stateOf, line, withLine}
 use Rattle.protocol.specs.History.{History, Save, upd, goes, newest, markKnown, noteKnown, noteCuts, withKnown}
 use Rattle.protocol.specs.Restored.{Balanced}

@@ -9,7 +9,7 @@ use native.Mathlib.Omega.{arith}
 use native.Mathlib.Decide.{ℕ-discrete}
 use Rattle.line.specs.declared.Place.the-variants.{Cabinet as AtCabinet}
 use Rattle.cabinet.specs.declared.Alarm.the-variants.{Fault as At}
-use Rattle.cabinet.specs.State.{works, inRecovery, isUnknown}
+use Rattle.state.specs.State.{works, inRecovery, isUnknown}
 use Rattle.group.specs.declared.Group.{Group}
 use Rattle.group.specs.Group.{cabinet}
 use Rattle.protocol.specs.Moves.{alarmTo, neighbours, enterErrorIf}

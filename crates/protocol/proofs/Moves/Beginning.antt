@@ -18,10 +18,11 @@ use Rattle.line.specs.declared.Packet.{Packet}
 use Rattle.line.specs.declared.Packet.the-variants.{Checkp}
 use Rattle.line.specs.Packet.{startCheck, sameCheck}
 use Rattle.line.specs.Line.{oldest, rest}
-use Rattle.cabinet.specs.declared.State.{State}
-use Rattle.cabinet.specs.declared.State.the-variants.{Normal, CheckpBegin, Checkpointing, Checkpointed}
-use Rattle.cabinet.specs.State.{isIn, works}
-use Rattle.cabinet.specs.Cabinet.{inUse, booked, coordinator, comparing, withState}
+use Rattle.state.specs.declared.State.{State}
+use Rattle.state.specs.declared.State.the-variants.{Normal, CheckpBegin, Checkpointing, Checkpointed}
+use Rattle.state.specs.State.{isIn, works}
+use Rattle.image.specs.Image.{booked}
+use Rattle.cabinet.specs.Cabinet.{inUse, coordinator, comparing, withState}
 use Rattle.group.specs.declared.Group.{Group}
 use Rattle.group.specs.Group.{cabinet, withCabinet, stateOf, line, withLine}
 use Rattle.protocol.specs.declared.Step.the-variants.{Begin}

@@ -4,12 +4,12 @@ use mathlib.Core.Path.{_≡_, refl, sym, ap, _∙_}
 use mathlib.Core.Logic.{_≢_, _⊎_, inl, inr}
 use mathlib.Core.Bool.{Bool, true, false, cond, not, false≢true}
 use borrow.Author.Tests.{ne-eqb}
-use Rattle.cabinet.specs.declared.State.{State}
-use Rattle.cabinet.specs.declared.State.the-variants.{Failed, Normal, CheckpBegin, Checkpointing, Checkpointed, Error, Recovering, Recovered, Crashed}
-use Rattle.cabinet.specs.declared.Version.{Version}
-use Rattle.cabinet.specs.declared.Version.the-variants.{Known}
-use Rattle.cabinet.specs.declared.Image.{Image}
-use Rattle.cabinet.specs.State.{isIn, works, inRecovery, isUnknown, bitOf}
+use Rattle.state.specs.declared.State.{State}
+use Rattle.state.specs.declared.State.the-variants.{Failed, Normal, CheckpBegin, Checkpointing, Checkpointed, Error, Recovering, Recovered, Crashed}
+use Rattle.state.specs.declared.Version.{Version}
+use Rattle.state.specs.declared.Version.the-variants.{Known}
+use Rattle.image.specs.declared.Image.{Image}
+use Rattle.state.specs.State.{isIn, works, inRecovery, isUnknown, bitOf}
 use Rattle.protocol.proofs.State.Fun.{never, is-true, is-false, and-intro, cond-elim, not-not}
 use Rattle.protocol.proofs.State.View.{Own}
 use Rattle.protocol.proofs.State.Shape.{Pictured}

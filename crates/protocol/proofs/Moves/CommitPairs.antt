@@ -6,8 +6,8 @@ use mathlib.Core.Bool.{Bool, true, false, cond, not, _&&_, false≢true}
 use mathlib.Core.List.{List, []}
 use native.Mathlib.Omega.{arith}
 use Rattle.line.specs.declared.Packet.{Packet}
-use Rattle.cabinet.specs.declared.State.the-variants.{CheckpBegin, Checkpointed}
-use Rattle.cabinet.specs.State.{isIn, works, inSaving}
+use Rattle.state.specs.declared.State.the-variants.{CheckpBegin, Checkpointed}
+use Rattle.state.specs.State.{isIn, works, inSaving}
 use Rattle.protocol.proofs.State.Fun.{never, is-false, and-true, and-intro}
 use Rattle.protocol.proofs.State.View.{Own, Side, used}
 use Rattle.protocol.proofs.State.Methods.{sMarks}

@@ -8,10 +8,10 @@ use native.Mathlib.Omega.{arith}
 use native.Mathlib.Decide.{ℕ-discrete}
 use Rattle.line.specs.declared.Packet.{Packet}
 use Rattle.line.specs.declared.Packet.the-variants.{Resume}
-use Rattle.cabinet.specs.declared.State.the-variants.{Checkpointed}
-use Rattle.cabinet.specs.declared.Version.the-variants.{Known}
-use Rattle.cabinet.specs.State.{works}
-use Rattle.cabinet.specs.Cabinet.{booked}
+use Rattle.state.specs.declared.State.the-variants.{Checkpointed}
+use Rattle.state.specs.declared.Version.the-variants.{Known}
+use Rattle.state.specs.State.{works}
+use Rattle.image.specs.Image.{booked}
 use Rattle.protocol.specs.History.{upd}
 use Rattle.protocol.proofs.State.Fun.{never, is-false, and-true, upd-same, upd-other, sum, sum-cong, sum-zero, kept-at, sum-swap}
 use Rattle.protocol.proofs.State.View.{View, Own, Side, used}

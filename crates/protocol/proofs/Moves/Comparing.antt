@@ -14,10 +14,10 @@ use Rattle.line.specs.declared.Payload.{Payload}
 use Rattle.line.specs.declared.Packet.{Packet}
 use Rattle.line.specs.declared.Packet.the-variants.{Checkp}
 use Rattle.line.specs.Packet.{startCheck}
-use Rattle.cabinet.specs.declared.State.{State}
-use Rattle.cabinet.specs.declared.State.the-variants.{CheckpBegin, Recovered}
-use Rattle.cabinet.specs.declared.Image.{Image}
-use Rattle.cabinet.specs.State.{isIn, works}
+use Rattle.state.specs.declared.State.{State}
+use Rattle.state.specs.declared.State.the-variants.{CheckpBegin, Recovered}
+use Rattle.image.specs.declared.Image.{Image}
+use Rattle.state.specs.State.{isIn, works}
 use Rattle.protocol.specs.History.{upd}
 use Rattle.protocol.proofs.State.Fun.{never, is-true, is-false, and-true, and-intro, upd-elim, upd-same, upd-other, or-right, upd-id, kept-at, kept-pair}
 use Rattle.protocol.proofs.State.View.{View, Own, Side, used, setLine}

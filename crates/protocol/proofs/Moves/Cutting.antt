@@ -8,10 +8,10 @@ use borrow.Author.Tests.{eqb-true, eqb-false, eq-eqb}
 use native.Mathlib.Omega.{arith}
 use native.Mathlib.Decide.{ℕ-discrete}
 use Rattle.line.specs.declared.Packet.{Packet}
-use Rattle.cabinet.specs.declared.State.{State}
-use Rattle.cabinet.specs.declared.State.the-variants.{Normal, CheckpBegin, Checkpointing, Checkpointed, Recovered}
-use Rattle.cabinet.specs.declared.Image.{Image}
-use Rattle.cabinet.specs.State.{isIn, works, inRecovery, isUnknown}
+use Rattle.state.specs.declared.State.{State}
+use Rattle.state.specs.declared.State.the-variants.{Normal, CheckpBegin, Checkpointing, Checkpointed, Recovered}
+use Rattle.image.specs.declared.Image.{Image}
+use Rattle.state.specs.State.{isIn, works, inRecovery, isUnknown}
 use Rattle.protocol.specs.History.{upd}
 use Rattle.protocol.proofs.State.Fun.{never, is-true, is-false, and-true, and-intro, upd-other, and-false, or-right, kept}
 use Rattle.protocol.proofs.State.View.{View, Own, Side, used}

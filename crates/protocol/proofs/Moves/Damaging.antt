@@ -19,10 +19,10 @@ use Rattle.line.specs.declared.Packet.{Packet}
 use Rattle.line.specs.declared.Packet.the-variants.{Empty, Normal as NormalPacket, Checkp, Resume, Recover, Fault, Invalid}
 use Rattle.line.specs.Packet.{isEmpty, isNormal, damaged, startCheck}
 use Rattle.line.specs.Line.{packetAt, replaced}
-use Rattle.cabinet.specs.declared.State.{State}
-use Rattle.cabinet.specs.declared.State.the-variants.{Normal, Checkpointing, Error, Recovering, Recovered}
-use Rattle.cabinet.specs.declared.Image.{Image}
-use Rattle.cabinet.specs.State.{isIn, inRecovery}
+use Rattle.state.specs.declared.State.{State}
+use Rattle.state.specs.declared.State.the-variants.{Normal, Checkpointing, Error, Recovering, Recovered}
+use Rattle.image.specs.declared.Image.{Image}
+use Rattle.state.specs.State.{isIn, inRecovery}
 use Rattle.group.specs.declared.Group.{Group}
 use Rattle.group.specs.Group.{line, withLine, rowsOf, some, recoveringOnes}
 use Rattle.protocol.specs.Kinds.{need, hurtAlready, damageRefusal, hurtIf, hurt}

@@ -13,9 +13,9 @@ use Rattle.line.specs.declared.Packet.{Packet}
 use Rattle.line.specs.declared.Packet.the-variants.{Recover}
 use Rattle.line.specs.Packet.{isEmpty, isNormal}
 use Rattle.line.specs.Line.{oldest, rest}
-use Rattle.cabinet.specs.declared.State.{State}
-use Rattle.cabinet.specs.declared.State.the-variants.{Normal, Recovered}
-use Rattle.cabinet.specs.State.{isIn}
+use Rattle.state.specs.declared.State.{State}
+use Rattle.state.specs.declared.State.the-variants.{Normal, Recovered}
+use Rattle.state.specs.State.{isIn}
 use Rattle.group.specs.declared.Group.{Group}
 use Rattle.group.specs.Group.{line, withLine}
 use Rattle.protocol.specs.History.{History, upd, noteCuts}

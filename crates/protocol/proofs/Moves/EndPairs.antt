@@ -10,11 +10,11 @@ use Rattle.line.specs.declared.Place.{Place}
 use Rattle.line.specs.declared.Packet.{Packet}
 use Rattle.line.specs.declared.Packet.the-variants.{Recover, Fault}
 use Rattle.line.specs.Packet.{startCheck}
-use Rattle.cabinet.specs.declared.State.{State}
-use Rattle.cabinet.specs.declared.State.the-variants.{CheckpBegin, Recovered}
-use Rattle.cabinet.specs.declared.Version.{Version}
+use Rattle.state.specs.declared.State.{State}
+use Rattle.state.specs.declared.State.the-variants.{CheckpBegin, Recovered}
+use Rattle.state.specs.declared.Version.{Version}
 use Rattle.cabinet.specs.declared.Alarm.the-variants.{Fault as At}
-use Rattle.cabinet.specs.State.{isIn, works, inSaving}
+use Rattle.state.specs.State.{isIn, works, inSaving}
 use Rattle.protocol.proofs.State.Fun.{never, and-true, and-intro}
 use Rattle.protocol.proofs.State.View.{Own, Side, used}
 use Rattle.protocol.proofs.State.Methods.{hitsCabinet, hitsLink}

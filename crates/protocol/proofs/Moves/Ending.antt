@@ -13,11 +13,12 @@ use Rattle.line.specs.declared.Place.{Place}
 use Rattle.line.specs.declared.Place.the-variants.{Cabinet as AtCabinet, Link as AtLink}
 use Rattle.line.specs.declared.Packet.{Packet}
 use Rattle.line.specs.Packet.{startCheck}
-use Rattle.cabinet.specs.declared.State.{State}
-use Rattle.cabinet.specs.declared.State.the-variants.{Error, Recovered}
+use Rattle.state.specs.declared.State.{State}
+use Rattle.state.specs.declared.State.the-variants.{Error, Recovered}
 use Rattle.cabinet.specs.declared.Alarm.{Alarm}
 use Rattle.cabinet.specs.declared.Alarm.the-variants.{Quiet, Fault as At}
-use Rattle.cabinet.specs.State.{isIn, works, isUnknown, isFor}
+use Rattle.cabinet.specs.Alarm.{isFor}
+use Rattle.state.specs.State.{isIn, works, isUnknown}
 use Rattle.protocol.specs.History.{upd}
 use Rattle.protocol.proofs.State.Fun.{never, is-false, and-true, and-intro, sum-zero, upd-same, upd-other, upd-elim, kept}
 use Rattle.protocol.proofs.State.View.{View, Own, Side, used}

@@ -9,12 +9,12 @@ use native.Mathlib.Omega.{arith}
 use Rattle.line.specs.declared.Place.{Place}
 use Rattle.line.specs.declared.Packet.{Packet}
 use Rattle.line.specs.declared.Packet.the-variants.{Recover, Fault}
-use Rattle.cabinet.specs.declared.State.{State}
-use Rattle.cabinet.specs.declared.State.the-variants.{Normal, CheckpBegin, Error, Recovering, Recovered, Crashed}
-use Rattle.cabinet.specs.declared.Version.{Version}
-use Rattle.cabinet.specs.declared.Version.the-variants.{Known, Unknown}
+use Rattle.state.specs.declared.State.{State}
+use Rattle.state.specs.declared.State.the-variants.{Normal, CheckpBegin, Error, Recovering, Recovered, Crashed}
+use Rattle.state.specs.declared.Version.{Version}
+use Rattle.state.specs.declared.Version.the-variants.{Known, Unknown}
 use Rattle.cabinet.specs.declared.Alarm.the-variants.{Fault as At}
-use Rattle.cabinet.specs.State.{isIn, works, inRecovery, isUnknown, inSaving}
+use Rattle.state.specs.State.{isIn, works, inRecovery, isUnknown, inSaving}
 use Rattle.group.specs.declared.Group.{Group}
 use Rattle.group.specs.Group.{cabinet}
 use Rattle.protocol.specs.History.{upd}

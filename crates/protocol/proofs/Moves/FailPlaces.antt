@@ -10,7 +10,7 @@ use native.Mathlib.Decide.{ℕ-discrete}
 use Rattle.line.specs.declared.Place.{Place}
 use Rattle.line.specs.declared.Place.the-variants.{Cabinet as AtCabinet}
 use Rattle.cabinet.specs.declared.Alarm.the-variants.{Fault as At}
-use Rattle.cabinet.specs.State.{inRecovery}
+use Rattle.state.specs.State.{inRecovery}
 use Rattle.protocol.proofs.State.Fun.{never, is-true, and-true, and-intro, not-true-false}
 use Rattle.protocol.proofs.State.View.{View, Own, Side, used}
 use Rattle.protocol.proofs.State.ViewMoves.{vFailed}

@@ -10,9 +10,9 @@ use borrow.Author.Tests.{eqb-true, eq-eqb, ltb-false}
 use native.Mathlib.Omega.{arith}
 use native.Mathlib.Decide.{ℕ-discrete}
 use Rattle.line.specs.declared.Packet.{Packet}
-use Rattle.cabinet.specs.declared.State.the-variants.{Failed}
-use Rattle.cabinet.specs.declared.Image.{Image}
-use Rattle.cabinet.specs.State.{works, inRecovery, isUnknown}
+use Rattle.state.specs.declared.State.the-variants.{Failed}
+use Rattle.image.specs.declared.Image.{Image}
+use Rattle.state.specs.State.{works, inRecovery, isUnknown}
 use Rattle.protocol.proofs.State.Fun.{never, is-false, and-true, cond-elim, upd-elim, upd-same, upd-other, upd-id, kept}
 use Rattle.protocol.proofs.State.View.{View, Own, Side}
 use Rattle.protocol.proofs.State.ViewMoves.{vFailed, oPhase}

@@ -9,13 +9,14 @@ use lib.Dec.{ltb}
 use borrow.Author.Tests.{ltb-true, ltb-false}
 use native.Mathlib.Omega.{arith}
 use Rattle.line.specs.declared.Packet.{Packet}
-use Rattle.cabinet.specs.declared.State.{State}
-use Rattle.cabinet.specs.declared.State.the-variants.{Normal, CheckpBegin, Checkpointing, Error, Recovering, Recovered}
-use Rattle.cabinet.specs.declared.Version.{Version}
-use Rattle.cabinet.specs.declared.Version.the-variants.{Known, Unknown}
-use Rattle.cabinet.specs.declared.Image.{Image}
-use Rattle.cabinet.specs.State.{isIn, works, inRestoring, isUnknown, bitOf}
-use Rattle.cabinet.specs.Cabinet.{withPiece, withImage, withPieces, withRegisters, withState, startRegisters, fetched}
+use Rattle.state.specs.declared.State.{State}
+use Rattle.state.specs.declared.State.the-variants.{Normal, CheckpBegin, Checkpointing, Error, Recovering, Recovered}
+use Rattle.state.specs.declared.Version.{Version}
+use Rattle.state.specs.declared.Version.the-variants.{Known, Unknown}
+use Rattle.image.specs.declared.Image.{Image}
+use Rattle.state.specs.State.{isIn, works, inRestoring, isUnknown, bitOf}
+use Rattle.image.specs.Image.{withPiece}
+use Rattle.cabinet.specs.Cabinet.{withImage, withPieces, withRegisters, withState, startRegisters, fetched}
 use Rattle.group.specs.declared.Group.{Group}
 use Rattle.group.specs.Group.{cabinet, withCabinet, stateOf, slot}
 use Rattle.protocol.specs.History.{History, upd, goes, noteKnown, noteCuts}

@@ -6,9 +6,9 @@ use mathlib.Core.Logic.{inl, inr, ⊎-elim}
 use mathlib.Core.Bool.{Bool, true, false, not, _||_, true≢false}
 use mathlib.Core.List.{List}
 use Rattle.line.specs.declared.Packet.{Packet}
-use Rattle.cabinet.specs.declared.State.the-variants.{CheckpBegin}
-use Rattle.cabinet.specs.declared.Image.{Image}
-use Rattle.cabinet.specs.State.{isIn, inRecovery, isUnknown}
+use Rattle.state.specs.declared.State.the-variants.{CheckpBegin}
+use Rattle.image.specs.declared.Image.{Image}
+use Rattle.state.specs.State.{isIn, inRecovery, isUnknown}
 use Rattle.protocol.proofs.State.Fun.{never, is-false, and-true, and-intro, or-map}
 use Rattle.protocol.proofs.State.View.{View, Own, Side}
 use Rattle.protocol.proofs.Invariant.Facts.{Big, Mind, Wire, Ghost, Pair, Node, Books, aware, unaware, behind, closed}

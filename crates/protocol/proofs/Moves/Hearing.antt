@@ -12,11 +12,12 @@ use Rattle.line.specs.declared.Packet.{Packet}
 use Rattle.line.specs.declared.Packet.the-variants.{Recover, Fault}
 use Rattle.line.specs.Packet.{isEmpty}
 use Rattle.line.specs.Line.{oldest, rest}
-use Rattle.cabinet.specs.declared.State.{State}
-use Rattle.cabinet.specs.declared.State.the-variants.{Normal}
-use Rattle.cabinet.specs.declared.Version.{Version}
+use Rattle.state.specs.declared.State.{State}
+use Rattle.state.specs.declared.State.the-variants.{Normal}
+use Rattle.state.specs.declared.Version.{Version}
 use Rattle.cabinet.specs.declared.Alarm.the-variants.{Fault as At}
-use Rattle.cabinet.specs.State.{isIn, works, inRecovery, isFor}
+use Rattle.cabinet.specs.Alarm.{isFor}
+use Rattle.state.specs.State.{isIn, works, inRecovery}
 use Rattle.group.specs.declared.Group.{Group}
 use Rattle.group.specs.Group.{cabinet, stateOf, line, withLine}
 use Rattle.protocol.specs.History.{History, upd, noteCuts}

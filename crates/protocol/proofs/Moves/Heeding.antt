@@ -12,10 +12,11 @@ use Rattle.line.specs.declared.Packet.{Packet}
 use Rattle.line.specs.declared.Packet.the-variants.{Empty, Normal as NormalPacket, Checkp, Resume, Recover, Fault, Invalid}
 use Rattle.line.specs.Packet.{isNormal}
 use Rattle.line.specs.Line.{oldest}
-use Rattle.cabinet.specs.declared.State.{State}
-use Rattle.cabinet.specs.declared.State.the-variants.{Normal, Checkpointed, Error}
+use Rattle.state.specs.declared.State.{State}
+use Rattle.state.specs.declared.State.the-variants.{Normal, Checkpointed, Error}
 use Rattle.cabinet.specs.declared.Cabinet.{Cabinet}
-use Rattle.cabinet.specs.State.{isIn, works, inRecovery, isFor}
+use Rattle.cabinet.specs.Alarm.{isFor}
+use Rattle.state.specs.State.{isIn, works, inRecovery}
 use Rattle.group.specs.declared.Group.{Group}
 use Rattle.group.specs.declared.Outcome.{Outcome}
 use Rattle.group.specs.Group.{cabinet, stateOf, line, withLine, withOutgoing, taken}

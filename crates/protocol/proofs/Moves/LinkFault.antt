@@ -19,9 +19,9 @@ use Rattle.line.specs.declared.Packet.the-variants.{Checkp, Invalid}
 use Rattle.line.specs.declared.Line.{Line}
 use Rattle.line.specs.Packet.{linkPlace, isEmpty}
 use Rattle.line.specs.Line.{oldest, rest}
-use Rattle.cabinet.specs.declared.State.{State}
-use Rattle.cabinet.specs.declared.State.the-variants.{Failed, Normal, CheckpBegin, Checkpointing, Checkpointed, Error, Recovering, Recovered, Crashed}
-use Rattle.cabinet.specs.State.{isIn, works, inRecovery}
+use Rattle.state.specs.declared.State.{State}
+use Rattle.state.specs.declared.State.the-variants.{Failed, Normal, CheckpBegin, Checkpointing, Checkpointed, Error, Recovering, Recovered, Crashed}
+use Rattle.state.specs.State.{isIn, works, inRecovery}
 use Rattle.cabinet.specs.Cabinet.{inUse}
 use Rattle.group.specs.declared.Group.{Group}
 use Rattle.group.specs.Group.{cabinet, stateOf, outgoing, line, slot, withOutgoing, withLine, rowsOf, withSound, working}

@@ -8,11 +8,12 @@ use lib.Dec.{leb}
 use borrow.Author.Tests.{leb-true}
 use native.Mathlib.Omega.{arith}
 use Rattle.line.specs.declared.Packet.{Packet}
-use Rattle.cabinet.specs.declared.State.the-variants.{Normal, Recovering, Recovered}
-use Rattle.cabinet.specs.declared.Image.{Image}
-use Rattle.cabinet.specs.State.{isIn}
-use Rattle.cabinet.specs.declared.State.{State}
-use Rattle.cabinet.specs.Cabinet.{booked, withOctet, withImage}
+use Rattle.state.specs.declared.State.the-variants.{Normal, Recovering, Recovered}
+use Rattle.image.specs.declared.Image.{Image}
+use Rattle.state.specs.State.{isIn}
+use Rattle.state.specs.declared.State.{State}
+use Rattle.image.specs.Image.{booked, withOctet}
+use Rattle.cabinet.specs.Cabinet.{withImage}
 use Rattle.group.specs.declared.Group.{Group}
 use Rattle.group.specs.Group.{cabinet, withCabinet, stateOf}
 use Rattle.protocol.specs.Kinds.{noteRefusal}

@@ -6,8 +6,8 @@ use lib.ListN.{length, getD, length-set}
 use lib.Seq.{getD-set-same, getD-set-other}
 use native.Mathlib.Omega.{arith}
 use native.Mathlib.Decide.{ℕ-discrete}
-use Rattle.cabinet.specs.declared.Image.{Image}
-use Rattle.cabinet.specs.Cabinet.{pieceTo, withPiece}
+use Rattle.image.specs.declared.Image.{Image}
+use Rattle.image.specs.Image.{pieceTo, withPiece}
 use Rattle.protocol.proofs.State.Shape.{Pictured}
 use Rattle.protocol.proofs.Invariant.Facts.{SameTo}
 

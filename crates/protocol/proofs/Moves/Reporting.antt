@@ -4,9 +4,9 @@ use mathlib.Core.Path.{_≡_, refl, sym, ap, _∙_, subst}
 use mathlib.Core.Bool.{Bool, true, false, false≢true}
 use mathlib.Core.List.{List}
 use Rattle.line.specs.declared.Packet.{Packet}
-use Rattle.cabinet.specs.declared.State.the-variants.{CheckpBegin}
-use Rattle.cabinet.specs.declared.Image.{Image}
-use Rattle.cabinet.specs.State.{isIn, inSaving}
+use Rattle.state.specs.declared.State.the-variants.{CheckpBegin}
+use Rattle.image.specs.declared.Image.{Image}
+use Rattle.state.specs.State.{isIn, inSaving}
 use Rattle.cabinet.specs.Cabinet.{owing}
 use Rattle.group.specs.declared.Group.{Group}
 use Rattle.group.specs.Group.{cabinet}

@@ -4,8 +4,8 @@ use mathlib.Core.Path.{_≡_, refl, subst}
 use mathlib.Core.Bool.{Bool, true}
 use mathlib.Core.List.{List}
 use Rattle.line.specs.declared.Packet.{Packet}
-use Rattle.cabinet.specs.declared.State.the-variants.{Recovered}
-use Rattle.cabinet.specs.declared.Image.{Image}
+use Rattle.state.specs.declared.State.the-variants.{Recovered}
+use Rattle.image.specs.declared.Image.{Image}
 use Rattle.protocol.proofs.State.View.{View, Own, Side, used}
 use Rattle.protocol.proofs.State.Methods.{sMarks}
 use Rattle.protocol.proofs.State.ViewMoves.{vRestored}

@@ -1,9 +1,9 @@
 -- A cabinet goes to normal and puts resume on lines out of it: what that leaves of the facts about the pairs from it and to it.
 use Prim.Native.Nat.{ℕ}
-use Rattle.cabinet.specs.State.{works}
+use Rattle.state.specs.State.{works}
 use Rattle.cabinet.specs.declared.Alarm.the-variants.{Quiet}
-use Rattle.cabinet.specs.declared.State.the-variants.{Normal}
-use Rattle.cabinet.specs.declared.Version.{Version}
+use Rattle.state.specs.declared.State.the-variants.{Normal}
+use Rattle.state.specs.declared.Version.{Version}
 use Rattle.line.specs.declared.Packet.the-variants.{Resume}
 use Rattle.line.specs.declared.Packet.{Packet}
 use Rattle.line.specs.declared.Payload.{Payload}

@@ -9,12 +9,13 @@ use native.Mathlib.Omega.{arith}
 use Rattle.marks.specs.Marks.{marked, covers}
 use Rattle.marks.specs.MarksLaws.{covers-has}
 use Rattle.line.specs.declared.Packet.the-variants.{Resume}
-use Rattle.cabinet.specs.declared.State.{State}
-use Rattle.cabinet.specs.declared.State.the-variants.{Normal, Checkpointing, Checkpointed}
-use Rattle.cabinet.specs.declared.Version.{Version}
-use Rattle.cabinet.specs.declared.Version.the-variants.{Known}
-use Rattle.cabinet.specs.State.{isIn, works, inRecovery, inSaving, bitOf, flipped}
-use Rattle.cabinet.specs.Cabinet.{booked, coordinator}
+use Rattle.state.specs.declared.State.{State}
+use Rattle.state.specs.declared.State.the-variants.{Normal, Checkpointing, Checkpointed}
+use Rattle.state.specs.declared.Version.{Version}
+use Rattle.state.specs.declared.Version.the-variants.{Known}
+use Rattle.state.specs.State.{isIn, works, inRecovery, inSaving, bitOf, flipped}
+use Rattle.image.specs.Image.{booked}
+use Rattle.cabinet.specs.Cabinet.{coordinator}
 use Rattle.group.specs.declared.Group.{Group}
 use Rattle.group.specs.Group.{cabinet, stateOf}
 use Rattle.protocol.specs.Moves.{commit, resumeWith}

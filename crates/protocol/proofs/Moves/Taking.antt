@@ -17,11 +17,12 @@ use Rattle.line.specs.declared.Packet.the-variants.{Normal as NormalPacket, Rec
 use Rattle.line.specs.Packet.{startCheck, stepCheck}
 use Rattle.line.specs.Line.{oldest, rest}
 use Rattle.cabinet.specs.declared.Alarm.the-variants.{Fault as At}
-use Rattle.cabinet.specs.declared.State.{State}
-use Rattle.cabinet.specs.declared.State.the-variants.{Failed, Normal, CheckpBegin, Checkpointing, Checkpointed, Error, Recovering, Recovered, Crashed}
-use Rattle.cabinet.specs.declared.Image.{Image}
-use Rattle.cabinet.specs.State.{isIn, works, inRecovery}
-use Rattle.cabinet.specs.Cabinet.{booked, withBooked, taking}
+use Rattle.state.specs.declared.State.{State}
+use Rattle.state.specs.declared.State.the-variants.{Failed, Normal, CheckpBegin, Checkpointing, Checkpointed, Error, Recovering, Recovered, Crashed}
+use Rattle.image.specs.declared.Image.{Image}
+use Rattle.state.specs.State.{isIn, works, inRecovery}
+use Rattle.image.specs.Image.{booked, withBooked}
+use Rattle.cabinet.specs.Cabinet.{taking}
 use Rattle.group.specs.declared.Group.{Group}
 use Rattle.group.specs.Group.{cabinet, withCabinet, stateOf, line, withLine}
 use Rattle.protocol.specs.Receive.{takesFrom}

@@ -8,10 +8,10 @@ use mathlib.Core.List.{List, []}
 use borrow.Author.Tests.{ne-eqb}
 use native.Mathlib.Omega.{arith}
 use Rattle.line.specs.declared.Packet.{Packet}
-use Rattle.cabinet.specs.declared.State.{State}
-use Rattle.cabinet.specs.declared.State.the-variants.{Normal, CheckpBegin, Checkpointing, Checkpointed, Recovered}
-use Rattle.cabinet.specs.declared.Image.{Image}
-use Rattle.cabinet.specs.State.{isIn, works, isUnknown}
+use Rattle.state.specs.declared.State.{State}
+use Rattle.state.specs.declared.State.the-variants.{Normal, CheckpBegin, Checkpointing, Checkpointed, Recovered}
+use Rattle.image.specs.declared.Image.{Image}
+use Rattle.state.specs.State.{isIn, works, isUnknown}
 use Rattle.protocol.proofs.State.Fun.{never, is-false, and-true, and-intro, or-right}
 use Rattle.protocol.proofs.State.View.{Own, Side}
 use Rattle.protocol.proofs.Answers.Tests.{in-state}

@@ -11,11 +11,11 @@ use native.Mathlib.Decide.{ℕ-discrete}
 use Rattle.marks.specs.Marks.{covers}
 use Rattle.marks.specs.MarksLaws.{lowest-le-marked, covers-has}
 use Rattle.line.specs.declared.Place.the-variants.{Cabinet as AtCabinet, Link as AtLink}
-use Rattle.cabinet.specs.declared.State.the-variants.{Error}
+use Rattle.state.specs.declared.State.the-variants.{Error}
 use Rattle.cabinet.specs.declared.Alarm.{Alarm}
 use Rattle.cabinet.specs.declared.Alarm.the-variants.{Quiet, Fault as At}
 use Rattle.cabinet.specs.declared.Cabinet.{Cabinet}
-use Rattle.cabinet.specs.State.{isIn, works, isUnknown, bitOf}
+use Rattle.state.specs.State.{isIn, works, isUnknown, bitOf}
 use Rattle.cabinet.specs.Cabinet.{coordinator}
 use Rattle.group.specs.declared.Group.{Group}
 use Rattle.group.specs.Group.{cabinet, stateOf, working, unsure}

@@ -10,13 +10,13 @@ use native.Mathlib.Omega.{arith}
 use Rattle.line.specs.declared.Packet.{Packet}
 use Rattle.line.specs.declared.Packet.the-variants.{Empty, Resume}
 use Rattle.line.specs.Packet.{isEmpty}
-use Rattle.cabinet.specs.declared.State.{State}
-use Rattle.cabinet.specs.declared.State.the-variants.{Normal, CheckpBegin, Checkpointing, Checkpointed, Recovered}
-use Rattle.cabinet.specs.declared.Version.{Version}
-use Rattle.cabinet.specs.declared.Version.the-variants.{Known}
+use Rattle.state.specs.declared.State.{State}
+use Rattle.state.specs.declared.State.the-variants.{Normal, CheckpBegin, Checkpointing, Checkpointed, Recovered}
+use Rattle.state.specs.declared.Version.{Version}
+use Rattle.state.specs.declared.Version.the-variants.{Known}
 use Rattle.cabinet.specs.declared.Alarm.{Alarm}
-use Rattle.cabinet.specs.declared.Image.{Image}
-use Rattle.cabinet.specs.State.{isIn, works}
+use Rattle.image.specs.declared.Image.{Image}
+use Rattle.state.specs.State.{isIn, works}
 use Rattle.protocol.specs.History.{upd}
 use Rattle.protocol.proofs.State.Fun.{never, is-false, and-true, upd-elim, upd-same, upd-other, upd-id, kept, upd-swap}
 use Rattle.protocol.proofs.State.View.{View, Own, Side, used, setLine}

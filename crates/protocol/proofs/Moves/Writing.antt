@@ -10,14 +10,15 @@ use borrow.Author.Tests.{eq-eqb, ne-eqb, ltb-true, ltb-false}
 use native.Mathlib.Omega.{arith}
 use native.Mathlib.Decide.{ℕ-discrete}
 use Rattle.line.specs.declared.Packet.{Packet}
-use Rattle.cabinet.specs.declared.State.{State}
-use Rattle.cabinet.specs.declared.State.the-variants.{Normal, CheckpBegin, Checkpointing, Checkpointed, Error, Recovering}
-use Rattle.cabinet.specs.declared.Version.{Version}
-use Rattle.cabinet.specs.declared.Version.the-variants.{Known, Unknown}
-use Rattle.cabinet.specs.declared.Image.{Image}
+use Rattle.state.specs.declared.State.{State}
+use Rattle.state.specs.declared.State.the-variants.{Normal, CheckpBegin, Checkpointing, Checkpointed, Error, Recovering}
+use Rattle.state.specs.declared.Version.{Version}
+use Rattle.state.specs.declared.Version.the-variants.{Known, Unknown}
+use Rattle.image.specs.declared.Image.{Image}
 use Rattle.cabinet.specs.declared.Cabinet.{Cabinet}
-use Rattle.cabinet.specs.State.{isIn, works, inRecovery, isUnknown, bitOf, doubted}
-use Rattle.cabinet.specs.Cabinet.{coordinator, withPiece, wrote}
+use Rattle.state.specs.State.{isIn, works, inRecovery, isUnknown, bitOf, doubted}
+use Rattle.image.specs.Image.{withPiece}
+use Rattle.cabinet.specs.Cabinet.{coordinator, wrote}
 use Rattle.group.specs.declared.Group.{Group}
 use Rattle.group.specs.Group.{cabinet, stateOf, slot}
 use Rattle.protocol.specs.Kinds.{need, writeRefusal, writePiece, oweIf}

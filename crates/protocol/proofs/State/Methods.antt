@@ -16,11 +16,11 @@ use Rattle.line.specs.declared.Payload.{Payload}
 use Rattle.line.specs.declared.Place.{Place}
 use Rattle.line.specs.declared.Place.the-variants.{Cabinet as AtCabinet, Link as AtLink}
 use Rattle.line.specs.Packet.{startCheck, stepCheck}
-use Rattle.cabinet.specs.declared.Version.{Version}
+use Rattle.state.specs.declared.Version.{Version}
 use Rattle.cabinet.specs.declared.Cabinet.{Cabinet}
 use Rattle.cabinet.specs.Cabinet.{inUse, sending, taking, hurtFrom, restartIf, restartTo, beginning, comparing, owing, savedFor, resuming, alarmed, hearing, restoredFor, fetched, withImage, withPieces, withRegisters, withState, startRegisters}
-use Rattle.cabinet.specs.declared.Image.{Image}
-use Rattle.cabinet.specs.declared.State.the-variants.{Recovered}
+use Rattle.image.specs.declared.Image.{Image}
+use Rattle.state.specs.declared.State.the-variants.{Recovered}
 use Rattle.protocol.specs.History.{upd}
 use Rattle.protocol.proofs.State.Fun.{upd-elim, and-false, and-same}
 use Rattle.protocol.proofs.State.Every.{getD-repeated}

@@ -11,13 +11,14 @@ use native.Mathlib.Omega.{arith}
 use Rattle.marks.specs.Marks.{Marks, noMarks}
 use Rattle.marks.specs.Reach.{Rows}
 use Rattle.line.specs.Line.{emptyLine}
-use Rattle.cabinet.specs.Cabinet.{absent, blankImage}
-use Rattle.group.specs.declared.Outgoing.{Outgoing}
+use Rattle.image.specs.Image.{blankImage}
+use Rattle.cabinet.specs.Cabinet.{absent}
+use Rattle.outgoing.specs.declared.Outgoing.{Outgoing}
 use Rattle.group.specs.declared.Slots.{Slots}
 use Rattle.group.specs.declared.Outcome.{Outcome}
-use Rattle.group.specs.Lines.{emptyLines, lineTo}
+use Rattle.outgoing.specs.Lines.{emptyLines, lineTo}
 use Rattle.group.specs.Group.{cabinet, outgoing, line, slot, blankSlots}
-use Rattle.group.proofs.Lists.{getD-in}
+use Rattle.marks.proofs.Lists.{getD-in}
 use Rattle.load.specs.Load.{load, loadRefusal, groupOf, noGroup, cabinetCount, cabinetOf, cabinetsOf, imageOf, slotsOf, storeOf, linked, linkRows, linkCount, rowsIn, lowerOf, higherOf}
 use Rattle.protocol.specs.History.{World, advance, run, opening}
 use Rattle.protocol.specs.Restored.{Octets, Records}

@@ -18,9 +18,10 @@ use Rattle.line.specs.declared.Cell.{Cell}
 use Rattle.line.specs.declared.Line.{Line}
 use Rattle.line.specs.Packet.{isEmpty, isNormal, damaged, startCheck}
 use Rattle.line.specs.Line.{emptyCell, emptyLine, put, putCells, restCells, normals, normalsIn, packetAt}
-use Rattle.cabinet.specs.declared.Image.{Image}
+use Rattle.image.specs.declared.Image.{Image}
 use Rattle.cabinet.specs.declared.Cabinet.{Cabinet}
-use Rattle.cabinet.specs.Cabinet.{inUse, booked, withBooked, withOctet, pieceTo, sending, taking, restartIf, restartTo, struckAt, wrote, fetched, alarmed}
+use Rattle.image.specs.Image.{booked, withBooked, withOctet, pieceTo}
+use Rattle.cabinet.specs.Cabinet.{inUse, sending, taking, restartIf, restartTo, struckAt, wrote, fetched, alarmed}
 use Rattle.protocol.proofs.State.Fun.{cond-elim}
 use Rattle.protocol.proofs.State.Every.{Closed, getD-set, getD-repeated}
 use Rattle.protocol.proofs.State.View.{content, packetOf}

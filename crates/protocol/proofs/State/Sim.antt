@@ -15,13 +15,13 @@ use Rattle.line.specs.declared.Cell.{Cell}
 use Rattle.line.specs.declared.Line.{Line}
 use Rattle.line.specs.Packet.{isEmpty}
 use Rattle.line.specs.Line.{emptyCell, emptyLine, put}
-use Rattle.cabinet.specs.declared.Image.{Image}
+use Rattle.image.specs.declared.Image.{Image}
 use Rattle.cabinet.specs.declared.Cabinet.{Cabinet}
 use Rattle.cabinet.specs.Cabinet.{absent, inUse}
-use Rattle.group.specs.declared.Outgoing.{Outgoing}
+use Rattle.outgoing.specs.declared.Outgoing.{Outgoing}
 use Rattle.group.specs.declared.Slots.{Slots}
 use Rattle.group.specs.declared.Group.{Group}
-use Rattle.group.specs.Lines.{emptyLines, lineTo, withLineTo, putIf, putRowTo}
+use Rattle.outgoing.specs.Lines.{emptyLines, lineTo, withLineTo, putIf, putRowTo}
 use Rattle.group.specs.Group.{cabinet, withCabinet, outgoing, withOutgoing, line, withLine, blankSlots, slot, withSlot, withSlots}
 use Rattle.protocol.specs.History.{upd}
 use Rattle.protocol.proofs.State.Fun.{upd-elim}

@@ -19,17 +19,18 @@ use Rattle.line.specs.declared.Cell.{Cell}
 use Rattle.line.specs.Packet.{isEmpty, startCheck, stepCheck}
 use Rattle.line.specs.declared.Line.{Line}
 use Rattle.line.specs.Line.{emptyCell, emptyLine, oldest, rest}
-use Rattle.cabinet.specs.declared.Version.{Version}
-use Rattle.cabinet.specs.declared.Version.the-variants.{Known}
-use Rattle.cabinet.specs.declared.State.{State}
-use Rattle.cabinet.specs.declared.State.the-variants.{Failed, Normal, CheckpBegin, Checkpointing, Error, Recovering}
+use Rattle.state.specs.declared.Version.{Version}
+use Rattle.state.specs.declared.Version.the-variants.{Known}
+use Rattle.state.specs.declared.State.{State}
+use Rattle.state.specs.declared.State.the-variants.{Failed, Normal, CheckpBegin, Checkpointing, Error, Recovering}
 use Rattle.cabinet.specs.declared.Alarm.{Alarm}
 use Rattle.cabinet.specs.declared.Alarm.the-variants.{Quiet, Fault as At}
-use Rattle.cabinet.specs.declared.Image.{Image}
+use Rattle.image.specs.declared.Image.{Image}
 use Rattle.cabinet.specs.declared.Cabinet.{Cabinet}
-use Rattle.cabinet.specs.Cabinet.{inUse, booked, withBooked, sending, taking, hurtFrom, beginning, comparing, owing, savedFor, resuming, alarmed, recovering, restoredFor, withState}
+use Rattle.image.specs.Image.{booked, withBooked}
+use Rattle.cabinet.specs.Cabinet.{inUse, sending, taking, hurtFrom, beginning, comparing, owing, savedFor, resuming, alarmed, recovering, restoredFor, withState}
 use Rattle.group.specs.declared.Group.{Group}
-use Rattle.group.specs.Lines.{putAll, putCheckps, checkps, emptyLines, lineTo}
+use Rattle.outgoing.specs.Lines.{putAll, putCheckps, checkps, emptyLines, lineTo}
 use Rattle.group.specs.Group.{cabinet, withCabinet, outgoing, withOutgoing, line, withLine}
 use Rattle.protocol.specs.History.{upd}
 use Rattle.protocol.specs.Moves.{broadcast, join, resumeWith, recoverWith, raise, hear, emptiedTo, markFailed}

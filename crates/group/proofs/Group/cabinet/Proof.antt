@@ -5,7 +5,7 @@ use native.Mathlib.Omega.{arith}
 use lib.ListN.{length, length-map, List·getD-eq-default}
 use Rattle.cabinet.specs.Cabinet.{absent}
 use Rattle.group.specs.Group.{cabinet}
-use Rattle.group.proofs.Lists.{getD-in}
+use Rattle.marks.proofs.Lists.{getD-in}
 use Rattle.group.proofs.Group.cabinet.Statement.{statement}
 use Rattle.group.proofs.Group.cabinet.Tie as tie
 

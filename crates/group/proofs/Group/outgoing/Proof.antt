@@ -3,9 +3,9 @@ use borrow.Author.Needs.{needs}
 use mathlib.Core.Path.{_≡_, _∙_, sym}
 use native.Mathlib.Omega.{arith}
 use lib.ListN.{length, length-map, List·getD-eq-default}
-use Rattle.group.specs.Lines.{emptyLines}
+use Rattle.outgoing.specs.Lines.{emptyLines}
 use Rattle.group.specs.Group.{outgoing}
-use Rattle.group.proofs.Lists.{getD-in}
+use Rattle.marks.proofs.Lists.{getD-in}
 use Rattle.group.proofs.Group.outgoing.Statement.{statement}
 use Rattle.group.proofs.Group.outgoing.Tie as tie
 

@@ -4,7 +4,7 @@ use mathlib.Core.Path.{_≡_, _∙_, sym}
 use native.Mathlib.Omega.{arith}
 use lib.ListN.{length, length-map, List·getD-eq-default}
 use Rattle.group.specs.Group.{blankSlots}
-use Rattle.group.proofs.Lists.{getD-in}
+use Rattle.marks.proofs.Lists.{getD-in}
 use Rattle.group.proofs.Group.slots.Statement.{statement}
 use Rattle.group.proofs.Group.slots.Tie as tie
 

@@ -1,0 +1,11 @@
+-- The fault that a cabinet has entered error for.
+use mathlib.Core.Bool.{Bool, false}
+use Rattle.line.specs.declared.Place.{Place}
+use Rattle.line.specs.Packet.{samePlace}
+use Rattle.cabinet.specs.declared.Alarm.{Alarm}
+use Rattle.cabinet.specs.declared.Alarm.the-variants.{Quiet, Fault}
+
+-- "A fault for the same place is noted; for another place it crashes the group."
+abbrev pub isFor : Alarm → Place → Bool
+isFor Quiet p = false
+isFor (Fault q) p = samePlace q p

@@ -1,0 +1,162 @@
+// The group, lines and store that a group file makes.
+// A cabinet has its number in the file, less one: 0 to 7.
+use cabinet::Alarm;
+use cabinet::Cabinet;
+use cabinet::Phase;
+use cabinet::Table;
+use group::Group;
+use group::Outcome;
+use group::Row;
+use group::Slots;
+use image::Image;
+use outgoing::Outgoing;
+use state::State;
+use state::Version;
+ghost use mathlib.Core.Path.{_≡_};
+ghost use Prim.Native.Nat.{_<_, _≤_};
+ghost use lib.ListN.{getD};
+ghost use Rattle.marks.specs.Marks.{noMarks};
+ghost use Rattle.load.specs.Load.{cabinetCount, imageOf, startingCabinet, cabinetOf, cabinetsOf, slotsOf, storeOf, groupOf, noGroup, load};
+
+// The image of cabinet i: its booking in octets 0 and 1, and no notes.
+fn image_of(file: &[u8], i: usize) -> Image
+    requires { ⌜ i < 65536 ⌝ }
+    ensures { λ r. ⌜ r ≡ imageOf (now (file .entry)) i ⌝ }
+{
+    let high = load::octet(file, 12 + 4 * i);
+    let low = load::octet(file, 13 + 4 * i);
+    let mut octets = [0; 32];
+    octets[0] = high;
+    octets[1] = low;
+    Image { octets: octets }
+}
+
+fn row_of(rows: [[bool; 8]; 8], i: usize) -> [bool; 8]
+    requires { ⌜ i < 8 ⌝ }
+    ensures { λ r. ⌜ r ≡ getD rows i noMarks ⌝ }
+{
+    rows[i]
+}
+
+fn starting_cabinet(file: &[u8], rows: [[bool; 8]; 8], i: usize) -> Cabinet
+    requires { ⌜ i < 8 ⌝ }
+    ensures { λ r. ⌜ r ≡ startingCabinet (now (file .entry)) rows i ⌝ }
+{
+    Cabinet {
+        phase: Phase {
+            state: State::Normal,
+            version: Version::Known(false),
+            alarm: Alarm::Quiet,
+        },
+        table: Table {
+            cabinets: load::present(file),
+            links: row_of(rows, i),
+        },
+        noted: cabinet::nothing_noted(),
+        registers: cabinet::start_registers(),
+        image: image_of(file, i),
+        home: load::less_one(load::small(file, 10 + 4 * i)) as u8,
+        store: load::small(file, 11 + 4 * i) == 1,
+        owed: [false; 8],
+    }
+}
+
+// What stands at number i: a cabinet of the file, or none.
+fn cabinet_of(file: &[u8], rows: [[bool; 8]; 8], i: usize) -> Cabinet
+    requires { ⌜ i < 8 ⌝ }
+    ensures { λ r. ⌜ r ≡ cabinetOf (now (file .entry)) rows i ⌝ }
+{
+    if i < load::cabinet_count(file) {
+        starting_cabinet(file, rows, i)
+    } else {
+        Cabinet::absent()
+    }
+}
+
+fn cabinets_of(file: &[u8], rows: [[bool; 8]; 8]) -> [Cabinet; 8]
+    ensures { λ r. ⌜ r ≡ cabinetsOf (now (file .entry)) rows ⌝ }
+{
+    [
+        cabinet_of(file, rows, 0),
+        cabinet_of(file, rows, 1),
+        cabinet_of(file, rows, 2),
+        cabinet_of(file, rows, 3),
+        cabinet_of(file, rows, 4),
+        cabinet_of(file, rows, 5),
+        cabinet_of(file, rows, 6),
+        cabinet_of(file, rows, 7),
+    ]
+}
+
+// The two slots of number i: slot 0 holds the starting image.
+fn slots_of(file: &[u8], i: usize) -> Slots
+    requires { ⌜ i < 8 ⌝ }
+    ensures { λ r. ⌜ r ≡ slotsOf (now (file .entry)) i ⌝ }
+{
+    if i < load::cabinet_count(file) {
+        Slots {
+            zero: image_of(file, i),
+            one: Image::blank(),
+        }
+    } else {
+        Slots::blank()
+    }
+}
+
+fn store_of(file: &[u8]) -> [Slots; 8]
+    ensures { λ r. ⌜ r ≡ storeOf (now (file .entry)) ⌝ }
+{
+    [
+        slots_of(file, 0),
+        slots_of(file, 1),
+        slots_of(file, 2),
+        slots_of(file, 3),
+        slots_of(file, 4),
+        slots_of(file, 5),
+        slots_of(file, 6),
+        slots_of(file, 7),
+    ]
+}
+
+// The group of a file that no check refuses. The count fits an octet then.
+fn group_of(file: &[u8], rows: [[bool; 8]; 8]) -> Group
+    requires { ⌜ cabinetCount (now file) ≤ 8 ⌝ }
+    ensures { λ r. ⌜ r ≡ groupOf (now (file .entry)) rows ⌝ }
+{
+    let links = group::of_rows(rows);
+    Group {
+        n: load::cabinet_count(file) as u8,
+        cabinets: cabinets_of(file, rows),
+        links: links,
+        sound: links,
+        outgoing: [Outgoing::empty(); 8],
+        store: store_of(file),
+    }
+}
+
+// A refused file leaves no group.
+fn no_group() -> Group
+    ensures { λ r. ⌜ r ≡ noGroup ⌝ }
+{
+    let row = Row { marks: [false; 8] };
+    Group {
+        n: 0,
+        cabinets: [Cabinet::absent(); 8],
+        links: [row; 8],
+        sound: [row; 8],
+        outgoing: [Outgoing::empty(); 8],
+        store: [Slots::blank(); 8],
+    }
+}
+
+// The group file's answer: 0 with the group, or the number of the first refusal that applies.
+pub fn load(file: &[u8]) -> Outcome
+    ensures { λ r. ⌜ r ≡ load (now (file .entry)) ⌝ }
+{
+    let refusal = load::load_refusal(file);
+    if refusal == 0 {
+        group::answering(0, group_of(file, load::rows_in(file)))
+    } else {
+        group::answering(refusal, no_group())
+    }
+}

@@ -1,0 +1,104 @@
+// A cabinet's outgoing lines by value: one of them read or replaced, and packets put on several at once.
+use line::Cell;
+use line::Check;
+use line::Line;
+use line::Packet;
+ghost use mathlib.Core.Path.{_≡_};
+ghost use Prim.Native.Nat.{_<_};
+ghost use Rattle.outgoing.specs.Lines.{emptyLines, lineTo, withLineTo, putIf, putRowTo, putAll, checkpCell, checkps, putCheckps};
+
+// A cabinet's eight outgoing lines.
+pub struct Outgoing {
+    pub lines: [Line; 8],
+}
+
+impl Outgoing {
+    pub fn empty() -> Outgoing
+        ensures { λ r. ⌜ r ≡ emptyLines ⌝ }
+    {
+        let line = Line::empty();
+        Outgoing { lines: [line; 8] }
+    }
+
+    pub fn line_to(self, j: u8) -> Line
+        ensures { λ r. ⌜ r ≡ lineTo self j ⌝ }
+    {
+        let k = j as usize;
+        if k < 8 { self.lines[k] } else { Line::empty() }
+    }
+
+    pub fn with_line_to(self, j: u8, l: Line) -> Outgoing
+        ensures { λ r. ⌜ r ≡ withLineTo self j l ⌝ }
+    {
+        let k = j as usize;
+        let mut o = self;
+        if k < 8 {
+            o.lines[k] = l;
+        }
+        o
+    }
+
+    fn put_if(self, asked: bool, j: u8, p: Packet) -> Outgoing
+        ensures { λ r. ⌜ r ≡ putIf asked self j p ⌝ }
+    {
+        if asked {
+            self.with_line_to(j, self.line_to(j).put(p))
+        } else {
+            self
+        }
+    }
+
+    // On each marked line its packet of the row.
+    fn put_row(self, marks: [bool; 8], row: [Cell; 8]) -> Outgoing
+        ensures { λ r. ⌜ r ≡ putRowTo 8 marks row self ⌝ }
+    {
+        let mut o = self;
+        let mut j: u8 = 0;
+        while j < 8 {
+            let k = j as usize;
+            let c = row[k];
+            let p = c.packet;
+            o = o.put_if(marks[k], j, p);
+            j += 1;
+        }
+        o
+    }
+
+    pub fn put_all(self, marks: [bool; 8], p: Packet) -> Outgoing
+        ensures { λ r. ⌜ r ≡ putAll marks p self ⌝ }
+    {
+        self.put_row(marks, [Cell { packet: p }; 8])
+    }
+
+    // On each marked line a checkp with that line's register.
+    pub fn put_checkps(self, marks: [bool; 8], registers: [Check; 8]) -> Outgoing
+        ensures { λ r. ⌜ r ≡ putCheckps marks registers self ⌝ }
+    {
+        self.put_row(marks, checkps(registers))
+    }
+}
+
+fn checkp_at(registers: [Check; 8], j: usize) -> Cell
+    requires { ⌜ j < 8 ⌝ }
+    ensures { λ r. ⌜ r ≡ checkpCell registers j ⌝ }
+{
+    let check = registers[j];
+    Cell {
+        packet: Packet::Checkp(check),
+    }
+}
+
+fn checkps(registers: [Check; 8]) -> [Cell; 8]
+    ensures { λ r. ⌜ r ≡ checkps registers ⌝ }
+{
+    [
+        checkp_at(registers, 0),
+        checkp_at(registers, 1),
+        checkp_at(registers, 2),
+        checkp_at(registers, 3),
+        checkp_at(registers, 4),
+        checkp_at(registers, 5),
+        checkp_at(registers, 6),
+        checkp_at(registers, 7),
+    ]
+}

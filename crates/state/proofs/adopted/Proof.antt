@@ -1,0 +1,11 @@
+-- `adopted`, by the two cases of a version.
+use borrow.Author.Needs.{needs}
+use Rattle.state.proofs.adopted.Statement.{statement}
+use Rattle.state.proofs.adopted.Tie as tie
+
+pub adopted-spec : {M : Type 1} → statement M
+adopted-spec = tie.close (tie.spec
+    (λ c. search needs)
+    (λ c. search needs)
+    (λ c. rw (c .before .v .given .1))
+    (λ c. rw (c .before .v2 .given .1)))
