@@ -1,7 +1,7 @@
 -- The step entry: a record is decoded, checks 8 to 12 are made in order, and its kind's rule decides the rest.
 use Prim.Native.Nat.{ℕ, _+_, _-_, _*_}
 use mathlib.Core.Bool.{Bool, true, false, cond, not, _&&_}
-use mathlib.Core.List.{List}
+use mathlib.Core.List.{List, [], _∷_}
 use lib.ListN.{length, getD}
 use lib.Dec.{eqb, ltb, leb}
 use Rattle.group.specs.declared.Group.{Group}
@@ -121,3 +121,15 @@ stepDecoded g (Taken s) = orRefuse (entryRefusal g s) g (perform g s)
 
 unfoldable pub step : Group → List ℕ → Outcome
 step g r = stepDecoded g (decode r)
+
+-- ---- several steps: "each step gets what the one before returned, refused or not"
+
+-- the group after the last record
+unfoldable pub stepAll : Group → List (List ℕ) → Group
+stepAll g [] = g
+stepAll g (r ∷ rs) = stepAll (step g r .group) rs
+
+-- what each record is answered
+unfoldable pub answersFrom : Group → List (List ℕ) → List ℕ
+answersFrom g [] = []
+answersFrom g (r ∷ rs) = step g r .answer ∷ answersFrom (step g r .group) rs

@@ -6,7 +6,7 @@ use lib.ListN.{length, replicate}
 use Rattle.crc.specs.Crc.{crc}
 use Rattle.group.specs.declared.Group.{Group}
 use Rattle.load.specs.Load.{load}
-use Rattle.protocol.specs.Entry.{step}
+use Rattle.protocol.specs.Entry.{step, stepAll}
 use Rattle.protocol.specs.Listing.{Text, ascii, listing}
 
 -- ---- group files
@@ -60,11 +60,6 @@ restored a = recordOf 8 a 0 0 0
 abbrev pub fail : ℕ → List ℕ
 fail a = recordOf 10 a 0 0 0
 
--- the group after steps taken one after the other
-abbrev pub after : Group → List (List ℕ) → Group
-after g [] = g
-after g (r ∷ rs) = after (step g r .group) rs
-
 -- ---- the table
 
 -- what a case asks: the listing of a file and steps, the check of octets, the answer of load, or that of a step after others
@@ -79,7 +74,7 @@ unfoldable pub found : Question → List ℕ
 found (ListingOf file steps) = listing file steps
 found (CheckOf octets) = crc octets ∷ []
 found (LoadOf file) = load file .answer ∷ []
-found (StepOf file before asked) = step (after (load file .group) before) asked .answer ∷ []
+found (StepOf file before asked) = step (stepAll (load file .group) before) asked .answer ∷ []
 
 -- a case: what is asked, and what the paper says
 pub record Case : Type 0 where

@@ -4,9 +4,8 @@ use Prim.Native.Nat.{ℕ}
 use mathlib.Core.Path.{_≡_}
 use mathlib.Core.List.{List, [], _∷_, _++_}
 use lib.ListN.{length, replicate}
-use Rattle.group.specs.declared.Group.{Group}
 use Rattle.load.specs.Load.{load}
-use Rattle.protocol.specs.Entry.{step}
+use Rattle.protocol.specs.Entry.{answersFrom}
 use Rattle.protocol.specs.Marked.{rowOf, twoCabinets, recordOf, send, begin, deliver, fetch, restored, fail}
 use Rattle.protocol.specs.Examples.{fileOf, writes, saved, fetches, waitOver, damage}
 
@@ -15,11 +14,6 @@ pub record Run : Type 0 where
   pub file : List ℕ
   pub records : List (List ℕ)
   pub answers : List ℕ
-
--- the answers to steps taken one after the other
-abbrev pub answersFrom : Group → List (List ℕ) → List ℕ
-answersFrom g [] = []
-answersFrom g (r ∷ rs) = step g r .answer ∷ answersFrom (step g r .group) rs
 
 -- what the definitions answer
 unfoldable pub answered : Run → List ℕ

@@ -19,7 +19,8 @@ use Rattle.protocol.specs.Listing.{records}
 use Rattle.protocol.specs.History.{World, advance, run, opening, ends}
 use Rattle.protocol.specs.Restored.{Restored, Octets, Records}
 use Rattle.protocol.proofs.Claims.Demand.{demand-three, same-state}
-use Rattle.replay.specs.Replay.{recordsIn, after, stepAll, answersFrom, replayed, answersOf, EndsWell}
+use Rattle.protocol.specs.Entry.{stepAll, answersFrom}
+use Rattle.replay.specs.Replay.{recordsIn, after, replayed, answersOf, EndsWell}
 
 -- ---- the run and the groups of it
 

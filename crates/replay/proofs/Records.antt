@@ -9,11 +9,11 @@ use native.Mathlib.Decide.{decLt}
 use borrow.Author.Tests.{ne-eqb}
 use Rattle.group.specs.declared.Group.{Group}
 use Rattle.group.specs.declared.Outcome.{Outcome}
-use Rattle.protocol.specs.Entry.{step}
+use Rattle.protocol.specs.Entry.{step, stepAll, answersFrom}
 use Rattle.protocol.specs.Listing.{records}
 use Rattle.buffer.specs.Written.{Written, storedFrom}
 use Rattle.buffer.proofs.Texts.{stored-sets}
-use Rattle.replay.specs.Replay.{recordsIn, stepAll, answersFrom}
+use Rattle.replay.specs.Replay.{recordsIn}
 
 pub some-record : (n : ℕ) (l : List ℕ) → 0 < length l → records (suc n) l ≡ take 6 l ∷ records n (drop 6 l)
 unfolding records

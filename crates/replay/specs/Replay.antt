@@ -2,15 +2,14 @@
 use Prim.Native.Nat.{ℕ, suc}
 use mathlib.Core.Path.{_≡_}
 use mathlib.Core.Bool.{true, cond}
-use mathlib.Core.List.{List, [], _∷_}
+use mathlib.Core.List.{List, []}
 use lib.ListN.{length, take}
 use lib.Dec.{eqb}
-use Rattle.group.specs.declared.Group.{Group}
 use Rattle.group.specs.declared.Outcome.{Outcome}
 use Rattle.state.specs.State.{works}
 use Rattle.group.specs.Group.{stateOf, answering}
 use Rattle.load.specs.Load.{load, cabinetCount, feederTotal}
-use Rattle.protocol.specs.Entry.{step}
+use Rattle.protocol.specs.Entry.{answersFrom}
 use Rattle.protocol.specs.Listing.{records}
 use Rattle.protocol.specs.History.{World, ends}
 use Rattle.protocol.specs.Restored.{Restored, worldAfter}
@@ -22,16 +21,6 @@ recordsIn list = records (length list) list
 -- the group and its history after the first m of the records rs
 abbrev pub after : List ℕ → List (List ℕ) → ℕ → World
 after file rs m = worldAfter file (take m rs)
-
--- "each step gets what the one before returned, refused or not"
-unfoldable pub stepAll : Group → List (List ℕ) → Group
-stepAll g [] = g
-stepAll g (r ∷ rs) = stepAll (step g r .group) rs
-
--- what each of these steps answers, in order
-unfoldable pub answersFrom : Group → List (List ℕ) → List ℕ
-answersFrom g [] = []
-answersFrom g (r ∷ rs) = step g r .answer ∷ answersFrom (step g r .group) rs
 
 -- what load answers, and where it answers 0 the group after the last record
 abbrev pub replayed : List ℕ → List (List ℕ) → Outcome

@@ -6,14 +6,8 @@ ghost use Prim.Native.Nat.{min};
 ghost use mathlib.Core.Path.{_≡_};
 ghost use lib.Seq.{sets};
 ghost use Rattle.load.specs.Load.{load};
-ghost use Rattle.replay.specs.Replay.{
-  recordsIn,
-  stepAll,
-  answersFrom,
-  replayed,
-  answersOf,
-  EndsWell,
-};
+ghost use Rattle.protocol.specs.Entry.{stepAll, answersFrom};
+ghost use Rattle.replay.specs.Replay.{recordsIn, replayed, answersOf, EndsWell};
 
 pub fn least(a: usize, b: usize) -> usize
     ensures { λ r. ⌜ r ≡ min a b ⌝ }

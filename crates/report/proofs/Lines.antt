@@ -15,10 +15,9 @@ use Rattle.state.specs.State.{works}
 use Rattle.image.specs.Image.{booked}
 use Rattle.group.specs.declared.Group.{Group}
 use Rattle.group.specs.Group.{cabinet}
-use Rattle.protocol.specs.Entry.{step}
+use Rattle.protocol.specs.Entry.{step, stepAll, answersFrom}
 use Rattle.protocol.specs.Listing.{Text, stateWord, versionWord, decimal, loadLine, stepLine, cabLine, cabLines, runFrom}
 use Rattle.buffer.proofs.Digits.{at-most}
-use Rattle.replay.specs.Replay.{stepAll, answersFrom}
 use Rattle.report.specs.StepLines.{stepLines}
 
 -- ---- one line more, and the whole run

@@ -15,7 +15,8 @@ use Rattle.protocol.specs.Listing.{Text, loadLine, cabLines, records, runFrom, 
 use Rattle.protocol.specs.History.{opening}
 use Rattle.buffer.specs.Written.{Written}
 use Rattle.buffer.proofs.Texts.{then, place-added, stored-sets, at-start}
-use Rattle.replay.specs.Replay.{recordsIn, stepAll, answersFrom, replayed, answersOf, EndsWell}
+use Rattle.protocol.specs.Entry.{stepAll, answersFrom}
+use Rattle.replay.specs.Replay.{recordsIn, replayed, answersOf, EndsWell}
 use Rattle.replay.proofs.Records.{enough, count, an-answer-each}
 use Rattle.replay.proofs.Moments.{run-groups, same-answer}
 use Rattle.report.specs.StepLines.{stepLines}

@@ -3,7 +3,8 @@ use borrow.Author.Needs.{needs}
 use mathlib.Core.Path.{ap, _∙_}
 use lib.ListN.{length}
 use lib.Seq.{length-sets}
-use Rattle.replay.specs.Replay.{recordsIn, answersFrom}
+use Rattle.protocol.specs.Entry.{answersFrom}
+use Rattle.replay.specs.Replay.{recordsIn}
 use Rattle.replay.proofs.Moments.{accepted, answered, refused, unanswered, ends-well}
 use Rattle.replay.proofs.replay.Statement.{statement}
 use Rattle.replay.proofs.replay.Tie as tie

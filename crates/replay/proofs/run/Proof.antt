@@ -5,7 +5,8 @@ use mathlib.Core.Path.{ap, _∙_}
 use native.Mathlib.Omega.{arith}
 use lib.ListN.{length}
 use lib.Seq.{sets, length-sets}
-use Rattle.replay.specs.Replay.{recordsIn, stepAll, answersFrom}
+use Rattle.protocol.specs.Entry.{stepAll, answersFrom}
+use Rattle.replay.specs.Replay.{recordsIn}
 use Rattle.replay.proofs.Records.{To-do, start, shorter, turn, ended}
 use Rattle.replay.proofs.run.Statement.{statement}
 use Rattle.replay.proofs.run.Tie as tie
