@@ -50,8 +50,8 @@ pub fn damage_step(g: Group, a: u8, b: u8, p: u8, q: u16) -> Outcome
 {
     let k = damage_refusal(g, a, b, p, q);
     if k == 0 {
-        if group::some(g.recovering_ones()) {
-            group::crashed(g)
+        if survey::some(survey::recovering_ones(g)) {
+            survey::crashed(g)
         } else {
             group::taken(hurt(g, a, b, p, q))
         }

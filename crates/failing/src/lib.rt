@@ -66,16 +66,19 @@ fn fail_crashes(g: Group, a: u8) -> bool
     ensures { λ r. ⌜ r ≡ failCrashes g a ⌝ }
 {
     let c = g.cabinet(a);
-    let others = marks::set_mark(g.working(), a, false);
+    let others = marks::set_mark(survey::working(g), a, false);
     let apart = !marks::connected(g.sound_rows(), others);
-    marks::or(c.store, marks::or(group::some(g.recovering_ones()), apart))
+    marks::or(
+        c.store,
+        marks::or(survey::some(survey::recovering_ones(g)), apart),
+    )
 }
 
 pub fn fail_step(g: Group, a: u8) -> Outcome
     ensures { λ r. ⌜ r ≡ failStep g a ⌝ }
 {
     if fail_crashes(g, a) {
-        group::crashed(g)
+        survey::crashed(g)
     } else {
         group::taken(alarm_neighbours(mark_failed(g, a), a))
     }

@@ -6,14 +6,11 @@ use line::Line;
 use outgoing::Outgoing;
 use state::State;
 ghost use mathlib.Core.Path.{_≡_};
-ghost use mathlib.Core.Bool.{cond, _&&_};
+ghost use mathlib.Core.Bool.{cond};
 ghost use Prim.Native.Nat.{_<_};
 ghost use lib.ListN.{getD};
-ghost use Rattle.state.specs.declared.State.the-variants.{Error, Crashed};
-ghost use Rattle.state.specs.State.{works, isIn, inRecovery, isUnknown};
-ghost use Rattle.cabinet.specs.Cabinet.{crashing};
 ghost use Rattle.outgoing.specs.Lines.{emptyLines};
-ghost use Rattle.group.specs.Group.{cabinet, withCabinet, stateOf, outgoing, withOutgoing, line, withLine, blankSlots, slot, withSlots, withSlot, noRow, rowsOf, rowAt, ofRows, withSound, those, some, working, recoveringOnes, unsure, isCrashed, answering, taken, crashAll, crashed};
+ghost use Rattle.group.specs.Group.{cabinet, withCabinet, stateOf, outgoing, withOutgoing, line, withLine, blankSlots, slot, withSlots, withSlot, noRow, rowsOf, rowAt, ofRows, withSound, answering, taken};
 
 // One row of eight marks for a cabinet: its links.
 pub struct Row {
@@ -87,13 +84,6 @@ pub fn of_rows(rows: [[bool; 8]; 8]) -> [Row; 8]
         row_at(rows, 6),
         row_at(rows, 7),
     ]
-}
-
-// One is marked.
-pub fn some(marks: [bool; 8]) -> bool
-    ensures { λ r. ⌜ r ≡ some marks ⌝ }
-{
-    marks::lowest(marks) < 8
 }
 
 pub fn answering(k: u8, g: Group) -> Outcome
@@ -262,142 +252,4 @@ impl Group {
     {
         self.with_slots(i, self.slots(i).with_image(v, m))
     }
-
-    // ---- asked of all cabinets
-
-    fn works_at(self, i: u8) -> bool
-        ensures { λ r. ⌜ r ≡ works (stateOf self i) ⌝ }
-    {
-        state::works(self.state_of(i))
-    }
-
-    pub fn working(self) -> [bool; 8]
-        ensures { λ r. ⌜ r ≡ working self ⌝ }
-    {
-        [
-            self.works_at(0),
-            self.works_at(1),
-            self.works_at(2),
-            self.works_at(3),
-            self.works_at(4),
-            self.works_at(5),
-            self.works_at(6),
-            self.works_at(7),
-        ]
-    }
-
-    fn recovers_at(self, i: u8) -> bool
-        ensures { λ r. ⌜ r ≡ inRecovery (stateOf self i) ⌝ }
-    {
-        state::in_recovery(self.state_of(i))
-    }
-
-    // Those in error, recovering or recovered.
-    pub fn recovering_ones(self) -> [bool; 8]
-        ensures { λ r. ⌜ r ≡ recoveringOnes self ⌝ }
-    {
-        [
-            self.recovers_at(0),
-            self.recovers_at(1),
-            self.recovers_at(2),
-            self.recovers_at(3),
-            self.recovers_at(4),
-            self.recovers_at(5),
-            self.recovers_at(6),
-            self.recovers_at(7),
-        ]
-    }
-
-    fn unsure_at(self, i: u8) -> bool
-        ensures { λ r. ⌜ r ≡ isIn (stateOf self i) Error && isUnknown (cabinet self i .phase .version) ⌝ }
-    {
-        let c = self.cabinet(i);
-        let p = c.phase;
-        let v = p.version;
-        marks::and(
-            state::is_in(self.state_of(i), State::Error),
-            state::is_unknown(v),
-        )
-    }
-
-    // Those in error with unknown version.
-    pub fn unsure(self) -> [bool; 8]
-        ensures { λ r. ⌜ r ≡ unsure self ⌝ }
-    {
-        [
-            self.unsure_at(0),
-            self.unsure_at(1),
-            self.unsure_at(2),
-            self.unsure_at(3),
-            self.unsure_at(4),
-            self.unsure_at(5),
-            self.unsure_at(6),
-            self.unsure_at(7),
-        ]
-    }
-
-    fn crashed_at(self, i: u8) -> bool
-        ensures { λ r. ⌜ r ≡ isIn (stateOf self i) Crashed ⌝ }
-    {
-        state::is_in(self.state_of(i), State::Crashed)
-    }
-
-    fn crashed_ones(self) -> [bool; 8]
-        ensures { λ r. ⌜ r ≡ those (λ c. isIn (c .phase .state) Crashed) self ⌝ }
-    {
-        [
-            self.crashed_at(0),
-            self.crashed_at(1),
-            self.crashed_at(2),
-            self.crashed_at(3),
-            self.crashed_at(4),
-            self.crashed_at(5),
-            self.crashed_at(6),
-            self.crashed_at(7),
-        ]
-    }
-
-    pub fn is_crashed(self) -> bool
-        ensures { λ r. ⌜ r ≡ isCrashed self ⌝ }
-    {
-        some(self.crashed_ones())
-    }
-
-    fn crashing_at(self, i: u8) -> Cabinet
-        ensures { λ r. ⌜ r ≡ crashing (cabinet self i) ⌝ }
-    {
-        self.cabinet(i).crashing()
-    }
-
-    fn crashing_ones(self) -> [Cabinet; 8]
-        ensures { λ r. ⌜ r ≡ crashAll self .cabinets ⌝ }
-    {
-        [
-            self.crashing_at(0),
-            self.crashing_at(1),
-            self.crashing_at(2),
-            self.crashing_at(3),
-            self.crashing_at(4),
-            self.crashing_at(5),
-            self.crashing_at(6),
-            self.crashing_at(7),
-        ]
-    }
-
-    // A crash of the group: every working cabinet is crashed.
-    pub fn crash_all(self) -> Group
-        ensures { λ r. ⌜ r ≡ crashAll self ⌝ }
-    {
-        let mut g = self;
-        let cabinets = self.crashing_ones();
-        g.cabinets = cabinets;
-        g
-    }
-}
-
-// The step is taken, and the group crashed.
-pub fn crashed(g: Group) -> Outcome
-    ensures { λ r. ⌜ r ≡ crashed g ⌝ }
-{
-    answering(50, g.crash_all())
 }

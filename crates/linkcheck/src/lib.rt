@@ -14,10 +14,10 @@ fn find_link_fault(before: Group, g: Group, a: u8, b: u8) -> Outcome
     ensures { λ r. ⌜ r ≡ findLinkFault before g a b ⌝ }
 {
     let rows = marks::struck(g.sound_rows(), a, b);
-    if marks::connected(rows, g.working()) {
+    if marks::connected(rows, survey::working(g)) {
         group::taken(moves::enter_error(g.with_sound(rows), b, line::link_place(a, b)))
     } else {
-        group::crashed(before)
+        survey::crashed(before)
     }
 }
 

@@ -227,7 +227,7 @@ pub fn entry_refusal(g: Group, s: Step) -> u8
     let d = g.cabinets[(j % 8) as usize];
     let able = actor_works(s, works_at(i, c), works_at(j, d));
     let named = marks::and(is_cabinet(g.n, a), is_cabinet(g.n, b));
-    let running = !g.is_crashed();
+    let running = !survey::is_crashed(g);
     let acts = need(able, 12, 0);
     need(running, 10, need(named, 11, acts))
 }

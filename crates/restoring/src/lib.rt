@@ -136,8 +136,8 @@ fn wait_over_refusal(g: Group, a: u8) -> u8
     let phase = c.phase;
     let alarm = phase.alarm;
     let waits = state::is_in(g.state_of(a), State::Error);
-    let unsure = g.unsure();
-    let working = g.working();
+    let unsure = survey::unsure(g);
+    let working = survey::working(g);
     let all = records::need(marks::covers(unsure, working), 19, 0);
     records::need(marks::and(waits, lost_coordinator(alarm, c)), 14, all)
 }

@@ -95,7 +95,7 @@ pub fn receive_fault(before: Group, g: Group, a: u8, b: u8, p: Place) -> Outcome
         if cabinet::is_for(alarm, p) {
             group::taken(hear(g, a, b))
         } else {
-            group::crashed(before)
+            survey::crashed(before)
         }
     } else {
         group::taken(g)

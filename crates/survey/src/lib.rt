@@ -1,0 +1,154 @@
+// What is asked of all cabinets at once, and a crash of the group.
+use cabinet::Cabinet;
+use group::Group;
+use group::Outcome;
+use state::State;
+ghost use mathlib.Core.Path.{_≡_};
+ghost use mathlib.Core.Bool.{_&&_};
+ghost use Rattle.state.specs.declared.State.the-variants.{Error, Crashed};
+ghost use Rattle.state.specs.State.{works, isIn, inRecovery, isUnknown};
+ghost use Rattle.cabinet.specs.Cabinet.{crashing};
+ghost use Rattle.group.specs.Group.{cabinet, stateOf, those, some, working, recoveringOnes, unsure, isCrashed, crashAll, crashed};
+
+// One is marked.
+pub fn some(marks: [bool; 8]) -> bool
+    ensures { λ r. ⌜ r ≡ some marks ⌝ }
+{
+    marks::lowest(marks) < 8
+}
+
+fn works_at(g: Group, i: u8) -> bool
+    ensures { λ r. ⌜ r ≡ works (stateOf g i) ⌝ }
+{
+    state::works(g.state_of(i))
+}
+
+pub fn working(g: Group) -> [bool; 8]
+    ensures { λ r. ⌜ r ≡ working g ⌝ }
+{
+    [
+        works_at(g, 0),
+        works_at(g, 1),
+        works_at(g, 2),
+        works_at(g, 3),
+        works_at(g, 4),
+        works_at(g, 5),
+        works_at(g, 6),
+        works_at(g, 7),
+    ]
+}
+
+fn recovers_at(g: Group, i: u8) -> bool
+    ensures { λ r. ⌜ r ≡ inRecovery (stateOf g i) ⌝ }
+{
+    state::in_recovery(g.state_of(i))
+}
+
+// Those in error, recovering or recovered.
+pub fn recovering_ones(g: Group) -> [bool; 8]
+    ensures { λ r. ⌜ r ≡ recoveringOnes g ⌝ }
+{
+    [
+        recovers_at(g, 0),
+        recovers_at(g, 1),
+        recovers_at(g, 2),
+        recovers_at(g, 3),
+        recovers_at(g, 4),
+        recovers_at(g, 5),
+        recovers_at(g, 6),
+        recovers_at(g, 7),
+    ]
+}
+
+fn unsure_at(g: Group, i: u8) -> bool
+    ensures { λ r. ⌜ r ≡ isIn (stateOf g i) Error && isUnknown (cabinet g i .phase .version) ⌝ }
+{
+    let c = g.cabinet(i);
+    let p = c.phase;
+    let v = p.version;
+    marks::and(
+        state::is_in(g.state_of(i), State::Error),
+        state::is_unknown(v),
+    )
+}
+
+// Those in error with unknown version.
+pub fn unsure(g: Group) -> [bool; 8]
+    ensures { λ r. ⌜ r ≡ unsure g ⌝ }
+{
+    [
+        unsure_at(g, 0),
+        unsure_at(g, 1),
+        unsure_at(g, 2),
+        unsure_at(g, 3),
+        unsure_at(g, 4),
+        unsure_at(g, 5),
+        unsure_at(g, 6),
+        unsure_at(g, 7),
+    ]
+}
+
+fn crashed_at(g: Group, i: u8) -> bool
+    ensures { λ r. ⌜ r ≡ isIn (stateOf g i) Crashed ⌝ }
+{
+    state::is_in(g.state_of(i), State::Crashed)
+}
+
+fn crashed_ones(g: Group) -> [bool; 8]
+    ensures { λ r. ⌜ r ≡ those (λ c. isIn (c .phase .state) Crashed) g ⌝ }
+{
+    [
+        crashed_at(g, 0),
+        crashed_at(g, 1),
+        crashed_at(g, 2),
+        crashed_at(g, 3),
+        crashed_at(g, 4),
+        crashed_at(g, 5),
+        crashed_at(g, 6),
+        crashed_at(g, 7),
+    ]
+}
+
+pub fn is_crashed(g: Group) -> bool
+    ensures { λ r. ⌜ r ≡ isCrashed g ⌝ }
+{
+    some(crashed_ones(g))
+}
+
+fn crashing_at(g: Group, i: u8) -> Cabinet
+    ensures { λ r. ⌜ r ≡ crashing (cabinet g i) ⌝ }
+{
+    g.cabinet(i).crashing()
+}
+
+fn crashing_ones(g: Group) -> [Cabinet; 8]
+    ensures { λ r. ⌜ r ≡ crashAll g .cabinets ⌝ }
+{
+    [
+        crashing_at(g, 0),
+        crashing_at(g, 1),
+        crashing_at(g, 2),
+        crashing_at(g, 3),
+        crashing_at(g, 4),
+        crashing_at(g, 5),
+        crashing_at(g, 6),
+        crashing_at(g, 7),
+    ]
+}
+
+// A crash of the group: every working cabinet is crashed.
+pub fn crash_all(g: Group) -> Group
+    ensures { λ r. ⌜ r ≡ crashAll g ⌝ }
+{
+    let mut h = g;
+    let cabinets = crashing_ones(g);
+    h.cabinets = cabinets;
+    h
+}
+
+// The step is taken, and the group crashed.
+pub fn crashed(g: Group) -> Outcome
+    ensures { λ r. ⌜ r ≡ crashed g ⌝ }
+{
+    group::answering(50, crash_all(g))
+}
