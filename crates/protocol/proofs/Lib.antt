@@ -1,8 +1,5 @@
--- What is proved of the definitions in specs/: `Answers` and `Claims` hold the theorems of document 01; `Fifo` serves that on lines, the
--- others serve demand 3.
-pub mod State
+-- What is proved of one step and of closed runs: `Answers` has the marked cases, what the entry answers and when the group crashes; `Closed`
+-- has whole runs. What holds in every run is proved in the crate `claims`.
+pub mod Fun
 pub mod Answers
-pub mod Invariant
-pub mod Moves
-pub mod Fifo
-pub mod Claims
+pub mod Closed

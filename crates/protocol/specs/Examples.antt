@@ -3,7 +3,7 @@
 -- follows a link fault that the check finds, the fourth is a second recovery, of a save made after the first one, and the fifth
 -- restores a save that was restored once before its coordinator failed. None restores the start.
 use Prim.Native.Nat.{ℕ, zero, suc, _/_}
-use mathlib.Core.Bool.{Bool, true, cond, _&&_}
+use mathlib.Core.Bool.{Bool, true, false, cond, _&&_}
 use mathlib.Core.List.{List, [], _∷_, _++_, map}
 use mathlib.Core.Option.{Option, none, some}
 use lib.ListN.{length, replicate}
@@ -82,6 +82,9 @@ pub record Found : Type 0 where
   -- the saves committed by the fault, and those left at the end: one passed over "counts as never committed"
   pub committed : ℕ
   pub left : ℕ
+  -- before the last record: a begin was taken since the start or the last recovery's end, and a save committed since then stands
+  pub begun : Bool
+  pub stands : Bool
   -- the save that the rule gives: its coordinator, numbered from 0 (the start has 8), and the amounts that each had taken by its cut
   pub by : ℕ
   pub took : List (List ℕ)
@@ -125,6 +128,8 @@ foundIn e fault near end = record {
   place = cabinet (near .group) (e .coordinator) .phase .alarm;
   committed = length (fault .history .saves);
   left = length (end .history .saves);
+  begun = near .history .begun;
+  stands = near .history .standing;
   by = latest (end .history) .by;
   took = forEach (sizeOf e) (tookIn (sizeOf e) (end .history));
   standing = forEach (sizeOf e) (λ c. cabinet (fault .group) c .image);
@@ -193,6 +198,8 @@ after-save-finds = record {
   place = Fault (AtCabinet 2);
   committed = 1;
   left = 1;
+  begun = true;
+  stands = true;
   by = 0;
   took = (10 ∷ []) ∷ (30 ∷ []) ∷ (5 ∷ []) ∷ [];
   standing = imageWith 40 0 ∷ imageWith 115 4 ∷ imageWith 8 0 ∷ [];
@@ -246,6 +253,8 @@ passed-over-finds = record {
   place = Fault (AtCabinet 0);
   committed = 2;
   left = 1;
+  begun = true;
+  stands = false;
   by = 0;
   took = [] ∷ (30 ∷ []) ∷ [] ∷ [];
   standing = imageWith 61 0 ∷ imageWith 97 0 ∷ imageWith 12 7 ∷ [];
@@ -282,6 +291,8 @@ link-fault-finds = record {
   place = Fault (AtLink 1 2);
   committed = 1;
   left = 1;
+  begun = true;
+  stands = true;
   by = 0;
   took = (10 ∷ []) ∷ (30 ∷ []) ∷ (5 ∷ []) ∷ [];
   standing = imageWith 80 0 ∷ imageWith 69 9 ∷ imageWith 22 0 ∷ [];
@@ -344,6 +355,8 @@ second-recovery-finds = record {
   place = Fault (AtCabinet 3);
   committed = 2;
   left = 2;
+  begun = true;
+  stands = true;
   by = 0;
   -- "Packets for a cut count from the start or the end of the last recovery before that save's begin": not the 30 and the 5
   took = (2 ∷ []) ∷ (11 ∷ []) ∷ [] ∷ (3 ∷ []) ∷ [];
@@ -387,6 +400,8 @@ restored-before-finds = record {
   place = Fault (AtCabinet 0);
   committed = 1;
   left = 1;
+  begun = false;
+  stands = false;
   by = 0;
   took = (5 ∷ []) ∷ (30 ∷ []) ∷ [] ∷ [];
   standing = imageWith 69 0 ∷ imageWith 86 0 ∷ imageWith 15 0 ∷ [];

@@ -99,6 +99,18 @@ oldResume =
 abbrev pub emptied : Run
 emptied = lastOf triangle (send 3 2 7 ∷ fail 3 ∷ []) (deliver 3 2) 18
 
+-- one that failed before is no neighbour any more: when 2 fails too, 3 does not enter error, which would have it work
+abbrev pub failedBefore : Run
+failedBefore =
+    lastOf triangle
+    (fail 3 ∷ deliver 1 2 ∷ deliver 2 1 ∷ fetches 1 ++ fetches 2 ++ restored 2 ∷ restored 1 ∷ deliver 1 2 ∷ deliver 1 2 ∷ fail 2 ∷ [])
+    (begin 3) 12
+
+-- ---- "14 not in normal": a save under way is not begun again
+
+abbrev pub beginAgain : Run
+beginAgain = lastOf triangle (begin 1 ∷ []) (begin 1) 14
+
 -- ---- "20 a normal packet, and a normal packet of that line was hurt since the receiver's register restarted"
 
 -- with both patterns 30 and 20 amperes would be 31 and 13,093, which have the same check value (`Claims.Tempting.same-value`)
@@ -162,6 +174,6 @@ inOrder = record {
 abbrev pub AllAsWritten : Type 0
 AllAsWritten =
     AsWritten hole × AsWritten holeLate × AsWritten wait × AsWritten homeInDoubt × AsWritten heard × AsWritten heardOneWay
-    × AsWritten oldResume × AsWritten emptied × AsWritten hurtTwice × AsWritten fullLine × AsWritten storeFails
+    × AsWritten oldResume × AsWritten emptied × AsWritten failedBefore × AsWritten beginAgain × AsWritten hurtTwice × AsWritten fullLine × AsWritten storeFails
     × AsWritten failsInRecovery × AsWritten damageInRecovery × AsWritten placesMeet × AsWritten failParts × AsWritten linkParts
     × AsWritten faultyLinkParts × AsWritten inOrder

@@ -18,7 +18,7 @@ use Rattle.load.specs.Load.{load, cabinetCount, feederTotal}
 use Rattle.protocol.specs.Listing.{records}
 use Rattle.protocol.specs.History.{World, advance, run, opening, ends}
 use Rattle.protocol.specs.Restored.{Restored, Octets, Records}
-use Rattle.protocol.proofs.Claims.Demand.{demand-three, same-state}
+use Rattle.claims.proofs.Claims.Demand.{demand-three, same-state}
 use Rattle.protocol.specs.Entry.{stepAll, answersFrom}
 use Rattle.replay.specs.Replay.{recordsIn, after, replayed, answersOf, EndsWell}
 

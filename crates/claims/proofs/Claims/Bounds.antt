@@ -1,0 +1,155 @@
+-- What document 01 asks of every run beside demand 3: lines keep to their sizes, and additions do not wrap.
+use Prim.Native.Nat.{ℕ, zero, suc, _+_, _<_, _≤_}
+use mathlib.Core.Path.{_≡_, refl, sym, ap, _∙_, subst}
+use mathlib.Core.Logic.{⊎-elim}
+use mathlib.Core.Bool.{Bool, true, false, cond, not, _&&_, _||_, false≢true}
+use mathlib.Core.List.{List, [], _∷_, _++_, nil≢cons}
+use lib.ListN.{length}
+use native.Mathlib.Omega.{arith}
+use native.Mathlib.Decide.{ℕ-discrete}
+use Rattle.marks.specs.Marks.{marked}
+use Rattle.line.specs.declared.Payload.{Payload}
+use Rattle.line.specs.declared.Packet.{Packet}
+use Rattle.line.specs.declared.Packet.the-variants.{Normal as NormalPacket}
+use Rattle.line.specs.declared.Cell.{Cell}
+use Rattle.line.specs.Packet.{isEmpty}
+use Rattle.line.specs.Line.{oldest, rest}
+use Rattle.state.specs.declared.State.{State}
+use Rattle.state.specs.declared.State.the-variants.{Failed, Normal, CheckpBegin, Checkpointing, Checkpointed, Error, Recovering, Recovered, Crashed}
+use Rattle.state.specs.State.{isIn, works, inRecovery}
+use Rattle.image.specs.Image.{booked}
+use Rattle.group.specs.declared.Group.{Group}
+use Rattle.group.specs.Group.{cabinet, stateOf, line, isCrashed}
+use Rattle.load.specs.Load.{load, feederTotal}
+use Rattle.protocol.specs.Receive.{takesFrom}
+use Rattle.protocol.specs.History.{run, opening}
+use Rattle.protocol.specs.Restored.{Octets, Records}
+use Rattle.protocol.specs.Bounds.{packetsIn, LinesBounded, NeverWraps}
+use Rattle.protocol.proofs.Fun.{never, is-true, sum, sum-add, sum-swap}
+use Rattle.claims.proofs.State.View.{View, content, view}
+use Rattle.claims.proofs.State.ViewMoves.{sim-off}
+use Rattle.claims.proofs.Invariant.Facts.{Ghost, Pair, unaware, amount}
+use Rattle.claims.proofs.Invariant.Whole.{Inv, outOf, gotOf}
+use Rattle.claims.proofs.Invariant.Words.{un-of, un-works, live-line}
+use Rattle.claims.proofs.Invariant.Logs.{amount-snoc}
+use Rattle.claims.proofs.Moves.Taking.{taken-pair}
+use Rattle.claims.proofs.State.Runs.{every-run}
+use Rattle.claims.proofs.Claims.Demand.{Runs, every-list}
+
+-- ---- sizes
+
+packets-within : (cs : List Cell) → packetsIn cs ≤ length cs
+packets-within [] = omega arith
+packets-within (c ∷ cs) = go (isEmpty (c .packet)) (packets-within cs)
+  where
+    go : (t : Bool) → packetsIn cs ≤ length cs → cond t 0 1 + packetsIn cs ≤ suc (length cs)
+    go true h = omega arith
+    go false h = omega arith
+
+pub lines-bounded : LinesBounded
+lines-bounded f of e rs o a b =
+    let h = every-run f of rs o .lines a b in
+    (omega (arith, packets-within (line (run (opening (load f .group)) rs .group) a b .cells), h .twelve), h .few)
+
+-- ---- what holds of every group that has not crashed
+
+pub running : (f : List ℕ) → Octets f → load f .answer ≡ 0 → (rs : List (List ℕ)) → Records rs
+    → isCrashed (run (opening (load f .group)) rs .group) ≡ false
+    → Runs (feederTotal f) (run (opening (load f .group)) rs .group) (run (opening (load f .group)) rs .history)
+running f of e rs o c = ⊎-elim (λ x. absurd (never x c)) (λ w. w) (every-list f of e rs o)
+
+-- ---- additions
+
+sum-less : (f g : ℕ → ℕ) (n : ℕ) → ((i : ℕ) → f i ≤ g i) → sum f n ≤ sum g n
+unfolding sum
+sum-less f g zero h = omega arith
+sum-less f g (suc n) h = omega (arith, h n, sum-less f g n h)
+
+-- a sum grows by q where one of its terms does and none falls
+sum-more : (f g : ℕ → ℕ) (a n q : ℕ) → a < n → ((i : ℕ) → f i ≤ g i) → f a + q ≤ g a → sum f n + q ≤ sum g n
+unfolding sum
+sum-more f g a zero q l h e = absurd (omega arith)
+sum-more f g a (suc n) q l h e = elim (ℕ-discrete n a) [
+  | yes d ↦ omega (arith, rw (sym d) at e, sum-less f g n h)
+  | no d ↦ omega (arith, sum-more f g a n q (omega arith) h e, h n)
+]
+
+amount-start : (k r : List Payload) → amount k ≤ amount (k ++ r)
+unfolding amount
+amount-start [] r = omega arith
+amount-start (p ∷ k) r = omega (arith, amount-start k r)
+
+takes-calm : (s : State) (t : Bool) → isIn s Normal || (isIn s CheckpBegin && not t) ≡ true → (works s ≡ true) × (inRecovery s ≡ false)
+takes-calm Failed t e = absurd (false≢true e)
+takes-calm Normal t e = (refl, refl)
+takes-calm CheckpBegin t e = (refl, refl)
+takes-calm Checkpointing t e = absurd (false≢true e)
+takes-calm Checkpointed t e = absurd (false≢true e)
+takes-calm Error t e = absurd (false≢true e)
+takes-calm Recovering t e = absurd (false≢true e)
+takes-calm Recovered t e = absurd (false≢true e)
+takes-calm Crashed t e = absurd (false≢true e)
+
+module _ (total : ℕ) (g : Group) (γ : Ghost) (i : Inv (g .n) total (view g) γ) (clean : γ .big .clean ≡ true) (a b : ℕ) (p : Payload)
+    (first : oldest (line g a b) ≡ NormalPacket p) (takes : takesFrom (cabinet g b) a ≡ true) where
+  abbrev v : View
+  v = view g
+
+  abbrev left : List Packet
+  left = content (rest (line g a b) .cells)
+
+  here : Pair (γ .big) a b (v .own a) (γ .mind a) (v .own b) (γ .mind b) (v .side a b) (v .side b a) (NormalPacket p ∷ left) (γ .wire a b)
+  here =
+      subst (λ (l : List Packet). Pair (γ .big) a b (v .own a) (γ .mind a) (v .own b) (γ .mind b) (v .side a b) (v .side b a) l (γ .wire a b))
+      (sim-off g a b (rw first) ∙ ap (λ (x : Packet). x ∷ left) first) (i .core .pairs a b)
+
+  calm : unaware (γ .big) (v .own b) ≡ true
+  calm = let c = takes-calm (stateOf g b) (marked (cabinet g b .noted .come) a) takes in un-of (γ .big) (v .own b) (c .0) (c .1)
+
+  below-eight : (c : ℕ) → works (stateOf g c) ≡ true → c < 8
+  below-eight c e = omega (arith, i .core .ground .within c (i .core .nodes c .placed e), i .core .ground .most)
+
+  la : a < 8
+  la = below-eight a (live-line here (λ e. nil≢cons (sym e)) .0)
+
+  lb : b < 8
+  lb = below-eight b (un-works (γ .big) (v .own b) calm)
+
+  -- what was taken is a start of what was sent, on this line with the packet that stands first
+  taken-within : (c d : ℕ) → amount (γ .wire c d .taken) ≤ amount (γ .wire c d .sent)
+  taken-within c d =
+      let r = i .core .pairs c d .prefix clean in
+      omega (arith, ap amount (r .1), amount-start (γ .wire c d .taken) (r .0))
+
+  with-first : amount (γ .wire a b .taken) + p .amount ≤ amount (γ .wire a b .sent)
+  with-first =
+      let n = i .core .nodes a in
+      let r = taken-pair _ _ _ _ _ _ _ _ _ left _ p here (n .placeKnown) (n .placed) calm (v .own b .image) .prefix clean in
+      omega (arith, ap amount (r .1), amount-start (γ .wire a b .taken ++ (p ∷ [])) (r .0), amount-snoc (γ .wire a b .taken) p)
+
+  -- over all lines
+  all-within : sum (λ c. gotOf γ c) 8 + p .amount ≤ sum (λ c. outOf γ c) 8
+  all-within =
+      let taken : ℕ → ℕ → ℕ = λ c d. amount (γ .wire c d .taken) in
+      let sent : ℕ → ℕ → ℕ = λ c d. amount (γ .wire c d .sent) in
+      let from-a = sum-more (taken a) (sent a) b 8 (p .amount) lb (taken-within a) with-first in
+      let from-all =
+      sum-more (λ c. sum (taken c) 8) (λ c. outOf γ c) a 8 (p .amount) la (λ c. sum-less (taken c) (sent c) 8 (taken-within c)) from-a in
+      omega (arith, from-all, sum-swap taken 8 8)
+
+  -- no cabinet has sent more than it had, and b has its booking over
+  all-booked : sum (λ c. outOf γ c) 8 + booked (v .own b .image) ≤ sum (λ c. booked (γ .mind c .base) + gotOf γ c) 8
+  all-booked =
+      let k = i .core .books b .live calm in
+      sum-more (λ c. outOf γ c) (λ c. booked (γ .mind c .base) + gotOf γ c) b 8 (booked (v .own b .image)) lb (λ c. i .core .books c .bounded)
+      (omega (arith, k .1))
+
+  no-wrap : booked (cabinet g b .image) + p .amount < 65536
+  no-wrap =
+      let s = i .core .sums in
+      omega (arith, all-within, all-booked, sum-add (λ c. booked (γ .mind c .base)) (λ c. gotOf γ c) 8, s .bases, s .least)
+
+pub never-wraps : NeverWraps
+never-wraps f of e rs o c unhurt =
+    let w = running f of e rs o c in
+    no-wrap _ _ (w .ghost) (w .inv) (is-true (w .ghost .big .clean) (λ x. never (w .past .hurt ∙ ap not x) unhurt))

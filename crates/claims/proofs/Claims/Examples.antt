@@ -1,0 +1,69 @@
+-- Demand 3 for each of the runs of `specs/Examples`: its premises are met in runs that restore a save.
+use Prim.Native.Nat.{ℕ, zero, suc}
+use mathlib.Core.Path.{_≡_, refl, ap, _∙_}
+use mathlib.Core.Bool.{Bool, true, _&&_}
+use mathlib.Core.List.{List, [], _∷_}
+use lib.Dec.{ltb}
+use borrow.Author.Tests.{ltb-true}
+use native.Mathlib.Omega.{arith}
+use Rattle.marks.specs.Marks.{both}
+use Rattle.group.specs.Group.{stateOf}
+use Rattle.state.specs.State.{works}
+use Rattle.load.specs.Load.{load, cabinetCount, feederTotal}
+use Rattle.protocol.specs.History.{run}
+use Rattle.protocol.specs.Restored.{Restored, Octets, Records}
+use Rattle.protocol.specs.Examples.{Example, Found, records, worldTo, worldAtEnd, found, after-save, after-save-finds, passed-over, passed-over-finds, link-fault, link-fault-finds, second-recovery, second-recovery-finds, restored-before, restored-before-finds}
+use Rattle.protocol.proofs.Fun.{and-true}
+use Rattle.claims.proofs.Claims.Demand.{demand-three}
+use Rattle.protocol.proofs.Closed.Examples.{runs-found}
+
+-- ---- octets
+
+-- every number of the list is below 256
+abbrev allOctets : List ℕ → Bool
+allOctets [] = true
+allOctets (x ∷ xs) = ltb x 256 && allOctets xs
+
+abbrev allRecords : List (List ℕ) → Bool
+allRecords [] = true
+allRecords (r ∷ rs) = allOctets r && allRecords rs
+
+octets-of : (l : List ℕ) → allOctets l ≡ true → Octets l
+octets-of [] e i = omega arith
+octets-of (x ∷ xs) e zero = ltb-true x 256 (and-true {s = ltb x 256} e .0)
+octets-of (x ∷ xs) e (suc i) = octets-of xs (and-true {s = ltb x 256} e .1) i
+
+records-of : (rs : List (List ℕ)) → allRecords rs ≡ true → Records rs
+records-of [] e = tt
+records-of (r ∷ rs) e = (octets-of r (and-true {s = allOctets r} e .0), records-of rs (and-true {s = allOctets r} e .1))
+
+-- ---- demand 3 for each
+
+-- what demand 3 says of a run
+abbrev pub Demanded : Example → Type 0
+Demanded e = Restored (cabinetCount (e .file)) (feederTotal (e .file)) (worldAtEnd e .history) (worldAtEnd e .group)
+
+-- a run that is found to load and to end a recovery meets the premises
+demanded : (e : Example) (x : Found) → found e ≡ x → x .loaded ≡ 0 → x .ended ≡ true
+    → allOctets (e .file) ≡ true → allRecords (records e) ≡ true → allOctets (e .last) ≡ true → Demanded e
+unfolding found
+demanded e x is loads ends of os ol =
+    let both = and-true {s = works (stateOf (worldTo e (records e) .group) (e .coordinator))} (ap (λ (y : Found). y .ended) is ∙ ends) in
+    demand-three (e .file) (octets-of (e .file) of) (ap (λ (y : Found). y .loaded) is ∙ loads)
+    (records e) (records-of (records e) os) (e .last) (octets-of (e .last) ol)
+    (e .coordinator) (both .0) (both .1)
+
+pub after-save-restored : Demanded after-save
+after-save-restored = demanded after-save after-save-finds (runs-found .0) refl refl refl refl refl
+
+pub passed-over-restored : Demanded passed-over
+passed-over-restored = demanded passed-over passed-over-finds (runs-found .1) refl refl refl refl refl
+
+pub link-fault-restored : Demanded link-fault
+link-fault-restored = demanded link-fault link-fault-finds (runs-found .2) refl refl refl refl refl
+
+pub second-recovery-restored : Demanded second-recovery
+second-recovery-restored = demanded second-recovery second-recovery-finds (runs-found .3) refl refl refl refl refl
+
+pub restored-before-restored : Demanded restored-before
+restored-before-restored = demanded restored-before restored-before-finds (runs-found .4) refl refl refl refl refl

@@ -1,0 +1,144 @@
+-- Lines are first in, first out, and none is ever too short: after every taken step each holds what a line without bounds would hold.
+use Prim.Native.Nat.{ℕ, zero, suc, _-_, _<_}
+use mathlib.Core.Path.{_≡_, refl, sym, ap, _∙_, subst}
+use mathlib.Core.Logic.{⊎-elim}
+use mathlib.Core.Bool.{Bool, true, false, not, _&&_}
+use mathlib.Core.List.{List, [], _∷_, _++_}
+use lib.ListN.{getD}
+use lib.Dec.{eqb, ltb}
+use borrow.Author.Tests.{eqb-true, eqb-false}
+use native.Mathlib.Omega.{arith}
+use Rattle.marks.specs.Reach.{mark}
+use Rattle.line.specs.declared.Packet.the-variants.{Normal as NormalPacket}
+use Rattle.line.specs.declared.Cell.{Cell}
+use Rattle.line.specs.Packet.{isEmpty, isNormal}
+use Rattle.line.specs.Line.{emptyCell, oldest, packetAt}
+use Rattle.group.specs.declared.Group.{Group}
+use Rattle.group.specs.declared.Outcome.{Outcome}
+use Rattle.group.specs.Group.{cabinet, stateOf, line, rowsOf, isCrashed, some, recoveringOnes}
+use Rattle.load.specs.Load.{feederTotal}
+use Rattle.protocol.specs.declared.Step.{Step}
+use Rattle.protocol.specs.declared.Step.the-variants.{Send, Note, Begin, Deliver, Write, Saved, Fetch, Restored, WaitOver, Fail, Damage}
+use Rattle.protocol.specs.declared.Decoded.the-variants.{Taken}
+use Rattle.protocol.specs.Kinds.{need, orRefuse, sendRefusal, sent, sendStep, noteRefusal, noteStep, beginRefusal, beginStep, deliverRefusal, deliverStep, writeRefusal, writeStep, savedRefusal, savedStep, fetchRefusal, fetchStep, restoredRefusal, restoredStep, waitOverRefusal, waitOverStep, failCrashes, failStep, damageRefusal, hurt, damageStep}
+use Rattle.protocol.specs.Entry.{step, stepDecoded, decode, firstOf, secondOf, actorWorks, isCabinet, entryRefusal, perform}
+use Rattle.protocol.specs.History.{History}
+use Rattle.protocol.specs.Restored.{worldAfter}
+use Rattle.protocol.specs.Fifo.{packets, handled, cameFrom, lineAfter, FirstInFirstOut, PacketsFirst}
+use Rattle.protocol.proofs.Fun.{is-true, and-true, not-true-false, cond-elim, kept-at}
+use Rattle.claims.proofs.State.Every.{passed, Fits, FitsIn, decode-fits, every-step}
+use Rattle.claims.proofs.State.View.{View, Own, view}
+use Rattle.claims.proofs.State.Cells.{Packed, nothing-there}
+use Rattle.claims.proofs.State.Runs.{every-run}
+use Rattle.claims.proofs.State.Shape.{Shaped, Lined, Pictured, shaped}
+use Rattle.claims.proofs.State.Sim.{Fit, in-use}
+use Rattle.claims.proofs.Invariant.Facts.{Ghost}
+use Rattle.claims.proofs.Invariant.Whole.{Inv}
+use Rattle.claims.proofs.Invariant.Past.{Past}
+use Rattle.claims.proofs.Moves.Sending.{seen as send-seen}
+use Rattle.claims.proofs.Moves.Damaging.{hit, seen-mark as damage-seen}
+use Rattle.claims.proofs.Fifo.Unbounded.{Unbounded, idle-same, still}
+use Rattle.claims.proofs.Fifo.Alarms.{puts-fail}
+use Rattle.claims.proofs.Moves.FailStep.{nobody}
+use Rattle.claims.proofs.Fifo.Rooms.{no-line}
+use Rattle.claims.proofs.Fifo.Delivers.{line-at, puts-deliver}
+use Rattle.claims.proofs.Fifo.Steps.{cabinet-puts, fetch-puts, write-puts, begin-puts, wait-puts, saved-puts, restored-puts}
+use Rattle.claims.proofs.Claims.Stepping.{below}
+use Rattle.claims.proofs.Claims.Demand.{Runs, every-list}
+
+module _ (total : ℕ) (g : Group) (h : History) (γ : Ghost) (w : Fit g) (i : Inv (g .n) total (view g) γ) (past : Past (g .n) (view g) γ h) where
+  abbrev v : View
+  v = view g
+
+  abbrev Ends : Step → View → Type 0
+  Ends s u = Unbounded (λ a b. handled s a b (v .lines a b)) (cameFrom s) v u
+
+  abbrev Owed : Step → Outcome → Type 0
+  Owed s o = o .answer ≡ 0 → Ends s (view (o .group))
+
+  -- a step that changes its own line and no state
+  line-ends : (s : Step) (u : View) → ((c : ℕ) → u .own c .state ≡ v .own c .state) → ((c d : ℕ) → u .lines c d ≡ handled s c d (v .lines c d)) → Ends s u
+  line-ends s u = still (λ c d. handled s c d (v .lines c d)) (cameFrom s) v u
+
+  checked : (s : Step) (k : ℕ) (o : Outcome) → (k ≡ 0 → Owed s o) → Owed s (orRefuse k g o)
+  checked s k o f = cond-elim (Owed s) (eqb k 0) (λ e. f (eqb-true k 0 e)) (λ e a. absurd (eqb-false k 0 e a))
+
+  at : (x : ℕ) → isCabinet g x ≡ true → (x - 1 < g .n) × (x - 1 < 8)
+  at = below total g h γ w i past
+
+  performed : (s : Step) → Fits s → isCabinet g (firstOf s) ≡ true → isCabinet g (secondOf s) ≡ true → actorWorks g s ≡ true → Owed s (perform g s)
+  unfolding sendStep noteStep beginStep deliverStep writeStep savedStep fetchStep restoredStep waitOverStep failStep damageStep hurt
+  performed (Send a b q) f x y o =
+      checked (Send a b q) (sendRefusal g (a - 1) (b - 1) q) _ (λ e _.
+      let seen = send-seen total g h γ w i past (a - 1) (b - 1) q (at a x .1) (at b y .1) f e in
+      line-ends (Send a b q) (view (sent g (a - 1) (b - 1) q)) (λ c. ap (λ (u : View). u .own c .state) seen ∙ kept-at (λ (z : Own). z .state) (v .own) (a - 1) _ refl c)
+      (λ c d. ap (λ (u : View). u .lines c d) seen ∙ line-at (v .lines) (λ l. l ++ (NormalPacket (record { amount = q }) ∷ [])) (a - 1) (b - 1) c d))
+  performed (Note a p q) f x y o = checked (Note a p q) (noteRefusal g (a - 1) p q) _ (λ e _. cabinet-puts total g γ w i (a - 1) _ (at a x .1) (idle-same (stateOf g (a - 1))))
+  performed (Begin a) f x y o = checked (Begin a) (beginRefusal g (a - 1)) _ (λ e _. begin-puts total g γ w i (a - 1) (at a x .1) o e)
+  performed (Deliver a b) f x y o =
+      checked (Deliver a b) (deliverRefusal g (a - 1) (b - 1)) _
+      (λ e. puts-deliver total g h γ w i past (a - 1) (b - 1) (at a x .1) (at b y .1) o
+      (not-true-false (passed (not (isEmpty (oldest (line g (a - 1) (b - 1))))) 17 0 (passed (mark (rowsOf (g .links)) (a - 1) (b - 1)) 12 _ e .1) .0)))
+  performed (Write a) f x y o = checked (Write a) (writeRefusal g (a - 1)) _ (λ e _. write-puts total g γ w i (a - 1) (at a x .1) (at a x .0) e (not (ltb (cabinet g (a - 1) .noted .pieces) 3)))
+  performed (Saved a) f x y o = checked (Saved a) (savedRefusal g (a - 1)) _ (λ e _. saved-puts total g γ w i (a - 1) (at a x .1) e)
+  performed (Fetch a) f x y o = checked (Fetch a) (fetchRefusal g (a - 1)) _ (λ e _. fetch-puts total g γ w i (a - 1) (at a x .1) e)
+  performed (Restored a) f x y o = checked (Restored a) (restoredRefusal g (a - 1)) _ (λ e _. restored-puts total g γ w i (a - 1) (at a x .1) e)
+  performed (WaitOver a) f x y o = checked (WaitOver a) (waitOverRefusal g (a - 1)) _ (λ e _. wait-puts total g γ w i (a - 1) (at a x .1) o e)
+  performed (Fail a) f x y o = cond-elim (Owed (Fail a)) (failCrashes g (a - 1)) (λ _ e. absurd (omega arith))
+      (λ e _. puts-fail (λ c d. false) g w (a - 1) (at a x .1) o (nobody total g h γ w i past (a - 1) (at a x .1) (at a x .0) o e) (λ c. i .core .nodes c .running)
+      (no-line total g γ w i))
+  performed (Damage a b p q) f x y o =
+      checked (Damage a b p q) (damageRefusal g (a - 1) (b - 1) p q) _ (λ e.
+      cond-elim (Owed (Damage a b p q)) (some (recoveringOnes g)) (λ _ d. absurd (omega arith)) (λ r _.
+      let seen = damage-seen total g h γ w i past (a - 1) (b - 1) p q (at a x .1) (at b y .1) f e r (isNormal (packetAt (line g (a - 1) (b - 1)) p)) in
+      line-ends (Damage a b p q) (view (hurt g (a - 1) (b - 1) p q)) (λ c. ap (λ (u : View). u .own c .state) seen)
+      (λ c d. ap (λ (u : View). u .lines c d) seen ∙ line-at (v .lines) (λ l. hit l p q) (a - 1) (b - 1) c d)))
+
+  -- the checks that come before every step
+  entered : (s : Step) → Fits s → Owed s (orRefuse (entryRefusal g s) g (perform g s))
+  entered s f =
+      checked s (entryRefusal g s) (perform g s)
+      (λ e. let one = passed (not (isCrashed g)) 9 _ e in
+      let two = passed (isCabinet g (firstOf s) && isCabinet g (secondOf s)) 10 _ (one .1) in
+      let named = and-true {s = isCabinet g (firstOf s)} (two .0) in
+      performed s f (named .0) (named .1) (passed (actorWorks g s) 11 0 (two .1) .0))
+
+-- ---- every run
+
+-- nothing is taken of a crashed group
+not-crashed : (g : Group) (s : Step) → orRefuse (entryRefusal g s) g (perform g s) .answer ≡ 0 → isCrashed g ≡ true → ⊥
+not-crashed g s e c =
+    let f : _≡_ {A = ℕ} 10 0 = sym (ap (λ (t : Bool). orRefuse (need (not t) 10 (need (isCabinet g (firstOf s) && isCabinet g (secondOf s)) 11 (need (actorWorks g s) 12 0))) g (perform g s) .answer) c) ∙ e in
+    omega (arith, f)
+
+opened : (g : Group) (r : List ℕ) (s : Step) → decode r ≡ Taken s → step g r ≡ orRefuse (entryRefusal g s) g (perform g s)
+unfolding step
+opened g r s e = ap (stepDecoded g) e
+
+pub first-in-first-out : FirstInFirstOut
+first-in-first-out f of e rs o r or s d taken a b = ⊎-elim (λ c. absurd (not-crashed g s (sym (ap (λ (x : Outcome). x .answer) is) ∙ taken) c)) goes (every-list f of e rs o)
+  where
+    g : Group
+    g = worldAfter f rs .group
+
+    is : step g r ≡ orRefuse (entryRefusal g s) g (perform g s)
+    is = opened g r s d
+
+    goes : Runs (feederTotal f) g (worldAfter f rs .history) → packets (step g r .group) a b ≡ lineAfter g (step g r .group) s a b
+    goes w =
+        let fit = every-step Shaped Lined Pictured shaped g r or (w .fit) in
+        rw (in-use (cabinet (step g r .group) a) (fit .cabs a) b)
+        (subst (λ (x : Outcome). Unbounded (λ i j. handled s i j (view g .lines i j)) (cameFrom s) (view g) (view (x .group))) (sym is)
+        (entered (feederTotal f) g (worldAfter f rs .history) (w .ghost) (w .fit) (w .inv) (w .past) s (subst FitsIn d (decode-fits r or))
+        (sym (ap (λ (x : Outcome). x .answer) is) ∙ taken)) a b)
+
+-- ---- packets stand first
+
+packed-next : (cs : List Cell) (k : ℕ) → Packed cs → isEmpty (getD cs k emptyCell .packet) ≡ true → isEmpty (getD cs (suc k) emptyCell .packet) ≡ true
+unfolding Packed
+packed-next [] k h e = refl
+packed-next (c ∷ cs) zero h e = is-true _ (λ f. nothing-there cs 0 (h .0 e) f)
+packed-next (c ∷ cs) (suc k) h e = packed-next cs k (h .1) e
+
+pub packets-first : PacketsFirst
+packets-first f of e rs o a b k = packed-next (line (worldAfter f rs .group) a b .cells) k (every-run f of rs o .lines a b .packed)

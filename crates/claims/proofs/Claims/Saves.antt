@@ -1,0 +1,212 @@
+-- What is claimed of saves in every run: which save a resume and a slot belong to, which begin a cut belongs to, where a version is known,
+-- and what a committed save holds.
+use Prim.Native.Nat.{ℕ, zero, suc, _-_, _<_, _≤_}
+use mathlib.Core.Path.{_≡_, refl, sym, ap, _∙_, subst}
+use mathlib.Core.Logic.{inl, ⊎-elim}
+use mathlib.Core.Bool.{Bool, true, false, not, _&&_, true≢false}
+use mathlib.Core.List.{List, _∷_}
+use mathlib.Core.Option.{Option, some}
+use lib.ListN.{getD}
+use lib.Dec.{eqb}
+use borrow.Author.Tests.{eqb-true, eqb-false, ne-eqb}
+use native.Mathlib.Omega.{arith}
+use Rattle.line.specs.declared.Packet.the-variants.{Empty, Resume}
+use Rattle.line.specs.Packet.{isEmpty}
+use Rattle.line.specs.Line.{packetAt}
+use Rattle.state.specs.declared.State.the-variants.{Checkpointing, Checkpointed, Recovering}
+use Rattle.state.specs.declared.Version.{Version}
+use Rattle.state.specs.declared.Version.the-variants.{Known, Unknown}
+use Rattle.image.specs.declared.Image.{Image}
+use Rattle.state.specs.State.{isIn, works, inRestoring, isUnknown, bitOf}
+use Rattle.image.specs.Image.{booked}
+use Rattle.cabinet.specs.Cabinet.{coordinator}
+use Rattle.group.specs.declared.Group.{Group}
+use Rattle.group.specs.declared.Outcome.{Outcome}
+use Rattle.group.specs.Group.{cabinet, stateOf, line, slot, isCrashed, taken}
+use Rattle.load.specs.Load.{load, feederTotal}
+use Rattle.load.proofs.Loaded.{starts}
+use Rattle.protocol.specs.declared.Step.the-variants.{Saved}
+use Rattle.protocol.specs.declared.Decoded.the-variants.{Taken}
+use Rattle.protocol.specs.Kinds.{need, orRefuse, writeRefusal, fetchRefusal, savedRefusal, savedStep, reportSaved, commitIfAll}
+use Rattle.protocol.specs.Entry.{step, stepDecoded, entryRefusal, isCabinet}
+use Rattle.protocol.specs.History.{Cut, Save, History, advance, opening, commits, latest, newest, imageIn}
+use Rattle.protocol.specs.Restored.{Octets, Records, worldAfter, Balanced, amperes}
+use Rattle.protocol.specs.Saves.{Commits, savedImage, savedTo, CommitsWhole, CommitsBetweenResumes, TakesResume, ResumeOfNewest, VersionsNameNewest, KnownWhereUsed, FetchedOfNewest, CutsSinceBegin}
+use Rattle.protocol.proofs.Fun.{never, is-true, and-true, and-intro, not-true-false, cond-elim, sum}
+use Rattle.claims.proofs.State.Every.{passed}
+use Rattle.claims.proofs.State.Counting.{step-n}
+use Rattle.claims.proofs.State.View.{view}
+use Rattle.claims.proofs.State.Cells.{content-set}
+use Rattle.protocol.proofs.Answers.Tests.{in-state}
+use Rattle.claims.proofs.Invariant.States.{restoring-works}
+use Rattle.claims.proofs.Invariant.Facts.{Ghost}
+use Rattle.claims.proofs.Invariant.Past.{cut-held, tops-add}
+use Rattle.claims.proofs.Invariant.Words.{un-of}
+use Rattle.claims.proofs.Moves.Waking.{resume-open, resume-fresh}
+use Rattle.claims.proofs.Moves.Saving.{all-wrote}
+use Rattle.claims.proofs.Claims.Stepping.{below}
+use Rattle.claims.proofs.Claims.Demand.{Runs, open-step, taken-runs, run-n}
+use Rattle.claims.proofs.Claims.Bounds.{running}
+
+-- ---- a group that runs
+
+module _ (total : ℕ) (g : Group) (h : History) (w : Runs total g h) where
+  abbrev γ : Ghost
+  γ = w .ghost
+
+  -- ---- versions
+
+  writes-known : (a : ℕ) → writeRefusal g a ≡ 0 → isUnknown (cabinet g a .phase .version) ≡ false
+  writes-known a e =
+      let cuts = in-state (stateOf g a) Checkpointing .0 (passed (isIn (stateOf g a) Checkpointing) 13 _ e .0) in
+      w .inv .core .nodes a .unknownAt (un-of (γ .big) (view g .own a) (rw cuts) (rw cuts)) ∙ rw cuts
+
+  -- a cabinet is recovering, so there is a fault, and its home is aware of it
+  fetches-known : (a : ℕ) → fetchRefusal g a ≡ 0 → isUnknown (cabinet g (cabinet g a .home) .phase .version) ≡ false
+  fetches-known a e =
+      let home = cabinet g a .home in
+      let one = passed (isIn (stateOf g a) Recovering) 13 _ e in
+      let restores = restoring-works (stateOf g home) (passed (inRestoring (stateOf g home)) 18 0 (one .1) .0) in
+      let faulted = is-true (γ .big .faulted) (λ f. never (one .0) (w .inv .core .nodes a .quiet f .1)) in
+      w .inv .core .nodes home .unknownAware (and-intro faulted (restores .0)) ∙ restores .1
+
+  names-newest : (c d : ℕ) → works (stateOf g c) ≡ true → works (stateOf g d) ≡ true → (v : Bool) → cabinet g d .phase .version ≡ Known v
+      → (y : Cut) × (latest h .cut c ≡ some y) × (slot g c v ≡ y .image)
+  names-newest c d wc wd v e =
+      let y = cut-held (w .inv) (w .past) c wc in
+      (y .0, y .1, ap (slot g c) (w .inv .core .nodes d .known wd v e) ∙ w .inv .core .nodes c .slotTop wc ∙ sym (y .2))
+
+  -- the home knows its version, and that names the newest save
+  fetches-newest : (a : ℕ) → fetchRefusal g a ≡ 0
+      → (y : Cut) × (latest h .cut a ≡ some y) × (slot g a (bitOf (cabinet g (cabinet g a .home) .phase .version)) ≡ y .image)
+  fetches-newest a e = go (cabinet g home .phase .version) refl (fetches-known a e)
+    where
+      home : ℕ
+      home = cabinet g a .home
+
+      one : (isIn (stateOf g a) Recovering ≡ true) × (need (inRestoring (stateOf g home)) 19 0 ≡ 0)
+      one = passed (isIn (stateOf g a) Recovering) 13 _ e
+
+      go : (v : Version) → cabinet g home .phase .version ≡ v → isUnknown v ≡ false
+          → (y : Cut) × (latest h .cut a ≡ some y) × (slot g a (bitOf v) ≡ y .image)
+      go (Known v) is _ =
+          names-newest a home (ap works (in-state (stateOf g a) Recovering .0 (one .0)))
+          (restoring-works (stateOf g home) (passed (inRestoring (stateOf g home)) 18 0 (one .1) .0) .4) v is
+      go (Unknown v) is k = absurd (true≢false k)
+
+  -- ---- begins
+
+  begun-since : (c : ℕ) → stateOf g c ≡ Checkpointing → h .begun ≡ true
+  begun-since c e =
+      let n = w .inv .core .nodes c in
+      w .past .begun (inl (n .joinedBegun (n .doneJoined (n .inCheckpointing (un-of (γ .big) (view g .own c) (rw e) (rw e)) e .0))))
+
+  -- ---- resumes
+
+  -- a resume that stands in a line is among its packets
+  on-line : (a b k : ℕ) → packetAt (line g a b) k ≡ Resume → getD (view g .lines a b) k Empty ≡ Resume
+  on-line a b k e = content-set (line g a b .cells) k Resume refl (ap isEmpty e) (w .fit .lines a b .packed) .1 ∙ e
+
+  takes-newest : (a b : ℕ) → TakesResume g a b
+      → (h .standing ≡ true) × ((x : Save) × (xs : List Save) × (y : Cut) × (h .saves ≡ x ∷ xs) × (x .cut b ≡ some y))
+      × (isUnknown (cabinet g b .phase .version) ≡ true)
+  takes-newest a b t =
+      let n = w .inv .core .nodes b in
+      let saved = t .waits in
+      let un = un-of (γ .big) (view g .own b) (rw saved) (rw saved) in
+      let f = resume-fresh (g .n) total (view g) γ (w .inv) a b 0 (on-line a b 0 (t .resume)) saved in
+      let s = w .past .waits b (in-state (stateOf g b) Checkpointed .1 saved) (f .0) in
+      let y = cut-held (w .inv) (w .past) b (ap works saved) in (
+        s .0,
+        (s .1 .0, s .1 .1, y .0, s .1 .2, ap (λ (l : List Save). newest l (h .start) .cut b) (sym (s .1 .2)) ∙ y .1),
+        n .unknownAt un ∙ rw (saved, ne-eqb b (γ .big .chief) (f .1)),
+      )
+
+  -- ---- what the newest save holds
+
+  held-image : (c : ℕ) → c < g .n → savedImage (h .lost c) (imageIn (latest h .cut c)) ≡ some (γ .mind c .top)
+  held-image c l =
+      ⊎-elim (λ e. ap (λ (m : Option Image). savedImage m (imageIn (latest h .cut c))) e)
+      (λ e. ap (λ (m : Option Image). savedImage m (imageIn (latest h .cut c))) (e .0) ∙ ap imageIn (e .1 .1) ∙ ap some (e .1 .2)) (w .past .tops c l)
+
+  saved-sum : (n : ℕ) → n ≤ g .n → savedTo n h ≡ sum (λ c. booked (γ .mind c .top)) n
+  unfolding sum
+  saved-sum zero l = refl
+  saved-sum (suc n) l = omega (arith, saved-sum n (omega arith), ap amperes (held-image n (omega arith)))
+
+  abbrev Whole : ℕ → Type 0
+  Whole n = Balanced (latest h) × ((c : ℕ) → c < n → (m : Image) × (savedImage (h .lost c) (imageIn (latest h .cut c)) ≡ some m)) × (savedTo n h ≡ total)
+
+  whole-save : Whole (g .n)
+  whole-save = (w .past .balanced, (λ c l. (γ .mind c .top, held-image c l)), saved-sum (g .n) (omega arith) ∙ tops-add (w .inv) (w .past))
+
+pub known-where-used : KnownWhereUsed
+known-where-used f of e rs o c a = let w = running f of e rs o c in (writes-known _ _ _ w a, fetches-known _ _ _ w a)
+
+pub versions-name-newest : VersionsNameNewest
+versions-name-newest f of e rs o c = names-newest _ _ _ (running f of e rs o c)
+
+pub fetched-of-newest : FetchedOfNewest
+fetched-of-newest f of e rs o c = fetches-newest _ _ _ (running f of e rs o c)
+
+pub cuts-since-begin : CutsSinceBegin
+cuts-since-begin f of e rs o c = begun-since _ _ _ (running f of e rs o c)
+
+pub resume-of-newest : ResumeOfNewest
+resume-of-newest f of e rs o c = takes-newest _ _ _ (running f of e rs o c)
+
+-- ---- a commit
+
+-- what is taken was not refused
+refuses : (k : ℕ) (g : Group) (o : Outcome) → orRefuse k g o .answer ≡ 0 → (k ≡ 0) × (orRefuse k g o ≡ o)
+refuses k g o =
+    cond-elim (λ (x : Outcome). x .answer ≡ 0 → (k ≡ 0) × (x ≡ o)) (eqb k 0) (λ e _. (eqb-true k 0 e, refl)) (λ e a. absurd (eqb-false k 0 e a))
+
+module _ (g : Group) (r : List ℕ) (c : Commits g r) where
+  abbrev a : ℕ
+  a = c .about - 1
+
+  decoded : step g r ≡ stepDecoded g (Taken (Saved (c .about)))
+  decoded = open-step g r ∙ ap (stepDecoded g) (c .saved)
+
+  entry : (entryRefusal g (Saved (c .about)) ≡ 0) × (stepDecoded g (Taken (Saved (c .about))) ≡ savedStep g a)
+  entry = refuses (entryRefusal g (Saved (c .about))) g (savedStep g a) (ap (λ (x : Outcome). x .answer) (sym decoded) ∙ c .taken)
+
+  entered : (not (isCrashed g) ≡ true) × (isCabinet g (c .about) ≡ true)
+  entered =
+      let one = passed (not (isCrashed g)) 9 _ (entry .0) in
+      (one .0, and-true {s = isCabinet g (c .about)} (passed (isCabinet g (c .about) && isCabinet g (c .about)) 10 _ (one .1) .0) .0)
+
+  abbrev K : ℕ
+  K = coordinator (cabinet g (cabinet g a .home))
+
+  report : (savedRefusal g a ≡ 0) × (step g r .group ≡ commitIfAll (reportSaved g a (cabinet g a .home) K) K)
+  unfolding savedStep
+  report =
+      let s = refuses (savedRefusal g a) g (taken (commitIfAll (reportSaved g a (cabinet g a .home) K) K))
+      (ap (λ (x : Outcome). x .answer) (sym (decoded ∙ entry .1)) ∙ c .taken) in
+      (s .0, ap (λ (x : Outcome). x .group) (decoded ∙ entry .1 ∙ s .1))
+
+  -- no line holds a resume: its receiver would have written, and with that have its cut
+  no-resumes : (total : ℕ) (h : History) → Runs total g h → (x y k : ℕ) → packetAt (line g x y) k ≡ Resume → ⊥
+  no-resumes total h w x y k e =
+      let n = w .inv .core .nodes y in
+      let u = resume-open (g .n) total (view g) (w .ghost) (w .inv) x y k (on-line total g h w x y k e) in
+      let wrote = all-wrote total g h (w .ghost) (w .fit) (w .inv) (w .past) a (below total g h (w .ghost) (w .fit) (w .inv) (w .past) (c .about) (entered .1) .1)
+      (report .0) (ap (λ (z : Group). commits g z K) (sym (report .1)) ∙ c .commit) in
+      never (n .wroteDone (wrote y (n .placed (u .0)))) (u .1)
+
+module _ (f : List ℕ) (of : Octets f) (e : load f .answer ≡ 0) (rs : List (List ℕ)) (o : Records rs) (r : List ℕ)
+    (c : Commits (worldAfter f rs .group) r) where
+  abbrev before : Runs (feederTotal f) (worldAfter f rs .group) (worldAfter f rs .history)
+  before = running f of e rs o (not-true-false (entered (worldAfter f rs .group) r c .0))
+
+pub commits-between-resumes : CommitsBetweenResumes
+commits-between-resumes f of e rs o r or c = no-resumes (worldAfter f rs .group) r c (feederTotal f) (worldAfter f rs .history) (before f of e rs o r c)
+
+pub commits-whole : CommitsWhole
+unfolding advance
+commits-whole f of e rs o r or c =
+    let w = taken-runs (feederTotal f) (worldAfter f rs .group) (worldAfter f rs .history) r or (before f of e rs o r c) (c .taken) .0 in
+    subst (Whole (feederTotal f) _ _ w) (step-n (worldAfter f rs .group) r ∙ run-n rs (opening (load f .group)) ∙ starts f of e .count)
+    (whole-save (feederTotal f) _ _ w)

@@ -1,0 +1,259 @@
+-- Lines and logs: one packet more or less, and what may be on a line. Two logs of which at most one packet differs have equal check values
+-- only if they are equal, so an equal comparison covers nothing hurt.
+use Prim.Native.Nat.{ℕ, zero, suc, _+_, _≤_, _<_}
+use mathlib.Core.Path.{_≡_, refl, ap, _∙_, sym}
+use mathlib.Core.Bool.{Bool, true, false, cond, false≢true, true≢false}
+use mathlib.Core.List.{List, [], _∷_, _++_, map, nil≢cons, append-nil}
+use lib.ListN.{length, getD}
+use native.Mathlib.Omega.{arith}
+use Rattle.crc.specs.Crc.{start, crcFrom, amountsOctets}
+use Rattle.crc.proofs.Laws.{from-append, amounts-append, one-differs}
+use Rattle.line.specs.declared.Check.{Check}
+use Rattle.line.specs.declared.Payload.{Payload}
+use Rattle.line.specs.declared.Packet.{Packet}
+use Rattle.line.specs.declared.Packet.the-variants.{Empty, Normal as NormalPacket, Checkp, Resume, Recover, Fault, Invalid}
+use Rattle.line.specs.Packet.{startCheck, stepCheck, isNormal, isEmpty}
+use mathlib.Core.Logic.{_⊎_, inl, inr, ⊎-elim}
+use Rattle.line.specs.declared.Place.{Place}
+use Rattle.state.specs.declared.Version.{Version}
+use Rattle.state.specs.declared.Version.the-variants.{Known}
+use Rattle.protocol.proofs.Fun.{never}
+use Rattle.claims.proofs.Invariant.Facts.{amountsIn, isCheckp, count, resumeFirst, checkOf, Amounts, Differ, same, here, later, Alarms, amount, isFault, isSafe, isInvalid, checkpLast}
+
+-- ---- one packet more
+
+pub amounts-both : (l k : List Packet) → amountsIn (l ++ k) ≡ amountsIn l ++ amountsIn k
+unfolding amountsIn
+amounts-both [] k = refl
+amounts-both (Empty ∷ l) k = amounts-both l k
+amounts-both (NormalPacket q ∷ l) k = ap (λ (r : List Payload). q ∷ r) (amounts-both l k)
+amounts-both (Checkp v ∷ l) k = amounts-both l k
+amounts-both (Resume ∷ l) k = amounts-both l k
+amounts-both (Recover v ∷ l) k = amounts-both l k
+amounts-both (Fault q ∷ l) k = amounts-both l k
+amounts-both (Invalid ∷ l) k = amounts-both l k
+
+pub amounts-snoc : (l : List Packet) (p : Payload) → amountsIn (l ++ (NormalPacket p ∷ [])) ≡ amountsIn l ++ (p ∷ [])
+unfolding amountsIn
+amounts-snoc l p = amounts-both l (NormalPacket p ∷ [])
+
+pub amounts-plain : (l : List Packet) (p : Packet) → amountsIn (p ∷ []) ≡ [] → amountsIn (l ++ (p ∷ [])) ≡ amountsIn l
+amounts-plain l p e = amounts-both l (p ∷ []) ∙ ap (λ (r : List Payload). amountsIn l ++ r) e ∙ append-nil (amountsIn l)
+
+pub count-none : (f : Packet → Bool) → count f [] ≡ 0
+unfolding count
+count-none f = refl
+
+pub amount-snoc : (l : List Payload) (q : Payload) → amount (l ++ (q ∷ [])) ≡ amount l + q .amount
+unfolding amount
+amount-snoc [] q = omega arith
+amount-snoc (p ∷ l) q = omega (arith, amount-snoc l q)
+
+pub small-snoc : (l : List Payload) (q : Payload) → Amounts l → q .amount < 65536 → Amounts (l ++ (q ∷ []))
+unfolding Amounts
+small-snoc [] q a h = (h, tt)
+small-snoc (p ∷ l) q a h = (a .0, small-snoc l q (a .1) h)
+
+pub count-snoc : (f : Packet → Bool) (l : List Packet) (p : Packet) → count f (l ++ (p ∷ [])) ≡ count f l + cond (f p) 1 0
+unfolding count
+count-snoc f [] p = omega arith
+count-snoc f (q ∷ l) p = omega (arith, count-snoc f l p)
+
+pub resume-more : (l k : List Packet) → resumeFirst l ≡ true → resumeFirst (l ++ k) ≡ true
+unfolding resumeFirst
+resume-more [] k e = absurd (false≢true e)
+resume-more (Empty ∷ l) k e = absurd (false≢true e)
+resume-more (NormalPacket p ∷ l) k e = absurd (false≢true e)
+resume-more (Checkp v ∷ l) k e = absurd (false≢true e)
+resume-more (Resume ∷ l) k e = refl
+resume-more (Recover v ∷ l) k e = resume-more l k e
+resume-more (Fault p ∷ l) k e = absurd (false≢true e)
+resume-more (Invalid ∷ l) k e = refl
+
+-- a packet may follow where no checkp stands
+pub checkp-last : (l : List Packet) (p : Packet) → count isCheckp l ≡ 0 → checkpLast (l ++ (p ∷ []))
+unfolding checkpLast count
+checkp-last [] p z = ((λ e. refl), tt)
+checkp-last (q ∷ l) p z = ((λ e. absurd (omega (arith, rw e at z))), checkp-last l p (omega arith))
+
+pub no-checkp-end : (l : List Packet) (v : Check) (k : List Packet) → count isCheckp l ≡ 0 → l ≡ k ++ (Checkp v ∷ []) → ⊥
+unfolding count
+no-checkp-end l v k z e = omega (arith, count-snoc isCheckp k (Checkp v), ap (count isCheckp) e)
+
+-- ---- a line without its oldest packet
+
+pub head-eq : {A : Type 0} {x y : A} {k l : List A} → x ∷ k ≡ y ∷ l → x ≡ y
+head-eq {A} {x} e = ap first e
+  where
+    first : List A → A
+    first [] = x
+    first (z ∷ _) = z
+
+pub tail-eq : {A : Type 0} {x y : A} {k l : List A} → x ∷ k ≡ y ∷ l → k ≡ l
+tail-eq {A} e = ap later e
+  where
+    later : List A → List A
+    later [] = []
+    later (_ ∷ r) = r
+
+pub count-rest : (f : Packet → Bool) (p : Packet) (k : List Packet) → count f (p ∷ k) ≡ 0 → count f k ≡ 0
+unfolding count
+count-rest f p k e = omega arith
+
+pub amounts-rest : (p : Packet) (k : List Packet) → isNormal p ≡ false → amountsIn (p ∷ k) ≡ amountsIn k
+unfolding amountsIn
+amounts-rest Empty k e = refl
+amounts-rest (NormalPacket q) k e = absurd (true≢false e)
+amounts-rest (Checkp v) k e = refl
+amounts-rest Resume k e = refl
+amounts-rest (Recover v) k e = refl
+amounts-rest (Fault q) k e = refl
+amounts-rest Invalid k e = refl
+
+pub small-rest : (p : Packet) (k : List Packet) → Amounts (amountsIn (p ∷ k)) → Amounts (amountsIn k)
+unfolding amountsIn Amounts
+small-rest Empty k a = a
+small-rest (NormalPacket q) k a = a .1
+small-rest (Checkp v) k a = a
+small-rest Resume k a = a
+small-rest (Recover v) k a = a
+small-rest (Fault q) k a = a
+small-rest Invalid k a = a
+
+-- ---- lines out of a cabinet that is aware of a fault
+
+pub alarms-rest : (x : Version) (q : Place) (p : Packet) (k : List Packet) → Alarms x q (p ∷ k) → Alarms x q k
+alarms-rest x q p k a = go (a .faults) (a .recovers) (a .is) (a .knows)
+  where
+    go : (f r : Bool) → p ∷ k ≡ cond f (Fault q ∷ []) [] ++ cond r (Recover (a .value) ∷ []) [] → (r ≡ true → x ≡ Known (a .value)) → Alarms x q k
+    go true r e w = record { faults = false; recovers = r; value = a .value; is = tail-eq e; knows = w }
+    go false true e w = record { faults = false; recovers = false; value = a .value; is = tail-eq e; knows = λ z. absurd (false≢true z) }
+    go false false e w = absurd (nil≢cons (sym e))
+
+pub alarm-first : (x : Version) (q : Place) (p : Packet) (k : List Packet) → Alarms x q (p ∷ k)
+    → (p ≡ Fault q) ⊎ ((v : Bool) × (x ≡ Known v) × (p ≡ Recover v))
+alarm-first x q p k a = go (a .faults) (a .recovers) (a .is) (a .knows)
+  where
+    go : (f r : Bool) → p ∷ k ≡ cond f (Fault q ∷ []) [] ++ cond r (Recover (a .value) ∷ []) [] → (r ≡ true → x ≡ Known (a .value))
+        → (p ≡ Fault q) ⊎ ((v : Bool) × (x ≡ Known v) × (p ≡ Recover v))
+    go true r e w = inl (head-eq e)
+    go false true e w = inr (a .value, w refl, head-eq e)
+    go false false e w = absurd (nil≢cons (sym e))
+
+abbrev isAlarm : Packet → Bool
+isAlarm Empty = false
+isAlarm (NormalPacket p) = false
+isAlarm (Checkp v) = false
+isAlarm Resume = false
+isAlarm (Recover v) = true
+isAlarm (Fault p) = true
+isAlarm Invalid = false
+
+-- no other packet is on them
+pub only-alarms : (x : Version) (q : Place) (p : Packet) (k : List Packet) → isAlarm p ≡ false → Alarms x q (p ∷ k) → ⊥
+only-alarms x q p k n a = never (⊎-elim (λ e. ap (λ (y : Packet). isAlarm y) e) (λ e. ap (λ (y : Packet). isAlarm y) (e .2)) (alarm-first x q p k a)) n
+
+pub no-resume : (x : Version) (q : Place) (l : List Packet) → Alarms x q l → (j : ℕ) → getD l j Empty ≡ Resume → ⊥
+no-resume x q [] a j e = true≢false (ap isEmpty e)
+no-resume x q (p ∷ l) a zero e = only-alarms x q p l (ap (λ (y : Packet). isAlarm y) e) a
+no-resume x q (p ∷ l) a (suc j) e = no-resume x q l (alarms-rest x q p l a) j e
+
+-- ---- lines out of a cabinet that waits for a resume
+
+-- what stands on a line out of a cabinet that waits for a resume: at most a recover
+abbrev pub Short : List Packet → Type 0
+Short l = (l ≡ []) ⊎ ((v : Bool) × (l ≡ Recover v ∷ []))
+
+-- nothing in the line but a recover and a resume
+pub record Bare (l : List Packet) : Type 0 where
+  pub faults : count isFault l ≡ 0
+  pub checkps : count isCheckp l ≡ 0
+  pub invalids : count isInvalid l ≡ 0
+  pub safe : count isSafe l ≤ 2
+  pub last : checkpLast l
+  pub none : amountsIn l ≡ []
+
+-- a resume follows where it is put
+abbrev pub resumedBy : Bool → List Packet → List Packet
+resumedBy t l = cond t (l ++ (Resume ∷ [])) l
+
+bare-empty : (t : Bool) → Bare (resumedBy t [])
+unfolding count checkpLast amountsIn
+bare-empty true = record { faults = refl; checkps = refl; invalids = refl; safe = omega arith; last = ((λ e. refl), tt); none = refl }
+bare-empty false = record { faults = refl; checkps = refl; invalids = refl; safe = omega arith; last = tt; none = refl }
+
+bare-recover : (t v : Bool) → Bare (resumedBy t (Recover v ∷ []))
+unfolding count checkpLast amountsIn
+bare-recover true v = record {
+  faults = refl;
+  checkps = refl;
+  invalids = refl;
+  safe = omega arith;
+  last = ((λ e. absurd (false≢true e)), ((λ e. refl), tt));
+  none = refl;
+}
+bare-recover false v = record { faults = refl; checkps = refl; invalids = refl; safe = omega arith; last = ((λ e. refl), tt); none = refl }
+
+pub short-bare : (t : Bool) (l : List Packet) → Short l → Bare (resumedBy t l)
+short-bare t l = ⊎-elim (λ e. rw e (bare-empty t)) (λ e. rw (e .1) (bare-recover t (e .0)))
+
+pub short-first : (l : List Packet) → Short l → resumeFirst (resumedBy true l) ≡ true
+unfolding resumeFirst
+short-first l = ⊎-elim (λ e. rw e refl) (λ e. rw (e .1) refl)
+
+-- ---- logs that differ in at most one place
+
+pub differ-more : {b : Bool} {k l : List Payload} (x : List Payload) → Differ b k l → Differ b (k ++ x) (l ++ x)
+differ-more x same = same
+differ-more x (here n) = here n
+differ-more x (later d) = later (differ-more x d)
+
+pub differ-length : {b : Bool} {k l : List Payload} → Differ b k l → length k ≡ length l
+differ-length same = refl
+differ-length (here n) = refl
+differ-length (later d) = ap suc (differ-length d)
+
+-- the register after one packet more
+map-snoc : (l : List Payload) (p : Payload) → map (λ (x : Payload). x .amount) (l ++ (p ∷ [])) ≡ map (λ (x : Payload). x .amount) l ++ (p .amount ∷ [])
+map-snoc [] p = refl
+map-snoc (q ∷ l) p = ap (λ (r : List ℕ). q .amount ∷ r) (map-snoc l p)
+
+pub check-snoc : (l : List Payload) (p : Payload) → checkOf (l ++ (p ∷ [])) ≡ stepCheck (checkOf l) p
+unfolding checkOf amountsOctets
+check-snoc l p =
+    ap (λ (n : ℕ). record { crc = n })
+    (ap (λ (x : List ℕ). crcFrom start (amountsOctets x)) (map-snoc l p)
+    ∙ ap (crcFrom start) (amounts-append (map (λ (x : Payload). x .amount) l) (p .amount ∷ []))
+    ∙ from-append (amountsOctets (map (λ (x : Payload). x .amount) l)) (amountsOctets (p .amount ∷ [])) start)
+
+pub check-none : checkOf [] ≡ startCheck
+unfolding checkOf amountsOctets crcFrom
+check-none = refl
+
+-- ---- what an equal comparison shows
+
+abbrev amounts : List Payload → List ℕ
+amounts l = map (λ (x : Payload). x .amount) l
+
+-- one packet that differs is seen, from any register
+seen : (r : ℕ) {k l : List Payload} → Differ true k l → Amounts k → Amounts l
+    → crcFrom r (amountsOctets (amounts k)) ≡ crcFrom r (amountsOctets (amounts l)) → ⊥
+unfolding Amounts crcFrom amountsOctets
+seen r (here {p} {q} {l} n) a b e =
+    one-differs (p .amount ∷ amounts l) (q .amount ∷ amounts l) 0 r refl (omega arith) (a .0) (b .0) n
+    (λ j d. tails (amounts l) (p .amount) (q .amount) j d) e
+  where
+    tails : (m : List ℕ) (x y j : ℕ) → (j ≡ 0 → ⊥) → getD (x ∷ m) j 0 ≡ getD (y ∷ m) j 0
+    tails m x y zero d = absurd (d refl)
+    tails m x y (suc j) d = refl
+seen r (later d) a b e = seen _ d (a .1) (b .1) e
+
+pub differ-none : {k l : List Payload} → Differ false k l → k ≡ l
+differ-none same = refl
+differ-none (later {p = p} d) = ap (λ (r : List Payload). p ∷ r) (differ-none d)
+
+-- nothing hurt passes an equal comparison
+pub equal-checks : (b : Bool) (k l : List Payload) → Differ b k l → Amounts k → Amounts l → checkOf k ≡ checkOf l → (b ≡ false) × (k ≡ l)
+unfolding checkOf
+equal-checks true k l d a c e = absurd (seen start d a c (ap (λ (x : Check). x .crc) e))
+equal-checks false k l d a c e = (refl, differ-none d)

@@ -1,0 +1,159 @@
+-- How the ghost of the proof stands to the history that the claim speaks of, and what a step owes.
+use Prim.Native.Nat.{ℕ, _<_, _≤_}
+use mathlib.Core.Path.{_≡_, refl, sym, ap, _∙_, fun-ext}
+use mathlib.Core.Logic.{_≢_, _⊎_, inl, ⊎-elim}
+use mathlib.Core.Bool.{Bool, true, false, cond, not, _&&_, true≢false}
+use mathlib.Core.List.{List, _∷_}
+use mathlib.Core.Option.{Option, none, some}
+use native.Mathlib.Omega.{arith}
+use Rattle.state.specs.declared.State.{State}
+use Rattle.state.specs.declared.State.the-variants.{Normal, Checkpointing, Checkpointed}
+use Rattle.image.specs.declared.Image.{Image}
+use Rattle.state.specs.State.{isIn, works, inRecovery, inSaving}
+use Rattle.image.specs.Image.{booked}
+use Rattle.group.specs.declared.Group.{Group}
+use Rattle.group.specs.Group.{stateOf}
+use Rattle.protocol.specs.declared.Step.{Step}
+use Rattle.protocol.specs.History.{Cut, Save, History, upd, latest, newest, withCuts, observe, noteCuts, cutIn}
+use Rattle.protocol.specs.Restored.{Balanced, Restored}
+use Rattle.protocol.proofs.Fun.{never, is-false, and-true, or-left, or-right, upd-elim, kept-at, sum, sum-tail}
+use Rattle.claims.proofs.State.View.{View, Own, view}
+use Rattle.claims.proofs.Invariant.States.{apart}
+use Rattle.claims.proofs.Invariant.Facts.{Big, Ghost, aware}
+use Rattle.claims.proofs.Invariant.Whole.{Inv, awareOf, workOf}
+
+-- the image of a cabinet in a save: its cut's, or for one lost before, the image that it was lost with
+abbrev pub HeldIn : Option Image → Option Cut → Image → Type 0
+HeldIn lost cut m = (lost ≡ some m) ⊎ ((lost ≡ none) × ((x : Cut) × (cut ≡ some x) × (x .image ≡ m)))
+
+-- a save committed since the start or the last recovery's end stands
+abbrev pub Stands : History → Type 0
+Stands h = (h .standing ≡ true) × ((x : Save) × (xs : List Save) × (h .saves ≡ x ∷ xs))
+
+pub record Past (n : ℕ) (v : View) (γ : Ghost) (h : History) : Type 0 where
+  -- the logs
+  pub sent : (c d : ℕ) → h .sent c d ≡ γ .wire c d .sent
+  pub taken : (c d : ℕ) → h .taken c d ≡ γ .wire c d .taken
+  pub hurt : h .hurt ≡ not (γ .big .clean)
+  -- D1: the logs at a cut are the logs now
+  pub cuts : γ .big .alive ≡ true → (c : ℕ) → γ .mind c .done ≡ true → (x : Cut) × (h .cuts c ≡ some x) × (x .image ≡ γ .mind c .cut)
+      × ((d : ℕ) → x .sent d ≡ γ .wire c d .sent) × ((d : ℕ) → x .taken d ≡ γ .wire d c .taken)
+  pub noCut : γ .big .alive ≡ true → γ .big .begun ≡ true → (c : ℕ) → γ .mind c .tab ≡ false → h .cuts c ≡ none
+  -- the save that the rule gives
+  pub known : latest h .known ≡ γ .big .adopted
+  pub tops : (c : ℕ) → c < n → HeldIn (h .lost c) (latest h .cut c) (γ .mind c .top)
+  pub balanced : Balanced (latest h)
+  pub present : (c : ℕ) → γ .mind c .tab ≡ true → h .lost c ≡ none
+  pub gone : (c : ℕ) → c < n → γ .mind c .tab ≡ false → h .lost c ≡ some (γ .mind c .top)
+  pub beyond : (c : ℕ) → n ≤ c → booked (γ .mind c .top) ≡ 0
+  -- the one before it, wanted while the coordinator alone knows of the newest
+  pub below : γ .big .adopted ≡ false → (x : Save) × (xs : List Save) × (h .saves ≡ x ∷ xs) × (x .by ≡ γ .big .chief)
+      × ((j : ℕ) → j ≢ γ .big .chief → workOf v j ≡ true → newest xs (h .start) .known ≡ true)
+      × ((c : ℕ) → c < n → HeldIn (h .lost c) (newest xs (h .start) .cut c) (γ .mind c .prev)) × Balanced (newest xs (h .start))
+  -- a save under way, or one that may be so again, was begun since the last recovery's end
+  pub begun : (γ .big .begun ≡ true) ⊎ (γ .big .adopted ≡ false) → h .begun ≡ true
+  -- who waits for a resume in checkpointed waits for that of a save that stands
+  pub waits : (c : ℕ) → isIn (v .own c .state) Checkpointed ≡ true → γ .mind c .joined ≡ false → Stands h
+
+-- ---- the save that the rule gives
+
+-- a working cabinet has its cut in it
+pub cut-held : {n total : ℕ} {v : View} {γ : Ghost} {h : History} → Inv n total v γ → Past n v γ h → (c : ℕ) → workOf v c ≡ true
+    → (y : Cut) × (latest h .cut c ≡ some y) × (y .image ≡ γ .mind c .top)
+cut-held i p c w =
+    let t = i .core .nodes c .placed w in
+    ⊎-elim (λ e. absurd (some-none (sym e ∙ p .present c t))) (λ e. e .1) (p .tops c (i .core .ground .within c t))
+  where
+    some-none : {m : Image} → some m ≡ none → ⊥
+    some-none e = let z : _≡_ {A = ℕ} 0 1 = cc in omega arith
+
+-- the images in it add up
+pub tops-add : {n total : ℕ} {v : View} {γ : Ghost} {h : History} → Inv n total v γ → Past n v γ h → sum (λ c. booked (γ .mind c .top)) n ≡ total
+tops-add {n} {γ} i p = sym (sum-tail (λ c. booked (γ .mind c .top)) n 8 (i .core .ground .most) (p .beyond)) ∙ i .core .sums .tops
+
+-- ---- what a taken step owes
+
+-- no cabinet that is aware of a fault goes to normal
+abbrev pub Stays : View → Ghost → View → Type 0
+Stays v γ w = (c : ℕ) → awareOf v γ c ≡ true → isIn (w .own c .state) Normal ≡ false
+
+-- the history once step s took group g to g′
+abbrev pub after : History → Group → Group → Step → History
+after h g g′ s = noteCuts (observe h g g′ s) g g′
+
+pub record Kept (total : ℕ) (g : Group) (γ : Ghost) (g′ : Group) (h′ : History) : Type 0 where
+  pub ghost : Ghost
+  pub inv : Inv (g .n) total (view g′) ghost
+  pub past : Past (g .n) (view g′) ghost h′
+  pub stays : Stays (view g) γ (view g′)
+
+-- ---- the history where no cabinet has its cut in the step, and where no cabinet's work changes nor comes to wait
+
+pub no-cuts : (h : History) (g g′ : Group) → ((i : ℕ) → isIn (stateOf g′ i) Checkpointing ≡ true → isIn (stateOf g i) Checkpointing ≡ true) → noteCuts h g g′ ≡ h
+no-cuts h g g′ e = λ t. withCuts h (same t)
+  where
+    one : (i : ℕ) (s u : Bool) → (s ≡ true → u ≡ true) → cond (s && not u) (some (cutIn h g′ i)) (h .cuts i) ≡ h .cuts i
+    one i true true f = refl
+    one i true false f = absurd (true≢false (sym (f refl)))
+    one i false u f = refl
+
+    same : noteCuts h g g′ .cuts ≡ h .cuts
+    same = fun-ext (λ i. one i _ _ (e i))
+
+pub past-view : {n : ℕ} {v w : View} {γ : Ghost} {h : History} → ((j : ℕ) → workOf w j ≡ workOf v j)
+    → ((j : ℕ) → isIn (w .own j .state) Checkpointed ≡ true → γ .mind j .joined ≡ false → isIn (v .own j .state) Checkpointed ≡ true)
+    → Past n v γ h → Past n w γ h
+past-view e f p = record {
+  sent = p .sent;
+  taken = p .taken;
+  hurt = p .hurt;
+  cuts = p .cuts;
+  noCut = p .noCut;
+  known = p .known;
+  tops = p .tops;
+  balanced = p .balanced;
+  present = p .present;
+  gone = p .gone;
+  beyond = p .beyond;
+  below = λ a. let b = p .below a in (b .0, b .1, b .2, b .3, (λ j d k. b .4 j d (sym (e j) ∙ k)), b .5, b .6);
+  begun = p .begun;
+  waits = λ c s j. p .waits c (f c s j) j;
+}
+
+-- no state changes
+pub past-same : {n : ℕ} {v w : View} {γ : Ghost} {h : History} → ((j : ℕ) → w .own j .state ≡ v .own j .state) → Past n v γ h → Past n w γ h
+past-same e p = past-view (λ j. ap works (e j)) (λ j s _. ap (λ (x : State). isIn x Checkpointed) (sym (e j)) ∙ s) p
+
+pub past-still : {n : ℕ} {γ : Ghost} {h : History} (g g′ : Group) → ((j : ℕ) → stateOf g′ j ≡ stateOf g j) → Past n (view g) γ h
+    → Past n (view g′) γ (noteCuts h g g′)
+past-still {h} g g′ e p = rw (no-cuts h g g′ (λ j s. ap (λ (x : State). isIn x Checkpointing) (sym (e j)) ∙ s)) (past-same e p)
+
+-- one cabinet's state changes, and it does not come to wait
+pub past-one : {n : ℕ} {v w : View} {γ : Ghost} {h : History} (c : ℕ) (o : Own) → ((j : ℕ) → w .own j .state ≡ upd (v .own) c o j .state)
+    → works (o .state) ≡ workOf v c → isIn (o .state) Checkpointed ≡ false → Past n v γ h → Past n w γ h
+past-one {v} c o e same off =
+    past-view (λ j. ap works (e j) ∙ kept-at (λ (x : Own). works (x .state)) (v .own) c o same j)
+    (λ j s _. upd-elim (λ (x : Own). isIn (x .state) Checkpointed ≡ true → isIn (v .own j .state) Checkpointed ≡ true) (v .own) c o j
+    (λ _ t. absurd (never t off)) (λ _ t. t) (ap (λ (x : State). isIn x Checkpointed) (sym (e j)) ∙ s))
+
+-- nor has it its cut
+pub past-turn : {n : ℕ} {γ : Ghost} {h : History} (g g′ : Group) (c : ℕ) (o : Own) → ((j : ℕ) → stateOf g′ j ≡ upd (view g .own) c o j .state)
+    → works (o .state) ≡ workOf (view g) c → inSaving (o .state) ≡ false → Past n (view g) γ h → Past n (view g′) γ (noteCuts h g g′)
+past-turn {h} g g′ c o e same off p =
+    rw (no-cuts h g g′
+    (λ j s. upd-elim (λ (x : Own). isIn (x .state) Checkpointing ≡ true → isIn (stateOf g j) Checkpointing ≡ true) (view g .own) c o j
+    (λ _ t. absurd (never (or-left (isIn (o .state) Checkpointing) _ t) off)) (λ _ t. t) (ap (λ (x : State). isIn x Checkpointing) (sym (e j)) ∙ s)))
+    (past-one c o e same (is-false _ (λ t. never (or-right (isIn (o .state) Checkpointing) _ t) off)) p)
+
+pub aware-not-normal : (b : Big) (o : Own) → aware b o ≡ true → isIn (o .state) Normal ≡ false
+aware-not-normal b o e = apart (λ s. inRecovery s) (o .state) Normal (and-true {s = b .faulted} e .1) refl
+
+-- what a step owes that may end a recovery
+pub record Next (total : ℕ) (g : Group) (γ : Ghost) (g′ : Group) (h′ : History) : Type 0 where
+  pub ghost : Ghost
+  pub inv : Inv (g .n) total (view g′) ghost
+  pub past : Past (g .n) (view g′) ghost h′
+  pub fate : Stays (view g) γ (view g′) ⊎ Restored (g .n) total h′ g′
+
+pub kept-next : {total : ℕ} {g : Group} {γ : Ghost} {g′ : Group} {h′ : History} → Kept total g γ g′ h′ → Next total g γ g′ h′
+kept-next k = record { ghost = k .ghost; inv = k .inv; past = k .past; fate = inl (k .stays) }

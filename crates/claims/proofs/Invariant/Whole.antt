@@ -1,0 +1,147 @@
+-- The facts about the whole group, and the invariant: all facts together. Each group of facts reads only the functions that it names,
+-- so that a move which leaves those alone keeps it.
+use Prim.Native.Nat.{ℕ, _<_, _≤_}
+use mathlib.Core.Path.{_≡_}
+use mathlib.Core.Logic.{_≢_, _⊎_}
+use mathlib.Core.Bool.{Bool, true, false, not}
+use Rattle.line.specs.declared.Place.{Place}
+use Rattle.line.specs.declared.Place.the-variants.{Cabinet as AtCabinet, Link as AtLink}
+use Rattle.cabinet.specs.declared.Alarm.{Alarm}
+use Rattle.cabinet.specs.declared.Alarm.the-variants.{Fault as At}
+use Rattle.image.specs.declared.Image.{Image}
+use Rattle.state.specs.State.{works, isUnknown}
+use Rattle.image.specs.Image.{booked}
+use Rattle.protocol.proofs.Fun.{sum}
+use Rattle.claims.proofs.State.View.{View, used}
+use Rattle.claims.proofs.Invariant.Facts.{Big, Ghost, Pair, Node, Books, aware, unaware, amount}
+
+-- ---- who is there, which links stand, and that all are reached (A3, A4, A8)
+
+pub record Ground (n chief : ℕ) (alive : Bool) (work tab store : ℕ → Bool) (home : ℕ → ℕ) (lk sound : ℕ → ℕ → Bool) : Type 0 where
+  pub most : n ≤ 8
+  pub within : (c : ℕ) → tab c ≡ true → c < n
+  pub chiefIn : tab chief ≡ true
+  pub chiefLeast : (c : ℕ) → tab c ≡ true → chief ≤ c
+  pub aliveIs : alive ≡ work chief
+  pub linkBoth : (c d : ℕ) → lk c d ≡ lk d c
+  pub linkOther : (c : ℕ) → lk c c ≡ false
+  pub soundBoth : (c d : ℕ) → sound c d ≡ sound d c
+  pub soundLinks : (c d : ℕ) → sound c d ≡ true → lk c d ≡ true
+  pub homeStores : (c : ℕ) → c < n → store (home c) ≡ true
+  pub storeWorks : (c : ℕ) → store c ≡ true → work c ≡ true
+  -- A4: what passes from working cabinet to working cabinet over sound links, and holds of one, holds of all
+  pub reach : (P : ℕ → Bool) → ((i j : ℕ) → P i ≡ true → work i ≡ true → work j ≡ true → sound i j ≡ true → P j ≡ true)
+      → (i : ℕ) → work i ≡ true → P i ≡ true → (j : ℕ) → work j ≡ true → P j ≡ true
+
+-- ---- fault places (A5, A6)
+
+pub data Place-of (work tab : ℕ → Bool) (lk sound : ℕ → ℕ → Bool) : Place → Type 0 where
+  failed : (x : ℕ) → tab x ≡ true → work x ≡ false → Place-of work tab lk sound (AtCabinet x)
+  faulty : (x y : ℕ) → x < y → lk x y ≡ true → sound x y ≡ false → Place-of work tab lk sound (AtLink x y)
+
+pub record Places (faulted : Bool) (work tab knows : ℕ → Bool) (alarm : ℕ → Alarm) (lk sound : ℕ → ℕ → Bool) : Type 0 where
+  pub standing : faulted ≡ false → (c d : ℕ) → lk c d ≡ sound c d
+  pub failedFor : (x : ℕ) → tab x ≡ true → work x ≡ false → (c : ℕ) × (knows c ≡ true) × (alarm c ≡ At (AtCabinet x))
+  pub faultyFor : (x y : ℕ) → x < y → lk x y ≡ true → sound x y ≡ false → (c : ℕ) × (knows c ≡ true) × (alarm c ≡ At (AtLink x y))
+  pub someone : faulted ≡ true → (c : ℕ) × (knows c ≡ true)
+  pub fromOne : (c : ℕ) → knows c ≡ true → (p : Place) → alarm c ≡ At p → Place-of work tab lk sound p
+
+-- ---- versions (C5, C6, C8)
+
+pub record Chain (b : Big) (work calm tab joined done wrote known : ℕ → Bool) : Type 0 where
+  -- once a cabinet that is aware knows its version, no commit can follow
+  pub noCommit : b .frozen ≡ true → (calm (b .chief) ≡ false) ⊎ ((w : ℕ) × (tab w ≡ true) × (calm w ≡ false) × (wrote w ≡ false))
+  pub lives : b .adopted ≡ false → b .alive ≡ true
+  pub alone : b .adopted ≡ false → done (b .chief) ≡ true → (j : ℕ) → work j ≡ true → j ≡ b .chief
+  pub company : (j : ℕ) → j ≢ b .chief → work j ≡ true → ((b .faulted ≡ false) × (b .adopted ≡ true)) ⊎ (b .alive ≡ false)
+      → (c : ℕ) × (c ≢ b .chief) × (work c ≡ true) × ((known c ≡ true) ⊎ (joined c ≡ true))
+
+-- ---- bookings add up (D6)
+
+pub record Sums (total : ℕ) (adopted : Bool) (base top prev : ℕ → Image) : Type 0 where
+  pub least : total < 65536
+  pub bases : sum (λ c. booked (base c)) 8 ≡ total
+  pub tops : sum (λ c. booked (top c)) 8 ≡ total
+  pub prevs : adopted ≡ false → sum (λ c. booked (prev c)) 8 ≡ total
+
+-- ---- the functions that these facts read
+
+module _ (v : View) where
+  abbrev pub workOf : ℕ → Bool
+  workOf c = works (v .own c .state)
+
+  abbrev pub alarmOf : ℕ → Alarm
+  alarmOf c = v .own c .alarm
+
+  abbrev pub homeOf : ℕ → ℕ
+  homeOf c = v .own c .home
+
+  abbrev pub storeOf : ℕ → Bool
+  storeOf c = v .own c .store
+
+  abbrev pub knownOf : ℕ → Bool
+  knownOf c = not (isUnknown (v .own c .version))
+
+  abbrev pub awareOf : Ghost → ℕ → Bool
+  awareOf γ c = aware (γ .big) (v .own c)
+
+  abbrev pub calmOf : Ghost → ℕ → Bool
+  calmOf γ c = unaware (γ .big) (v .own c)
+
+module _ (γ : Ghost) where
+  abbrev pub tabOf : ℕ → Bool
+  tabOf c = γ .mind c .tab
+
+  abbrev pub lkOf : ℕ → ℕ → Bool
+  lkOf c d = γ .wire c d .lk
+
+  abbrev pub outOf : ℕ → ℕ
+  outOf c = sum (λ d. amount (γ .wire c d .sent)) 8
+
+  abbrev pub gotOf : ℕ → ℕ
+  gotOf c = sum (λ d. amount (γ .wire d c .taken)) 8
+
+-- ---- the invariant
+
+abbrev pub PairAt : View → Ghost → ℕ → ℕ → Type 0
+PairAt v γ c d =
+    Pair (γ .big) c d (v .own c) (γ .mind c) (v .own d) (γ .mind d) (v .side c d) (v .side d c) (v .lines c d) (γ .wire c d)
+
+abbrev pub NodeAt : View → Ghost → ℕ → Type 0
+NodeAt v γ c = Node (γ .big) c (v .own c) (γ .mind c) (v .slots c)
+
+abbrev pub BooksAt : View → Ghost → ℕ → Type 0
+BooksAt v γ c = Books (γ .big) (v .own c) (γ .mind c) (outOf γ c) (gotOf γ c)
+
+abbrev pub GroundOf : ℕ → View → Ghost → Type 0
+GroundOf n v γ =
+    Ground n (γ .big .chief) (γ .big .alive) (workOf v) (tabOf γ) (storeOf v) (homeOf v) (lkOf γ) (v .sound)
+
+abbrev pub PlacesOf : View → Ghost → Type 0
+PlacesOf v γ = Places (γ .big .faulted) (workOf v) (tabOf γ) (awareOf v γ) (alarmOf v) (lkOf γ) (v .sound)
+
+-- no working cabinet has a failed neighbour in use
+abbrev pub MeetsOf : View → Type 0
+MeetsOf v = (c d : ℕ) → workOf v c ≡ true → used (v .side c d) ≡ true → workOf v d ≡ true
+
+abbrev pub ChainOf : View → Ghost → Type 0
+ChainOf v γ =
+    Chain (γ .big) (workOf v) (calmOf v γ) (tabOf γ) (λ c. γ .mind c .joined) (λ c. γ .mind c .done) (λ c. γ .mind c .wrote) (knownOf v)
+
+abbrev pub SumsOf : ℕ → Ghost → Type 0
+SumsOf total γ = Sums total (γ .big .adopted) (λ c. γ .mind c .base) (λ c. γ .mind c .top) (λ c. γ .mind c .prev)
+
+-- what each move keeps by itself
+pub record Core (n total : ℕ) (v : View) (γ : Ghost) : Type 0 where
+  pub pairs : (c d : ℕ) → PairAt v γ c d
+  pub nodes : (c : ℕ) → NodeAt v γ c
+  pub books : (c : ℕ) → BooksAt v γ c
+  pub ground : GroundOf n v γ
+  pub chain : ChainOf v γ
+  pub sums : SumsOf total γ
+
+-- with the fault places, which a fail leaves open until every neighbour has entered error
+pub record Inv (n total : ℕ) (v : View) (γ : Ghost) : Type 0 where
+  pub core : Core n total v γ
+  pub places : PlacesOf v γ
+  pub meets : MeetsOf v

@@ -1,0 +1,7 @@
+-- What is proved of every run: `Claims` holds the theorems that the specs of `protocol` state; `Fifo` serves that on lines, the others serve
+-- demand 3.
+pub mod State
+pub mod Invariant
+pub mod Moves
+pub mod Fifo
+pub mod Claims

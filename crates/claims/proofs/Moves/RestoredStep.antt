@@ -1,0 +1,333 @@
+-- Kind 8, restored: the report alone keeps the invariant, and where it ends the recovery demand 3 holds.
+use Prim.Native.Nat.{ℕ, zero, suc, _<_, _≤_}
+use mathlib.Core.Path.{_≡_, refl, sym, ap, _∙_, subst}
+use mathlib.Core.Logic.{_≢_, _⊎_, inl, inr, ⊎-elim}
+use mathlib.Core.Bool.{Bool, true, false, cond, not, _&&_, true≢false, false≢true}
+use mathlib.Core.Option.{Option, none, some}
+use lib.ListN.{length, List·getD-eq-default}
+use native.Mathlib.Omega.{arith}
+use native.Mathlib.Decide.{ℕ-discrete, decLt}
+use Rattle.marks.specs.Marks.{Marks, marked, covers}
+use Rattle.marks.specs.MarksLaws.{covers-has, lowest-le-marked}
+use Rattle.state.specs.declared.State.{State}
+use Rattle.state.specs.declared.State.the-variants.{Normal, Checkpointing, Error, Recovering, Recovered, Checkpointed}
+use Rattle.state.specs.declared.Version.{Version}
+use Rattle.state.specs.declared.Version.the-variants.{Known}
+use Rattle.image.specs.declared.Image.{Image}
+use Rattle.state.specs.State.{isIn, works, inRestoring, bitOf}
+use Rattle.image.specs.Image.{booked}
+use Rattle.cabinet.specs.Cabinet.{inUse, coordinator}
+use Rattle.group.specs.declared.Group.{Group}
+use Rattle.group.specs.Group.{cabinet, stateOf}
+use Rattle.protocol.specs.Moves.{endRecovery}
+use Rattle.protocol.specs.Kinds.{mayReport, restoredRefusal, reportRestored, endIfAll}
+use Rattle.protocol.specs.History.{Cut, History, latest, imageIn, lostNow, noteEnd, noteCuts, ends, goes}
+use Rattle.protocol.specs.Restored.{Restored, counted, countedTo, amperes}
+use Rattle.protocol.proofs.Fun.{never, is-false, and-true, and-intro, cond-elim, upd-elim, upd-same, upd-other, sum, kept-at}
+use Rattle.claims.proofs.State.Every.{passed, with-cabinet}
+use Rattle.claims.proofs.State.View.{View, Own, Side, view, used}
+use Rattle.claims.proofs.State.Shape.{Shaped, Lined, Pictured, shaped}
+use Rattle.claims.proofs.State.Sim.{Fit, in-use}
+use Rattle.claims.proofs.State.Methods.{sCleared}
+use Rattle.claims.proofs.State.ViewMoves.{Room, vResumed, vRestored, sim-restored, sim-resume}
+use Rattle.protocol.proofs.Answers.Tests.{in-state}
+use Rattle.claims.proofs.Invariant.States.{restoring-one, restoring-works, known-is-known}
+use Rattle.claims.proofs.Invariant.Facts.{Mind, Ghost, unaware}
+use Rattle.claims.proofs.Invariant.Whole.{Inv, workOf, awareOf}
+use Rattle.claims.proofs.Invariant.Past.{Past, HeldIn, Kept, Next, kept-next, no-cuts, aware-not-normal, past-same, cut-held, tops-add}
+use Rattle.claims.proofs.Invariant.Words.{un-not-aware, un-or-aware, aware-works, aware-faulted, chief-of, room-aware}
+use Rattle.claims.proofs.Invariant.Marking.{past-mind}
+use Rattle.claims.proofs.Moves.Rousing.{oResumed, roused, seen-roused}
+use Rattle.claims.proofs.Moves.Restoring.{gReady, ready-inv, marked-inv, mReady}
+use Rattle.claims.proofs.Moves.EndPairs.{bEnd, mEnd, wEnd}
+use Rattle.claims.proofs.Moves.Ending.{tabled, ended-inv, all-aware, all-recovered}
+
+past-row : (m : Marks) (j : ℕ) → length m ≡ 8 → marked m j ≡ true → j < 8
+past-row m j e t = elim (decLt j 8) [ yes l ↦ l | no n ↦ absurd (never t (List·getD-eq-default m false {n = j} (omega arith))) ]
+
+module _ (total : ℕ) (g : Group) (h : History) (γ : Ghost) (w : Fit g) (i : Inv (g .n) total (view g) γ) (past : Past (g .n) (view g) γ h)
+    (a : ℕ) (la : a < 8) (works-a : works (stateOf g a) ≡ true) (fine : restoredRefusal g a ≡ 0) where
+  abbrev k : ℕ
+  k = coordinator (cabinet g a)
+
+  recovered-a : stateOf g a ≡ Recovered
+  recovered-a = in-state (stateOf g a) Recovered .0 (passed (isIn (stateOf g a) Recovered) 13 _ fine .0)
+
+  may : mayReport (cabinet g a) (cabinet g k) a ≡ true
+  may = passed (mayReport (cabinet g a) (cabinet g k) a) 18 0 (passed (isIn (stateOf g a) Recovered) 13 _ fine .1) .0
+
+  may-parts : (covers (cabinet g a .noted .heard) (inUse (cabinet g a)) ≡ true) × (inRestoring (stateOf g k) ≡ true)
+  may-parts = and-true {s = covers (cabinet g a .noted .heard) (inUse (cabinet g a))} (and-true {s = not (marked (cabinet g k .noted .restored) a)} may .1)
+
+  -- a recovered cabinet that is not aware of a fault has a coordinator in normal or saving
+  aware-a : awareOf (view g) γ a ≡ true
+  aware-a = ⊎-elim (λ u. absurd (not-calm u)) (λ x. x) (un-or-aware (γ .big) (view g .own a) works-a)
+    where
+      no-fault : unaware (γ .big) (view g .own a) ≡ true → γ .big .faulted ≡ false
+      no-fault u = is-false (γ .big .faulted) (λ f. un-not-aware (γ .big) (view g .own a) u (and-intro f (rw recovered-a)))
+
+      not-recovered : γ .big .faulted ≡ false → k ≡ γ .big .chief → stateOf g k ≡ Recovered → ⊥
+      not-recovered f c e = i .core .nodes k .inRecovered (rw (f, e)) e .1 c
+
+      not-calm : unaware (γ .big) (view g .own a) ≡ true → ⊥
+      not-calm u =
+          ⊎-elim (λ e. never (ap (λ (s : State). isIn s Recovering) e) (i .core .nodes k .quiet (no-fault u) .1))
+          (not-recovered (no-fault u) (chief-of (g .n) total g γ (i .core) a u)) (restoring-one (stateOf g k) (may-parts .1))
+
+  faulted : γ .big .faulted ≡ true
+  faulted = aware-faulted (γ .big) (view g .own a) aware-a
+
+  aware-k : awareOf (view g) γ k ≡ true
+  aware-k = and-intro faulted (restoring-works (stateOf g k) (may-parts .1) .0)
+
+  lk : k < 8
+  lk =
+      let below = i .core .ground .within k (i .core .nodes k .placed (aware-works (γ .big) (view g .own k) aware-k)) in
+      omega (arith, below, i .core .ground .most)
+
+  heard-all : (d : ℕ) → used (view g .side a d) ≡ true → view g .side a d .heard ≡ true
+  heard-all d u = elim (decLt d 8) [
+    | yes l ↦ covers-has (cabinet g a .noted .heard) (inUse (cabinet g a)) (may-parts .0) d l (in-use (cabinet g a) (w .cabs a) d ∙ u)
+    | no n ↦ absurd (n (past-row (cabinet g a .table .links) d (w .cabs a .links) (and-true {s = view g .side a d .link} u .0)))
+  ]
+
+  abbrev g1 : Group
+  g1 = reportRestored g a k
+
+  abbrev γ1 : Ghost
+  γ1 = gReady γ a
+
+  seen1 : view g1 ≡ vRestored (view g) k a
+  unfolding reportRestored
+  seen1 = sim-restored g w k a lk la
+
+  inv1 : Inv (g .n) total (view g1) γ1
+  inv1 =
+      subst (λ (x : View). Inv (g .n) total x γ1) (sym seen1)
+      (marked-inv (g .n) total (view g) γ1 (ready-inv (g .n) total (view g) γ i a aware-a recovered-a heard-all) k a (ap (λ (m : Mind). m .ready) (upd-same (γ .mind) a _)))
+
+  state1 : (c : ℕ) → stateOf g1 c ≡ stateOf g c
+  state1 c = ap (λ (x : View). x .own c .state) seen1 ∙ kept-at (λ (x : Own). x .state) (view g .own) k (view g .own k) refl c
+
+  past1 : Past (g .n) (view g1) γ1 h
+  past1 = past-same state1 (past-mind (g .n) (view g) γ h past a (mReady (γ .mind a)) refl refl refl refl refl refl)
+
+  cab1 : (c j : ℕ) → view g1 .side c j .cab ≡ view g .side c j .cab
+  cab1 c j =
+      ap (λ (x : View). x .side c j .cab) seen1
+      ∙ upd-elim (λ (f : ℕ → Side). f j .cab ≡ view g .side c j .cab) (view g .side) k _ c
+      (λ e. kept-at (λ (s : Side). s .cab) (view g .side k) a _ refl j ∙ ap (λ (x : ℕ). view g .side x j .cab) (sym e)) (λ n. refl)
+
+  fit1 : Fit g1
+  unfolding reportRestored
+  fit1 = with-cabinet Shaped Lined Pictured shaped g k _ (shaped .restoredFor (cabinet g k) a (w .cabs k)) w
+
+  -- ---- where the report was not the last one
+
+  pub reported-only : Kept total g γ g1 (noteCuts h g g1)
+  reported-only = record {
+    ghost = γ1;
+    inv = inv1;
+    past = rw (no-cuts h g g1 (λ c e. ap (λ (s : State). isIn s Checkpointing) (sym (state1 c)) ∙ e)) past1;
+    stays = λ c e. ap (λ (s : State). isIn s Normal) (state1 c) ∙ aware-not-normal (γ .big) (view g .own c) e;
+  }
+
+  -- ---- where it was
+
+  abbrev last : Bool
+  last = isIn (stateOf g1 k) Recovered && covers (cabinet g1 k .noted .restored) (cabinet g1 k .table .cabinets)
+
+  module _ (e : last ≡ true) where
+    recovered-k : stateOf g1 k ≡ Recovered
+    recovered-k = in-state (stateOf g1 k) Recovered .0 (and-true {s = isIn (stateOf g1 k) Recovered} e .0)
+
+    all-reported : (j : ℕ) → view g1 .side k j .cab ≡ true → view g1 .side k j .restored ≡ true
+    all-reported j c =
+        covers-has (cabinet g1 k .noted .restored) (cabinet g1 k .table .cabinets) (and-true {s = isIn (stateOf g1 k) Recovered} e .1) j
+        (past-row (cabinet g1 k .table .cabinets) j (fit1 .cabs k .cabs) c) c
+
+    aware1 : awareOf (view g1) γ1 k ≡ true
+    aware1 = and-intro faulted (rw recovered-k)
+
+    tabled1 : (c d : ℕ) → workOf (view g1) c ≡ true → view g1 .side c d .cab ≡ workOf (view g1) d
+    tabled1 c d x = tabled (g .n) total (view g1) γ1 inv1 k aware1 all-reported c d x .0
+
+    work-a : workOf (view g1) a ≡ true
+    work-a = ap works (state1 a) ∙ works-a
+
+    least : (j : ℕ) → workOf (view g1) j ≡ true → k ≤ j
+    least j x = lowest-le-marked (cabinet g a .table .cabinets) j (sym (cab1 a j) ∙ tabled1 a j work-a ∙ x)
+
+    work-k : workOf (view g1) k ≡ true
+    work-k = rw recovered-k
+
+    abbrev x : Version
+    x = cabinet g1 k .phase .version
+
+    abbrev g2 : Group
+    g2 = endRecovery g1 k
+
+    room1 : Room (vResumed (view g1) k x) k
+    room1 d u =
+        room-aware (g .n) total (view g1) γ1 (inv1 .core) k aware1 d
+        (sym (ap (λ (f : ℕ → Side). used (f d)) (upd-same (view g1 .side) k (λ b. sCleared (view g1 .side k b)))) ∙ u)
+
+    seen2 : view g2 ≡ roused (view g1) k x
+    unfolding endRecovery
+    seen2 = sim-resume g1 fit1 k x lk room1 ∙ seen-roused (view g1) k x
+
+    abbrev γ2 : Ghost
+    γ2 = record { big = bEnd (γ .big) k; mind = λ c. mEnd (γ1 .mind c) (workOf (view g1) c); wire = λ c d. wEnd (view g1 .sound c d) }
+
+    inv2 : Inv (g .n) total (view g2) γ2
+    inv2 =
+        subst (λ (y : View). Inv (g .n) total y γ2) (sym seen2)
+        (ended-inv (g .n) total (view g1) γ1 inv1 k aware1 all-reported least)
+
+    state2 : (c : ℕ) → c ≢ k → stateOf g2 c ≡ stateOf g c
+    state2 c d = ap (λ (y : View). y .own c .state) seen2 ∙ ap (λ (o : Own). o .state) (upd-other (view g1 .own) k (oResumed (view g1 .own k) x) c d) ∙ state1 c
+
+    normal-k : stateOf g2 k ≡ Normal
+    normal-k = ap (λ (y : View). y .own k .state) seen2 ∙ ap (λ (o : Own). o .state) (upd-same (view g1 .own) k (oResumed (view g1 .own k) x))
+
+    work2 : (c : ℕ) → works (stateOf g2 c) ≡ workOf (view g1) c
+    work2 c = elim (ℕ-discrete c k) [
+      | yes f ↦ ap (λ (j : ℕ). works (stateOf g2 j)) f ∙ ap works normal-k ∙ sym work-k ∙ ap (workOf (view g1)) (sym f)
+      | no d ↦ ap works (state2 c d ∙ sym (state1 c))
+    ]
+
+    ending : ends g g2 a ≡ true
+    ending = and-intro (ap (λ (s : State). isIn s Recovered) (sym (state1 k) ∙ recovered-k)) (ap (λ (s : State). isIn s Normal) normal-k)
+
+    abbrev h2 : History
+    h2 = noteEnd true h g2
+
+    no-new-cut : (c : ℕ) → isIn (stateOf g2 c) Checkpointing ≡ true → isIn (stateOf g c) Checkpointing ≡ true
+    no-new-cut c f = elim (ℕ-discrete c k) [
+      | yes q ↦ absurd (never (sym (ap (λ (j : ℕ). isIn (stateOf g2 j) Checkpointing) q) ∙ f) (ap (λ (s : State). isIn s Checkpointing) normal-k))
+      | no d ↦ ap (λ (s : State). isIn s Checkpointing) (sym (state2 c d)) ∙ f
+    ]
+
+    history2 : noteCuts (noteEnd (ends g g2 a) h g2) g g2 ≡ h2
+    history2 = ap (λ (t : Bool). noteCuts (noteEnd t h g2) g g2) ending ∙ no-cuts h2 g g2 no-new-cut
+
+    -- a failed cabinet's image is the one in the save restored after it failed
+    lost-held : (c : ℕ) (m : Image) → HeldIn (h .lost c) (latest h .cut c) m → (t : Bool) → works (stateOf g2 c) ≡ t
+        → ((t ≡ true) × HeldIn (h2 .lost c) (latest h .cut c) m) ⊎ ((t ≡ false) × (h2 .lost c ≡ some m))
+    lost-held c m (inl f) true v = inl (refl, inl (ap (lostNow h g2 c) f))
+    lost-held c m (inl f) false v = inr (refl, ap (lostNow h g2 c) f)
+    lost-held c m (inr f) true v =
+        inl (refl, inr (ap (lostNow h g2 c) (f .0) ∙ ap (λ (t : Bool). cond t none (imageIn (latest h .cut c))) v, f .1))
+    lost-held c m (inr f) false v =
+        inr (
+          refl,
+          ap (lostNow h g2 c) (f .0) ∙ ap (λ (t : Bool). cond t none (imageIn (latest h .cut c))) v
+              ∙ ap imageIn (f .1 .1) ∙ ap some (f .1 .2),
+        )
+
+    held-now : (c : ℕ) (m : Image) → HeldIn (h .lost c) (latest h .cut c) m → HeldIn (h2 .lost c) (latest h .cut c) m
+    held-now c m f = ⊎-elim (λ y. y .1) (λ y. inl (y .1)) (lost-held c m f (works (stateOf g2 c)) refl)
+
+    lost-now : (c : ℕ) (m : Image) → HeldIn (h .lost c) (latest h .cut c) m → works (stateOf g2 c) ≡ false → h2 .lost c ≡ some m
+    lost-now c m f v = ⊎-elim (λ y. absurd (true≢false (sym (y .0)))) (λ y. y .1) (lost-held c m f false v)
+
+    none-lost : (c : ℕ) → workOf (view g1) c ≡ true → h2 .lost c ≡ none
+    none-lost c v =
+        ap (lostNow h g2 c) (past1 .present c (inv1 .core .nodes c .placed v))
+        ∙ ap (λ (t : Bool). cond t none (imageIn (latest h .cut c))) (work2 c ∙ v)
+
+    aware-at : (c : ℕ) → workOf (view g1) c ≡ true → awareOf (view g1) γ1 c ≡ true
+    aware-at = all-aware (g .n) total (view g1) γ1 inv1 k aware1 all-reported
+
+    recovered-at : (c : ℕ) → workOf (view g1) c ≡ true → view g1 .own c .state ≡ Recovered
+    recovered-at = all-recovered (g .n) total (view g1) γ1 inv1 k aware1 all-reported
+
+    kept2 : {A : Type 0} (f : Own → A) → f (oResumed (view g1 .own k) x) ≡ f (view g1 .own k) → (c : ℕ) → f (view g2 .own c) ≡ f (view g1 .own c)
+    kept2 f r c = ap (λ (y : View). f (y .own c)) seen2 ∙ kept-at f (view g1 .own) k (oResumed (view g1 .own k) x) r c
+
+    none-waits : (c : ℕ) → isIn (stateOf g2 c) Checkpointed ≡ true → ⊥
+    none-waits c s =
+        let e = sym (kept2 (λ (o : Own). isIn (o .state) Checkpointed) (rw recovered-k) c) ∙ s in
+        never e (ap (λ (y : State). isIn y Checkpointed) (recovered-at c (ap works (in-state (view g1 .own c .state) Checkpointed .0 e))))
+
+    past2 : Past (g .n) (view g2) γ2 h2
+    past2 = record {
+      sent = λ c d. refl;
+      taken = λ c d. refl;
+      hurt = refl;
+      cuts = λ y c d. absurd (false≢true d);
+      noCut = λ y f. absurd (false≢true f);
+      known = past1 .known ∙ inv1 .core .nodes k .restored aware1 recovered-k .1;
+      tops = λ c l. held-now c (γ1 .mind c .top) (past1 .tops c l);
+      balanced = past1 .balanced;
+      present = none-lost;
+      gone = λ c l t. lost-now c (γ1 .mind c .top) (past1 .tops c l) (work2 c ∙ t);
+      beyond = past1 .beyond;
+      below = λ f. absurd (true≢false f);
+      begun = ⊎-elim (λ f. absurd (false≢true f)) (λ f. absurd (true≢false f));
+      waits = λ c s _. absurd (none-waits c s);
+    }
+
+    -- ---- demand 3 at the recovery's end
+
+    one-version : (c : ℕ) → workOf (view g1) c ≡ true → cabinet g2 c .phase .version ≡ Known (γ .big .topv)
+    one-version c v =
+        let y = known-is-known (view g1 .own c .version) (inv1 .core .nodes c .unknownAware (aware-at c v) ∙ ap (λ (s : State). isIn s Error) (recovered-at c v)) in
+        kept2 (λ (o : Own). o .version) refl c ∙ y ∙ ap Known (inv1 .core .nodes c .known v (bitOf (view g1 .own c .version)) y)
+
+    image-top : (c : ℕ) → workOf (view g1) c ≡ true → cabinet g2 c .image ≡ γ1 .mind c .top
+    image-top c v = kept2 (λ (o : Own). o .image) refl c ∙ inv1 .core .nodes c .restored (aware-at c v) (recovered-at c v) .0
+
+    counts : (c : ℕ) → c < g .n → amperes (counted h2 g2 c) ≡ booked (γ1 .mind c .top)
+    counts c l = go (workOf (view g1) c) refl
+      where
+        go : (t : Bool) → workOf (view g1) c ≡ t → amperes (counted h2 g2 c) ≡ booked (γ1 .mind c .top)
+        go true v =
+            let y = cut-held inv1 past1 c v in
+            ap (λ (t : Bool). amperes (cond t (imageIn (latest h .cut c)) (h2 .lost c))) (work2 c ∙ v)
+            ∙ ap (λ (o : Option Cut). amperes (imageIn o)) (y .1) ∙ ap booked (y .2)
+        go false v =
+            ap (λ (t : Bool). amperes (cond t (imageIn (latest h .cut c)) (h2 .lost c))) (work2 c ∙ v)
+            ∙ ap amperes (lost-now c (γ1 .mind c .top) (past1 .tops c l) (work2 c ∙ v))
+
+    counted-sum : (m : ℕ) → m ≤ g .n → countedTo m h2 g2 ≡ sum (λ c. booked (γ1 .mind c .top)) m
+    unfolding sum
+    counted-sum zero l = refl
+    counted-sum (suc m) l = omega (arith, counted-sum m (omega arith), counts m (omega arith))
+
+    demand-three : Restored (g .n) total h2 g2
+    demand-three = record {
+      version = γ .big .topv;
+      known = λ c l v. one-version c (sym (work2 c) ∙ v);
+      held = λ c l v.
+          let u = sym (work2 c) ∙ v in
+          let y = cut-held inv1 past1 c u in
+          (y .0, y .1, image-top c u ∙ sym (y .2));
+      balanced = past1 .balanced;
+      lost = λ c l v. (γ1 .mind c .top, lost-now c (γ1 .mind c .top) (past1 .tops c l) v);
+      adds = counted-sum (g .n) (omega arith) ∙ tops-add inv1 past1;
+    }
+
+    pub ended-next : Next total g γ g2 (noteCuts (noteEnd (ends g g2 a) h g2) g g2)
+    ended-next = record {
+      ghost = γ2;
+      inv = inv2;
+      past = subst (Past (g .n) (view g2) γ2) (sym history2) past2;
+      fate = inr (subst (λ (y : History). Restored (g .n) total y g2) (sym history2) demand-three);
+    }
+
+  not-yet : ends g g1 a ≡ false
+  not-yet = is-false (ends g g1 a) went
+    where
+      went : goes g g1 k Recovered Normal ≡ true → ⊥
+      went e =
+          let f = and-true {s = isIn (stateOf g k) Recovered} e in
+          never (ap (λ (s : State). isIn s Normal) (sym (state1 k)) ∙ f .1) (ap (λ (s : State). isIn s Normal) (in-state (stateOf g k) Recovered .0 (f .0)))
+
+  reported-next : Next total g γ g1 (noteCuts (noteEnd (ends g g1 a) h g1) g g1)
+  reported-next = subst (λ (t : Bool). Next total g γ g1 (noteCuts (noteEnd t h g1) g g1)) (sym not-yet) (kept-next reported-only)
+
+  pub keeps-restored : Next total g γ (endIfAll g1 k) (noteCuts (noteEnd (ends g (endIfAll g1 k) a) h (endIfAll g1 k)) g (endIfAll g1 k))
+  unfolding endIfAll
+  keeps-restored =
+      cond-elim (λ (y : Group). Next total g γ y (noteCuts (noteEnd (ends g y a) h y) g y)) last ended-next (λ _. reported-next)

@@ -1,0 +1,14 @@
+-- A group seen as functions of cabinet numbers, each change of it in that view, and what every step keeps.
+-- what every step keeps
+pub mod Every
+pub mod Counting
+-- the view
+pub mod View
+pub mod Cells
+pub mod Shape
+pub mod Sim
+-- the moves in the view
+pub mod Methods
+pub mod ViewMoves
+-- every run
+pub mod Runs

@@ -1,0 +1,202 @@
+-- Each change of a cabinet alone, seen in the view: what it holds of itself, and what it holds of each other cabinet.
+use Prim.Native.Nat.{ℕ, zero, suc, _+_, _<_, _≤_}
+use mathlib.Core.Path.{_≡_, refl, sym, ap, _∙_, fun-ext}
+use mathlib.Core.Logic.{_≢_}
+use mathlib.Core.Bool.{Bool, true, false, cond, not, _&&_, _||_}
+use mathlib.Core.List.{List, [], _∷_}
+use lib.ListN.{getD, set, replicate}
+use lib.Seq.{getD-set-same, getD-set-other}
+use lib.Dec.{eqb, ltb}
+use borrow.Author.Tests.{eqb-true, eqb-false}
+use native.Mathlib.Omega.{arith}
+use native.Mathlib.Decide.{ℕ-discrete, decLt}
+use Rattle.marks.specs.Marks.{Marks, marked, noMarks}
+use Rattle.line.specs.declared.Check.{Check}
+use Rattle.line.specs.declared.Payload.{Payload}
+use Rattle.line.specs.declared.Place.{Place}
+use Rattle.line.specs.declared.Place.the-variants.{Cabinet as AtCabinet, Link as AtLink}
+use Rattle.line.specs.Packet.{startCheck, stepCheck}
+use Rattle.state.specs.declared.Version.{Version}
+use Rattle.cabinet.specs.declared.Cabinet.{Cabinet}
+use Rattle.cabinet.specs.Cabinet.{inUse, sending, taking, hurtFrom, restartIf, restartTo, beginning, comparing, owing, savedFor, resuming, alarmed, hearing, restoredFor, fetched, withImage, withPieces, withRegisters, withState, startRegisters}
+use Rattle.image.specs.declared.Image.{Image}
+use Rattle.state.specs.declared.State.the-variants.{Recovered}
+use Rattle.protocol.specs.History.{upd}
+use Rattle.protocol.proofs.Fun.{upd-elim, and-false, and-same}
+use Rattle.claims.proofs.State.Every.{getD-repeated}
+use Rattle.claims.proofs.State.View.{Side, sideOf, used}
+use Rattle.claims.proofs.State.Shape.{Shaped}
+use Rattle.claims.proofs.State.Sim.{in-use, past-use}
+
+-- ---- parts of a side replaced
+
+abbrev pub sTable : Side → Bool → Bool → Side
+sTable s c l = record { cab = c; link = l; come = s .come; saved = s .saved; restored = s .restored; heard = s .heard; owed = s .owed; hurt = s .hurt; put = s .put; took = s .took }
+
+abbrev pub sMarks : Side → Bool → Bool → Bool → Bool → Side
+sMarks s c v r h = record { cab = s .cab; link = s .link; come = c; saved = v; restored = r; heard = h; owed = s .owed; hurt = s .hurt; put = s .put; took = s .took }
+
+abbrev pub sOwed : Side → Bool → Side
+sOwed s o = record { cab = s .cab; link = s .link; come = s .come; saved = s .saved; restored = s .restored; heard = s .heard; owed = o; hurt = s .hurt; put = s .put; took = s .took }
+
+abbrev pub sRegisters : Side → Check → Check → Bool → Side
+sRegisters s p t u = record { cab = s .cab; link = s .link; come = s .come; saved = s .saved; restored = s .restored; heard = s .heard; owed = s .owed; hurt = u; put = p; took = t }
+
+abbrev pub sCleared : Side → Side
+sCleared s = sMarks s false false false false
+
+-- the checkp has come, and the receiver's register starts anew
+abbrev pub sCompared : Side → Side
+sCompared s = sRegisters (sMarks s true (s .saved) (s .restored) (s .heard)) (s .put) startCheck false
+
+-- ---- at one other cabinet
+
+module _ (c : Cabinet) (w : Shaped c) (j : ℕ) (l : j < 8) where
+  one-place : (f : ℕ → Side) (new : Side) → (f j ≡ new) → ((b : ℕ) → b ≢ j → f b ≡ sideOf c b) → f ≡ upd (sideOf c) j new
+  one-place f new here there =
+      fun-ext (λ b. upd-elim (λ (x : Side). f b ≡ x) (sideOf c) j new b (λ e. ap f e ∙ here) (λ n. there b n))
+
+  pub side-hurt : sideOf (hurtFrom c j) ≡ upd (sideOf c) j (sRegisters (sideOf c j) (sideOf c j .put) (sideOf c j .took) true)
+  side-hurt =
+      one-place (sideOf (hurtFrom c j)) _
+      (rw (getD-set-same (c .registers .hurt) j true false (omega (arith, w .hurt))))
+      (λ b n. rw (getD-set-other (c .registers .hurt) j b true false n))
+
+  pub side-sending : (p : Payload) → sideOf (sending c j p) ≡ upd (sideOf c) j (sRegisters (sideOf c j) (stepCheck (sideOf c j .put) p) (sideOf c j .took) (sideOf c j .hurt))
+  side-sending p =
+      one-place (sideOf (sending c j p)) _
+      (rw (getD-set-same (c .registers .sent) j (stepCheck (sideOf c j .put) p) startCheck (omega (arith, w .sent))))
+      (λ b n. rw (getD-set-other (c .registers .sent) j b (stepCheck (sideOf c j .put) p) startCheck n))
+
+  pub side-taking : (p : Payload) → sideOf (taking c j p) ≡ upd (sideOf c) j (sRegisters (sideOf c j) (sideOf c j .put) (stepCheck (sideOf c j .took) p) (sideOf c j .hurt))
+  side-taking p =
+      one-place (sideOf (taking c j p)) _
+      (rw (getD-set-same (c .registers .taken) j (stepCheck (sideOf c j .took) p) startCheck (omega (arith, w .taken))))
+      (λ b n. rw (getD-set-other (c .registers .taken) j b (stepCheck (sideOf c j .took) p) startCheck n))
+
+  pub side-comparing : sideOf (comparing c j) ≡ upd (sideOf c) j (sCompared (sideOf c j))
+  side-comparing =
+      one-place (sideOf (comparing c j)) _
+      (rw (
+        getD-set-same (c .noted .come) j true false (omega (arith, w .come)),
+        getD-set-same (c .registers .taken) j startCheck startCheck (omega (arith, w .taken)),
+        getD-set-same (c .registers .hurt) j false false (omega (arith, w .hurt)),
+      ))
+      (λ b n. rw (getD-set-other (c .noted .come) j b true false n, getD-set-other (c .registers .taken) j b startCheck startCheck n, getD-set-other (c .registers .hurt) j b false false n))
+
+  pub side-owing : (o : Bool) → sideOf (owing c j o) ≡ upd (sideOf c) j (sOwed (sideOf c j) o)
+  side-owing o =
+      one-place (sideOf (owing c j o)) _ (rw (getD-set-same (c .owed) j o false (omega (arith, w .owed)))) (λ b n. rw (getD-set-other (c .owed) j b o false n))
+
+  pub side-saved : sideOf (savedFor c j) ≡ upd (sideOf c) j (sMarks (sideOf c j) (sideOf c j .come) true (sideOf c j .restored) (sideOf c j .heard))
+  side-saved =
+      one-place (sideOf (savedFor c j)) _ (rw (getD-set-same (c .noted .saved) j true false (omega (arith, w .saved)))) (λ b n. rw (getD-set-other (c .noted .saved) j b true false n))
+
+  pub side-hearing : sideOf (hearing c j) ≡ upd (sideOf c) j (sMarks (sideOf c j) (sideOf c j .come) (sideOf c j .saved) (sideOf c j .restored) true)
+  side-hearing =
+      one-place (sideOf (hearing c j)) _ (rw (getD-set-same (c .noted .heard) j true false (omega (arith, w .heard)))) (λ b n. rw (getD-set-other (c .noted .heard) j b true false n))
+
+  pub side-restored : sideOf (restoredFor c j) ≡ upd (sideOf c) j (sMarks (sideOf c j) (sideOf c j .come) (sideOf c j .saved) true (sideOf c j .heard))
+  side-restored =
+      one-place (sideOf (restoredFor c j)) _ (rw (getD-set-same (c .noted .restored) j true false (omega (arith, w .restored)))) (λ b n. rw (getD-set-other (c .noted .restored) j b true false n))
+
+-- ---- at every other cabinet
+
+pub no-marks : (b : ℕ) → marked noMarks b ≡ false
+no-marks b = getD-repeated (λ (x : Bool). x ≡ false) 8 b false false refl refl
+
+pub all-start : (b : ℕ) → getD (replicate 8 startCheck) b startCheck ≡ startCheck
+all-start b = getD-repeated (λ (x : Check). x ≡ startCheck) 8 b startCheck startCheck refl refl
+
+set-default : {A : Type 0} (l : List A) (i : ℕ) (d : A) → getD (set l i d) i d ≡ d
+set-default [] i d = refl
+set-default (x ∷ l) zero d = refl
+set-default (x ∷ l) (suc i) d = set-default l i d
+
+module _ (m : Marks) (rs : List Check) where
+  restart-past : (n b : ℕ) → n ≤ b → getD (restartTo n m rs) b startCheck ≡ getD rs b startCheck
+  restart-past zero b h = refl
+  restart-past (suc n) b h = go (marked m n) (restart-past n b (omega arith))
+    where
+      go : (t : Bool) → getD (restartTo n m rs) b startCheck ≡ getD rs b startCheck
+          → getD (restartIf t (restartTo n m rs) n) b startCheck ≡ getD rs b startCheck
+      go true e = getD-set-other (restartTo n m rs) n b startCheck startCheck (omega arith) ∙ e
+      go false e = e
+
+  restart-at : (n b : ℕ) → b < n → getD (restartTo n m rs) b startCheck ≡ cond (marked m b) startCheck (getD rs b startCheck)
+  restart-at zero b h = absurd (omega arith)
+  restart-at (suc n) b h = elim (ℕ-discrete b n)
+      [ yes e ↦ rw e (here (marked m n)) | no d ↦ there (marked m n) d (restart-at n b (omega arith)) ]
+    where
+      here : (t : Bool) → getD (restartIf t (restartTo n m rs) n) n startCheck ≡ cond t startCheck (getD rs n startCheck)
+      here true = set-default (restartTo n m rs) n startCheck
+      here false = restart-past n n (omega arith)
+
+      there : (t : Bool) → b ≢ n → getD (restartTo n m rs) b startCheck ≡ cond (marked m b) startCheck (getD rs b startCheck)
+          → getD (restartIf t (restartTo n m rs) n) b startCheck ≡ cond (marked m b) startCheck (getD rs b startCheck)
+      there true d e = getD-set-other (restartTo n m rs) n b startCheck startCheck d ∙ e
+      there false d e = e
+
+abbrev pub sBegun : Side → Side
+sBegun s = sCleared (sRegisters s (cond (used s) startCheck (s .put)) (s .took) (s .hurt))
+
+module _ (c : Cabinet) (w : Shaped c) where
+  restarted : (b : ℕ) → getD (restartTo 8 (inUse c) (c .registers .sent)) b startCheck ≡ cond (used (sideOf c b)) startCheck (sideOf c b .put)
+  restarted b = elim (decLt b 8) [
+    | yes l ↦ restart-at (inUse c) (c .registers .sent) 8 b l
+        ∙ ap (λ (t : Bool). cond t startCheck (sideOf c b .put)) (in-use c w b)
+    | no n ↦ restart-past (inUse c) (c .registers .sent) 8 b (omega arith)
+        ∙ sym (rw (← in-use c w b, past-use c b (omega arith)))
+  ]
+
+  pub side-beginning : (b : ℕ) → sideOf (beginning c) b ≡ sBegun (sideOf c b)
+  side-beginning b = rw (restarted b, no-marks b)
+
+  pub side-resuming : (v : Version) (b : ℕ) → sideOf (resuming c v) b ≡ sCleared (sideOf c b)
+  side-resuming v b = rw (no-marks b)
+
+-- a place as it concerns the pair of i and b
+abbrev pub hitsCabinet : Place → ℕ → Bool
+hitsCabinet (AtCabinet a) b = eqb b a
+hitsCabinet (AtLink a d) b = false
+
+abbrev pub hitsLink : Place → ℕ → ℕ → Bool
+hitsLink (AtCabinet a) i b = false
+hitsLink (AtLink a d) i b = (eqb i a && eqb b d) || (not (eqb i a) && (eqb i d && eqb b a))
+
+abbrev pub sAlarmed : Place → ℕ → ℕ → Side → Side
+sAlarmed p i b s = sOwed (sCleared (sTable s (s .cab && not (hitsCabinet p b)) (s .link && not (hitsLink p i b)))) false
+
+pub unmark : (m : Marks) (a b : ℕ) → marked (set m a false) b ≡ (marked m b && not (eqb b a))
+unmark m a b = go (eqb b a) refl
+  where
+    go : (t : Bool) → eqb b a ≡ t → marked (set m a false) b ≡ (marked m b && not t)
+    go true e = rw (eqb-true b a e, set-default m a false, and-false)
+    go false e = getD-set-other m a b false false (eqb-false b a e) ∙ sym (and-same (marked m b))
+
+-- a link's mark at its end i
+unlink : (m : Marks) (a d b : ℕ) (t u : Bool)
+    → marked (cond t (set m d false) (cond u (set m a false) m)) b ≡ (marked m b && not ((t && eqb b d) || (not t && (u && eqb b a))))
+unlink m a d b true u = unmark m d b ∙ ap (λ (x : Bool). marked m b && not x) (sym (or-false (eqb b d)))
+  where
+    or-false : (t : Bool) → (t || false) ≡ t
+    or-false true = refl
+    or-false false = refl
+unlink m a d b false true = unmark m a b
+unlink m a d b false false = sym (and-same (marked m b))
+
+pub side-alarmed : (c : Cabinet) (i : ℕ) (p : Place) (b : ℕ) → sideOf (alarmed c i p) b ≡ sAlarmed p i b (sideOf c b)
+side-alarmed c i (AtCabinet a) b = rw (no-marks b, unmark (c .table .cabinets) a b, and-same)
+side-alarmed c i (AtLink a d) b = rw (no-marks b, unlink (c .table .links) a d b (eqb i a) (eqb i d), and-same)
+
+-- on entering recovered all registers start anew
+abbrev pub sFresh : Side → Side
+sFresh s = sRegisters s startCheck startCheck false
+
+pub side-fetched : (c : Cabinet) (m : Image) (b : ℕ) → sideOf (fetched c m) b ≡ cond (ltb (c .noted .pieces) 3) (sideOf c b) (sFresh (sideOf c b))
+side-fetched c m b = go (ltb (c .noted .pieces) 3)
+  where
+    go : (t : Bool) → sideOf (cond t (withImage (withPieces c (c .noted .pieces + 1)) m) (withImage (withRegisters (withPieces (withState c Recovered) 4) startRegisters) m)) b
+        ≡ cond t (sideOf c b) (sFresh (sideOf c b))
+    go true = refl
+    go false = rw (no-marks b, all-start b)

@@ -1,0 +1,311 @@
+-- In every run each cabinet's rows have eight marks, its image 32 octets; each line has twelve cells, the packets first, at most eight of
+-- them normal; each saved image has 32 octets.
+use Prim.Native.Nat.{ℕ, zero, suc, _+_, _-_, _*_, _/_, _%_, _<_, _≤_}
+use mathlib.Core.Path.{_≡_, refl, sym, ap, _∙_}
+use mathlib.Core.Bool.{Bool, true, false, cond, false≢true}
+use mathlib.Core.List.{List, [], _∷_, _++_}
+use lib.ListN.{length, getD, set, length-set}
+use lib.Bits.{xor-lt}
+use lib.Dec.{eqb, ltb}
+use native.Mathlib.Omega.{arith}
+use Rattle.marks.specs.Marks.{Marks, marked}
+use Rattle.line.specs.declared.Check.{Check}
+use Rattle.line.specs.declared.Place.{Place}
+use Rattle.line.specs.declared.Place.the-variants.{Cabinet as AtCabinet, Link as AtLink}
+use Rattle.line.specs.declared.Packet.{Packet}
+use Rattle.line.specs.declared.Packet.the-variants.{Empty, Normal as NormalPacket, Checkp, Resume, Recover, Fault, Invalid}
+use Rattle.line.specs.declared.Cell.{Cell}
+use Rattle.line.specs.declared.Line.{Line}
+use Rattle.line.specs.Packet.{isEmpty, isNormal, damaged, startCheck}
+use Rattle.line.specs.Line.{emptyCell, emptyLine, put, putCells, restCells, normals, normalsIn, packetAt}
+use Rattle.image.specs.declared.Image.{Image}
+use Rattle.cabinet.specs.declared.Cabinet.{Cabinet}
+use Rattle.image.specs.Image.{booked, withBooked, withOctet, pieceTo}
+use Rattle.cabinet.specs.Cabinet.{inUse, sending, taking, restartIf, restartTo, struckAt, wrote, fetched, alarmed}
+use Rattle.protocol.proofs.Fun.{cond-elim}
+use Rattle.claims.proofs.State.Every.{Closed, getD-set, getD-repeated}
+use Rattle.claims.proofs.State.View.{content, packetOf}
+use Rattle.claims.proofs.State.Cells.{Packed, packed-put, length-put, packed-rest, length-rest, packed-set, empty-is}
+
+-- ---- images
+
+pub record Pictured (m : Image) : Type 0 where
+  pub octets : length (m .octets) ≡ 32
+  pub small : (i : ℕ) → getD (m .octets) i 0 < 256
+
+abbrev Small : ℕ → Type 0
+Small x = x < 256
+
+pub booked-lt : (m : Image) → Pictured m → booked m < 65536
+booked-lt m h = omega (arith, h .small 0, h .small 1)
+
+pictured-set : (m : Image) (p v : ℕ) → v < 256 → Pictured m → Pictured (withOctet m p v)
+pictured-set m p v l h = record { octets = length-set (m .octets) p v ∙ h .octets; small = λ i. getD-set Small (m .octets) p i v 0 l (h .small i) }
+
+pictured-booked : (m : Image) (v : ℕ) → v < 65536 → Pictured m → Pictured (withBooked m v)
+pictured-booked m v l h =
+    pictured-set (withOctet m 0 (v / 256)) 1 (v % 256) (omega arith) (pictured-set m 0 (v / 256) (omega arith) h)
+
+pictured-piece : (n k : ℕ) (from to : Image) → Pictured from → Pictured to → Pictured (pieceTo n k from to)
+pictured-piece zero k from to f t = t
+pictured-piece (suc n) k from to f t = pictured-set _ (k * 8 + n) _ (f .small (k * 8 + n)) (pictured-piece n k from to f t)
+
+-- ---- cabinets
+
+pub record Shaped (c : Cabinet) : Type 0 where
+  pub cabs : length (c .table .cabinets) ≡ 8
+  pub links : length (c .table .links) ≡ 8
+  pub come : length (c .noted .come) ≡ 8
+  pub saved : length (c .noted .saved) ≡ 8
+  pub restored : length (c .noted .restored) ≡ 8
+  pub heard : length (c .noted .heard) ≡ 8
+  pub sent : length (c .registers .sent) ≡ 8
+  pub taken : length (c .registers .taken) ≡ 8
+  pub hurt : length (c .registers .hurt) ≡ 8
+  pub owed : length (c .owed) ≡ 8
+  pub image : Pictured (c .image)
+
+length-restartIf : (t : Bool) (rs : List Check) (j : ℕ) → length (restartIf t rs j) ≡ length rs
+length-restartIf true rs j = length-set rs j startCheck
+length-restartIf false rs j = refl
+
+length-restart : (n : ℕ) (m : Marks) (rs : List Check) → length (restartTo n m rs) ≡ length rs
+length-restart zero m rs = refl
+length-restart (suc n) m rs = length-restartIf (marked m n) _ n ∙ length-restart n m rs
+
+length-struck : (i : ℕ) (p : Place) (c : Cabinet) → Shaped c
+    → (length (struckAt i p (c .table) .cabinets) ≡ 8) × (length (struckAt i p (c .table) .links) ≡ 8)
+length-struck i (AtCabinet a) c h = (length-set (c .table .cabinets) a false ∙ h .cabs, h .links)
+length-struck i (AtLink a b) c h = (
+  h .cabs,
+  cond-elim (λ (x : Marks). length x ≡ 8) (eqb i a) (λ _. length-set (c .table .links) b false ∙ h .links)
+      (λ _. cond-elim (λ (x : Marks). length x ≡ 8) (eqb i b) (λ _. length-set (c .table .links) a false ∙ h .links) (λ _. h .links)),
+)
+
+shaped-wrote : (c : Cabinet) (i : ℕ) → Shaped c → Shaped (wrote c i)
+shaped-wrote c i h = cond-elim Shaped (ltb (c .noted .pieces) 3) (λ _. search) (λ _. search)
+
+shaped-fetched : (c : Cabinet) (m : Image) → Pictured m → Shaped c → Shaped (fetched c m)
+shaped-fetched c m p h = cond-elim Shaped (ltb (c .noted .pieces) 3) (λ _. search) (λ _. search)
+
+-- ---- lines
+
+abbrev Fits : Packet → Type 0
+Fits Empty = Unit {0}
+Fits (NormalPacket p) = p .amount < 65536
+Fits (Checkp v) = Unit {0}
+Fits Resume = Unit {0}
+Fits (Recover v) = Unit {0}
+Fits (Fault p) = Unit {0}
+Fits Invalid = Unit {0}
+
+abbrev FitsCell : Cell → Type 0
+FitsCell c = Fits (c .packet)
+
+pub record Lined (l : Line) : Type 0 where
+  pub twelve : length (l .cells) ≡ 12
+  pub packed : Packed (l .cells)
+  pub few : normals l ≤ 8
+  pub fits : (k : ℕ) → FitsCell (getD (l .cells) k emptyCell)
+
+empty-one : (p : Packet) → isEmpty p ≡ true → isNormal p ≡ false
+empty-one p e = rw (empty-is p e)
+
+normals-put : (p : Packet) (cs : List Cell) → normalsIn (putCells cs p) ≤ normalsIn cs + cond (isNormal p) 1 0
+normals-put p [] = omega arith
+normals-put p (c ∷ cs) = go (normals-put p cs) (isEmpty (c .packet)) refl
+  where
+    go : normalsIn (putCells cs p) ≤ normalsIn cs + cond (isNormal p) 1 0 → (t : Bool) → isEmpty (c .packet) ≡ t
+        → normalsIn (cond t (record { packet = p } ∷ cs) (c ∷ putCells cs p)) ≤ normalsIn (c ∷ cs) + cond (isNormal p) 1 0
+    go ih true e = rw (empty-one (c .packet) e) (omega arith)
+    go ih false e = omega arith
+
+normals-pad : (cs : List Cell) → normalsIn (cs ++ (emptyCell ∷ [])) ≡ normalsIn cs
+normals-pad [] = refl
+normals-pad (c ∷ cs) = omega (arith, normals-pad cs)
+
+normals-rest : (cs : List Cell) → normalsIn (restCells cs) ≤ normalsIn cs
+normals-rest [] = omega arith
+normals-rest (c ∷ cs) = omega (arith, normals-pad cs)
+
+normals-set : (cs : List Cell) (k : ℕ) (p : Packet) → isNormal p ≡ isNormal (getD cs k emptyCell .packet)
+    → normalsIn (set cs k (record { packet = p })) ≡ normalsIn cs
+normals-set [] k p e = refl
+normals-set (c ∷ cs) zero p e = rw e
+normals-set (c ∷ cs) (suc k) p e = omega (arith, normals-set cs k p e)
+
+damaged-normal : (p : Packet) (q : ℕ) → isNormal (damaged p q) ≡ isNormal p
+damaged-normal Empty q = refl
+damaged-normal (NormalPacket p) q = refl
+damaged-normal (Checkp v) q = refl
+damaged-normal Resume q = refl
+damaged-normal (Recover v) q = refl
+damaged-normal (Fault p) q = refl
+damaged-normal Invalid q = refl
+
+damaged-empty : (p : Packet) (q : ℕ) → isEmpty (damaged p q) ≡ isEmpty p
+damaged-empty Empty q = refl
+damaged-empty (NormalPacket p) q = refl
+damaged-empty (Checkp v) q = refl
+damaged-empty Resume q = refl
+damaged-empty (Recover v) q = refl
+damaged-empty (Fault p) q = refl
+damaged-empty Invalid q = refl
+
+damaged-fits : (p : Packet) (q : ℕ) → q < 65536 → Fits p → Fits (damaged p q)
+damaged-fits Empty q l h = tt
+damaged-fits (NormalPacket p) q l h = xor-lt 16 (p .amount) q h l
+damaged-fits (Checkp v) q l h = tt
+damaged-fits Resume q l h = tt
+damaged-fits (Recover v) q l h = tt
+damaged-fits (Fault p) q l h = tt
+damaged-fits Invalid q l h = tt
+
+safe-fits : (p : Packet) → isNormal p ≡ false → Fits p
+safe-fits Empty e = tt
+safe-fits (NormalPacket p) e = absurd (false≢true (sym e))
+safe-fits (Checkp v) e = tt
+safe-fits Resume e = tt
+safe-fits (Recover v) e = tt
+safe-fits (Fault p) e = tt
+safe-fits Invalid e = tt
+
+fits-put : (p : Packet) → Fits p → (cs : List Cell) → ((k : ℕ) → FitsCell (getD cs k emptyCell)) → (k : ℕ) → FitsCell (getD (putCells cs p) k emptyCell)
+fits-put p f [] h k = h k
+fits-put p f (c ∷ cs) h k = go (λ j. fits-put p f cs (λ i. h (suc i)) j) (isEmpty (c .packet)) k
+  where
+    go : ((j : ℕ) → FitsCell (getD (putCells cs p) j emptyCell)) → (t : Bool) (k : ℕ) → FitsCell (getD (cond t (record { packet = p } ∷ cs) (c ∷ putCells cs p)) k emptyCell)
+    go ih true zero = f
+    go ih true (suc k) = h (suc k)
+    go ih false zero = h zero
+    go ih false (suc k) = ih k
+
+fits-pad : (cs : List Cell) → ((k : ℕ) → FitsCell (getD cs k emptyCell)) → (k : ℕ) → FitsCell (getD (cs ++ (emptyCell ∷ [])) k emptyCell)
+fits-pad [] h zero = tt
+fits-pad [] h (suc k) = tt
+fits-pad (c ∷ cs) h zero = h zero
+fits-pad (c ∷ cs) h (suc k) = fits-pad cs (λ i. h (suc i)) k
+
+fits-rest : (cs : List Cell) → ((k : ℕ) → FitsCell (getD cs k emptyCell)) → (k : ℕ) → FitsCell (getD (restCells cs) k emptyCell)
+fits-rest [] h k = h k
+fits-rest (c ∷ cs) h k = fits-pad cs (λ i. h (suc i)) k
+
+content-empty : (cs : List Cell) (k : ℕ) → isEmpty (getD cs k emptyCell .packet) ≡ true → content (set cs k emptyCell) ≡ content cs
+unfolding content
+content-empty [] k e = refl
+content-empty (c ∷ cs) zero e = rw (empty-is (c .packet) e)
+content-empty (c ∷ cs) (suc k) e = ap (packetOf (c .packet)) (content-empty cs k e)
+
+packed-empty : (cs : List Cell) (k : ℕ) → isEmpty (getD cs k emptyCell .packet) ≡ true → Packed cs → Packed (set cs k emptyCell)
+unfolding content Packed
+packed-empty [] k e h = h
+packed-empty (c ∷ cs) zero e h = ((λ _. h .0 e), h .1)
+packed-empty (c ∷ cs) (suc k) e h = ((λ x. content-empty cs k e ∙ h .0 x), packed-empty cs k e (h .1))
+
+-- nothing changes where no packet stands
+packed-damaged : (cs : List Cell) (k q : ℕ) → Packed cs → Packed (set cs k (record { packet = damaged (getD cs k emptyCell .packet) q }))
+packed-damaged cs k q h = go (isEmpty (getD cs k emptyCell .packet)) refl
+  where
+    go : (t : Bool) → isEmpty (getD cs k emptyCell .packet) ≡ t → Packed (set cs k (record { packet = damaged (getD cs k emptyCell .packet) q }))
+    go true e = rw (empty-is (getD cs k emptyCell .packet) e) (packed-empty cs k e h)
+    go false e = packed-set cs k _ (damaged-empty (getD cs k emptyCell .packet) q ∙ e) e h
+
+-- ---- together
+
+shaped-alarmed : (c : Cabinet) (i : ℕ) (p : Place) → Shaped c → Shaped (alarmed c i p)
+shaped-alarmed c i p h = let s = length-struck i p c h in search
+
+lined-put : (l : Line) (p : Packet) → Fits p → normals l + cond (isNormal p) 1 0 ≤ 8 → Lined l → Lined (put l p)
+lined-put l p f few h = record {
+  twelve = length-put p (l .cells) ∙ h .twelve;
+  packed = packed-put p (l .cells) (h .packed);
+  few = omega (arith, normals-put p (l .cells));
+  fits = fits-put p f (l .cells) (h .fits);
+}
+
+nothing-lined : Lined emptyLine
+unfolding Packed content
+nothing-lined = record {
+  twelve = refl;
+  packed = (
+    (λ _. refl),
+    (
+      (λ _. refl),
+      (
+        (λ _. refl),
+        (
+          (λ _. refl),
+          (
+            (λ _. refl),
+            (
+              (λ _. refl),
+              (
+                (λ _. refl),
+                (
+                  (λ _. refl),
+                  (
+                    (λ _. refl),
+                    ((λ _. refl), ((λ _. refl), ((λ _. refl), tt))),
+                  ),
+                ),
+              ),
+            ),
+          ),
+        ),
+      ),
+    ),
+  );
+  few = omega arith;
+  fits = λ k. getD-repeated FitsCell 12 k emptyCell emptyCell tt tt;
+}
+
+pub shaped : Closed Shaped Lined Pictured
+shaped = record {
+  gone = record {
+    cabs = refl;
+    links = refl;
+    come = refl;
+    saved = refl;
+    restored = refl;
+    heard = refl;
+    sent = refl;
+    taken = refl;
+    hurt = refl;
+    owed = refl;
+    image = record { octets = refl; small = λ i. getD-repeated Small 32 i 0 0 (omega arith) (omega arith) };
+  };
+  sending = λ c j p l h.
+      let m = pictured-booked (c .image) (booked (c .image) - p .amount) (omega (arith, booked-lt (c .image) (h .image))) (h .image) in search length-set;
+  noting = λ c k q l h. let m = pictured-set (c .image) k q l (h .image) in search length-set;
+  taking = λ c j p h. let m = pictured-booked (c .image) ((booked (c .image) + p .amount) % 65536) (omega arith) (h .image) in search length-set;
+  hurtFrom = λ c j h. search length-set;
+  beginning = λ c h. let r = length-restart 8 (inUse c) (c .registers .sent) ∙ h .sent in search;
+  comparing = λ c j h. search length-set;
+  stated = λ c s h. search;
+  wrote = shaped-wrote;
+  owing = λ c j o h. search length-set;
+  savedFor = λ c j h. search length-set;
+  resuming = λ c v h. search;
+  alarmed = shaped-alarmed;
+  hearing = λ c j h. search length-set;
+  recovering = λ c v h. search;
+  fetched = shaped-fetched;
+  restoredFor = λ c j h. search length-set;
+  imaged = λ c h. h .image;
+  pieced = λ k from to f t. pictured-piece 8 k from to f t;
+  noPackets = nothing-lined;
+  less = λ l h. record {
+    twelve = length-rest (l .cells) ∙ h .twelve;
+    packed = packed-rest (l .cells) (h .packed);
+    few = omega (arith, normals-rest (l .cells), h .few);
+    fits = fits-rest (l .cells) (h .fits);
+  };
+  more = λ l p s h. lined-put l p (safe-fits p s) (rw s (omega (arith, h .few))) h;
+  sends = λ l p a room h. lined-put l (NormalPacket p) a (omega arith) h;
+  damages = λ l k q a h. record {
+    twelve = length-set (l .cells) k _ ∙ h .twelve;
+    packed = packed-damaged (l .cells) k q (h .packed);
+    few = omega (arith, h .few, normals-set (l .cells) k (damaged (packetAt l k) q) (damaged-normal (packetAt l k) q));
+    fits = λ j. getD-set FitsCell (l .cells) k j _ emptyCell (damaged-fits (packetAt l k) q a (h .fits k)) (h .fits j);
+  };
+}

@@ -1,0 +1,115 @@
+-- A group seen as functions of cabinet numbers: what the invariant of demand 3 speaks of. List lengths and empty cells stay behind
+-- the view. What a cabinet holds of itself is its `Own`, what it holds of another cabinet is its `Side` towards that one.
+use Prim.Native.Nat.{ℕ}
+use mathlib.Core.Bool.{Bool, cond, not, _&&_}
+use mathlib.Core.List.{List, [], _∷_}
+use lib.ListN.{getD}
+use Rattle.marks.specs.Marks.{marked}
+use Rattle.marks.specs.Reach.{mark}
+use Rattle.line.specs.declared.Check.{Check}
+use Rattle.line.specs.declared.Packet.{Packet}
+use Rattle.line.specs.declared.Packet.the-variants.{Empty, Normal as NormalPacket, Checkp, Resume, Recover, Fault, Invalid}
+use Rattle.line.specs.declared.Cell.{Cell}
+use Rattle.line.specs.Packet.{startCheck}
+use Rattle.state.specs.declared.State.{State}
+use Rattle.state.specs.declared.Version.{Version}
+use Rattle.cabinet.specs.declared.Alarm.{Alarm}
+use Rattle.image.specs.declared.Image.{Image}
+use Rattle.cabinet.specs.declared.Cabinet.{Cabinet}
+use Rattle.group.specs.declared.Group.{Group}
+use Rattle.group.specs.Group.{cabinet, line, slot, rowsOf}
+use Rattle.protocol.specs.History.{upd}
+pub use Rattle.protocol.specs.Fifo.{packetOf}
+unfoldable pub use Rattle.protocol.specs.Fifo.{content}
+
+pub record Own : Type 0 where
+  pub state : State
+  pub version : Version
+  pub alarm : Alarm
+  pub pieces : ℕ
+  pub image : Image
+  pub home : ℕ
+  pub store : Bool
+
+pub record Side : Type 0 where
+  pub cab : Bool
+  pub link : Bool
+  pub come : Bool
+  pub saved : Bool
+  pub restored : Bool
+  pub heard : Bool
+  pub owed : Bool
+  pub hurt : Bool
+  pub put : Check
+  pub took : Check
+
+abbrev pub ownOf : Cabinet → Own
+ownOf c = record {
+  state = c .phase .state;
+  version = c .phase .version;
+  alarm = c .phase .alarm;
+  pieces = c .noted .pieces;
+  image = c .image;
+  home = c .home;
+  store = c .store;
+}
+
+abbrev pub sideOf : Cabinet → ℕ → Side
+sideOf c j = record {
+  cab = marked (c .table .cabinets) j;
+  link = marked (c .table .links) j;
+  come = marked (c .noted .come) j;
+  saved = marked (c .noted .saved) j;
+  restored = marked (c .noted .restored) j;
+  heard = marked (c .noted .heard) j;
+  owed = marked (c .owed) j;
+  hurt = marked (c .registers .hurt) j;
+  put = getD (c .registers .sent) j startCheck;
+  took = getD (c .registers .taken) j startCheck;
+}
+
+-- the line towards the other is in use
+abbrev pub used : Side → Bool
+used s = s .link && s .cab
+
+pub record View : Type 0 where
+  pub own : ℕ → Own
+  pub side : ℕ → ℕ → Side
+  pub lines : ℕ → ℕ → List Packet
+  pub slots : ℕ → Bool → Image
+  pub sound : ℕ → ℕ → Bool
+
+abbrev pub view : Group → View
+view g = record {
+  own = λ i. ownOf (cabinet g i);
+  side = λ i. sideOf (cabinet g i);
+  lines = λ a b. content (line g a b .cells);
+  slots = slot g;
+  sound = mark (rowsOf (g .sound));
+}
+
+-- ---- the stores
+
+abbrev pub setCabinet : View → ℕ → Own → (ℕ → Side) → View
+setCabinet v i o s = record { own = upd (v .own) i o; side = upd (v .side) i s; lines = v .lines; slots = v .slots; sound = v .sound }
+
+abbrev pub setLines : View → ℕ → (ℕ → List Packet) → View
+setLines v i f = record { own = v .own; side = v .side; lines = upd (v .lines) i f; slots = v .slots; sound = v .sound }
+
+abbrev pub setLine : View → ℕ → ℕ → List Packet → View
+setLine v a b l = setLines v a (upd (v .lines a) b l)
+
+abbrev pub same : Bool → Bool → Bool
+same a b = cond a b (not b)
+
+abbrev pub setSlot : View → ℕ → Bool → Image → View
+setSlot v i x m = record {
+  own = v .own;
+  side = v .side;
+  lines = v .lines;
+  slots = upd (v .slots) i (λ y. cond (same x y) m (v .slots i y));
+  sound = v .sound;
+}
+
+abbrev pub setSound : View → (ℕ → ℕ → Bool) → View
+setSound v s = record { own = v .own; side = v .side; lines = v .lines; slots = v .slots; sound = s }

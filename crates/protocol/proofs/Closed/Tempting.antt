@@ -1,0 +1,32 @@
+-- The runs of `specs/Tempting`, all of them at once, by computation.
+use mathlib.Core.Path.{_≡_, refl}
+use mathlib.Core.Bool.{false}
+use mathlib.Core.List.{_++_}
+use Rattle.crc.specs.Crc.{crcBit, crcBits, crcOctet, crcFrom, crc, amountOctets}
+use Rattle.marks.specs.Marks.{lowest, covers, both}
+use Rattle.marks.specs.Reach.{struck, connected}
+use Rattle.line.specs.Packet.{isEmpty}
+use Rattle.line.specs.Line.{oldest}
+use Rattle.outgoing.specs.Lines.{emptyLines, lineTo, withLineTo, putAll, putCheckps}
+use Rattle.group.specs.Group.{cabinet, withCabinet, outgoing, withOutgoing, line, withLine, blankSlots, slot, withSlots, withSlot, rowsOf, ofRows, withSound, some, working, recoveringOnes, unsure, isCrashed, crashAll}
+use Rattle.load.specs.Load.{load}
+use Rattle.protocol.specs.Moves.{broadcast, join, cutIfAll, takeCheckp, resumeWith, commit, adopt, recoverWith, raise, enterError, hear, findLinkFault, markFailed, alarmTo, endRecovery}
+use Rattle.protocol.specs.Receive.{receiveNormal, receiveCheckp, receiveResume, receiveRecover, receiveFault, receiveInvalid}
+use Rattle.protocol.specs.Kinds.{sent, sendStep, noteStep, beginStep, delivered, deliverStep, writePiece, writeStep, reportSaved, commitIfAll, savedStep, fetchPiece, fetchStep, reportRestored, endIfAll, restoredStep, waitOverStep, failStep, hurt, damageStep}
+use Rattle.protocol.specs.Entry.{step, stepAll, answersFrom}
+use Rattle.protocol.specs.Tempting.{linkParts, answered, AllAsWritten}
+
+-- every record of every run gets the answer that the paper gives
+pub runs-answered : AllAsWritten
+unfolding crcBit crcBits crcOctet crcFrom lowest covers both struck connected emptyLines lineTo withLineTo putAll putCheckps cabinet withCabinet outgoing withOutgoing line withLine blankSlots slot withSlots withSlot rowsOf ofRows withSound some working recoveringOnes unsure isCrashed crashAll load broadcast join cutIfAll takeCheckp resumeWith commit adopt recoverWith raise enterError hear findLinkFault markFailed alarmTo endRecovery receiveNormal receiveCheckp receiveResume receiveRecover receiveFault receiveInvalid sent sendStep noteStep beginStep delivered deliverStep writePiece writeStep reportSaved commitIfAll savedStep fetchPiece fetchStep reportRestored endIfAll restoredStep waitOverStep failStep hurt damageStep step answersFrom answered
+runs-answered = (refl, refl, refl, refl, refl, refl, refl, refl, refl, refl, refl, refl, refl, refl, refl, refl, refl, refl, refl, refl)
+
+-- what `hurtTwice` asks for would not be seen by a comparison
+pub same-value : crc (amountOctets 30 ++ amountOctets 20) ≡ crc (amountOctets 31 ++ amountOctets 13093)
+unfolding crcBit crcBits crcOctet crcFrom
+same-value = refl
+
+-- "crash .. does nothing else": the packet whose delivery crashes the group stays in its line
+pub packet-stays : isEmpty (oldest (line (stepAll (load (linkParts .file) .group) (linkParts .records)) 0 1)) ≡ false
+unfolding lowest covers both struck connected emptyLines lineTo withLineTo putCheckps cabinet withCabinet outgoing withOutgoing line withLine rowsOf ofRows some working recoveringOnes isCrashed crashAll load join cutIfAll findLinkFault receiveInvalid beginStep delivered deliverStep hurt damageStep step stepAll
+packet-stays = refl
