@@ -5,10 +5,6 @@
 use libc::STDOUT_FILENO;
 ghost use Prim.Native.Nat.{_+_, _*_, _<_, _≤_};
 ghost use mathlib.Core.Path.{_≡_};
-ghost use lib.ListN.{take};
-ghost use Rattle.io.specs.Counts.{Counts};
-ghost use Rattle.protocol.specs.Listing.{listing};
-ghost use Rattle.cases.specs.Tests.{Decides, Held};
 
 // A proved loop has to end, and nothing says that a file does.
 const CASES_MOST: u64 = 1000000;
@@ -49,45 +45,17 @@ fn sizes_in(head: [u8; 12]) -> Sizes {
     Sizes { file, list, text }
 }
 
-// n, or the buffer's length if that is less, with the facts that `&buffer[..n]` asks for.
-fn within(n: usize, buffer: &[u8]) -> usize
-    ensures { λ r. ⌜ Counts r (now (buffer .entry)) ⌝ }
-    ensures { λ r. ⌜ take r (now (buffer .entry)) ≡ take n (now (buffer .entry)) ⌝ }
-{
-    if n < buffer.len() { n } else { buffer.len() }
-}
-
 // Reads n octets to the start of the buffer; whether it has room for them and they were there.
 fn filled(fd: i32, buffer: &mut [u8], n: usize) -> bool {
-    let room = within(n, buffer);
+    let room = agreement::within(n, buffer);
     io::read_full(fd, &mut buffer[..room]) == n
 }
 
-// Whether the text stands at the buffer's start and has the length `end`.
-fn holds(buffer: &[u8], end: usize, text: &[u8]) -> bool
-    ensures { λ r. ⌜ Decides r (Held (now (buffer .entry)) end (now (text .entry))) ⌝ }
-{
-    if end == text.len() {
-        let stored = within(end, buffer);
-        return check::same(&buffer[..stored], text);
-    }
-    false
-}
-
-// Whether the library writes the expected text, octet by octet and no more.
-fn agrees(file: &[u8], list: &[u8], text: &[u8]) -> bool
-    ensures { λ r. ⌜ Decides r (now (text .entry) ≡ listing (now (file .entry)) (now (list .entry))) ⌝ }
-{
-    let mut out = [0u8; 200000];
-    let end = report::write_listing(file, list, &mut out);
-    holds(&out, end, text)
-}
-
 fn judged(file: &[u8], list: &[u8], text: &[u8], s: Sizes) -> Verdict {
-    let a = within(s.file, file);
-    let b = within(s.list, list);
-    let c = within(s.text, text);
-    if agrees(&file[..a], &list[..b], &text[..c]) {
+    let a = agreement::within(s.file, file);
+    let b = agreement::within(s.list, list);
+    let c = agreement::within(s.text, text);
+    if agreement::agrees(&file[..a], &list[..b], &text[..c]) {
         Verdict::Agrees
     } else {
         Verdict::Differs

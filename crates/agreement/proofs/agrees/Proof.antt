@@ -1,4 +1,4 @@
--- `cases::agrees` meets its contract: the library stores the whole listing at the start of a buffer that has room for it.
+-- `agreement::agrees` meets its contract: the library stores the whole listing at the start of a buffer that has room for it.
 use Prim.Native.Nat.{ℕ, _≤_}
 use mathlib.Core.Path.{_≡_, _∙_, sym}
 use mathlib.Core.Bool.{Bool}
@@ -8,9 +8,9 @@ use lib.Seq.{sets}
 use native.Mathlib.Omega.{arith}
 use borrow.Author.Needs.{needs}
 use Rattle.buffer.proofs.Texts.{at-start}
-use Rattle.cases.specs.Tests.{Decides, Held}
-use Rattle.cases.proofs.agrees.Statement.{statement}
-use Rattle.cases.proofs.agrees.Tie as tie
+use Rattle.agreement.specs.Tests.{Decides, Held}
+use Rattle.agreement.proofs.agrees.Statement.{statement}
+use Rattle.agreement.proofs.agrees.Tie as tie
 
 decided : (r : Bool) (whole text before after : List ℕ) (end : ℕ) → end ≡ length whole → after ≡ sets before 0 whole → end ≤ length before
     → Decides r (Held after end text) → Decides r (text ≡ whole)

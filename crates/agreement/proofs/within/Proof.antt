@@ -1,4 +1,4 @@
--- `cases::within` meets its contract: the answer is at most the buffer's length, so that a prefix of that length exists.
+-- `agreement::within` meets its contract: the answer is at most the buffer's length, so that a prefix of that length exists.
 use mathlib.Core.Path.{_≡_, _∙_, refl, sym}
 use Prim.Native.Nat.{ℕ, _≤_, _<_}
 use mathlib.Core.List.{List}
@@ -6,8 +6,8 @@ use native.Mathlib.Omega.{arith}
 use lib.ListN.{length, take}
 use lib.Seq.{length-take-le, take-all, take-length}
 use Rattle.io.specs.Counts.{Counts}
-use Rattle.cases.proofs.within.Statement.{statement}
-use Rattle.cases.proofs.within.Tie as tie
+use Rattle.agreement.proofs.within.Statement.{statement}
+use Rattle.agreement.proofs.within.Tie as tie
 
 counts : (n : ℕ) (xs : List ℕ) → n ≤ length xs → Counts n xs
 counts n xs h = (h, sym (length-take-le n xs h))

@@ -1,4 +1,4 @@
--- `cases::holds` meets its contract: `same` decides whether the stored octets are the text, where the lengths agree.
+-- `agreement::holds` meets its contract: `same` decides whether the stored octets are the text, where the lengths agree.
 use Prim.Native.Nat.{ℕ}
 use mathlib.Core.Path.{_≡_, _∙_, sym}
 use mathlib.Core.Bool.{Bool, true, false}
@@ -6,9 +6,9 @@ use mathlib.Core.List.{List}
 use lib.ListN.{length, take}
 use native.Mathlib.Omega.{arith}
 use borrow.Author.Needs.{needs}
-use Rattle.cases.specs.Tests.{Decides, Held}
-use Rattle.cases.proofs.holds.Statement.{statement}
-use Rattle.cases.proofs.holds.Tie as tie
+use Rattle.agreement.specs.Tests.{Decides, Held}
+use Rattle.agreement.proofs.holds.Statement.{statement}
+use Rattle.agreement.proofs.holds.Tie as tie
 
 by-octets : (r : Bool) (buffer text : List ℕ) (end stored : ℕ) → end ≡ length text → take stored buffer ≡ take end buffer
     → (r ≡ true → take stored buffer ≡ text) × (take stored buffer ≡ text → r ≡ true) → Decides r (Held buffer end text)

@@ -1,4 +1,4 @@
--- What the tests of the program decide.
+-- What the tests of the crate decide.
 use Prim.Native.Nat.{ℕ}
 use mathlib.Core.Path.{_≡_}
 use mathlib.Core.Bool.{Bool, true}
