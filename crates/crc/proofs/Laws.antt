@@ -60,11 +60,6 @@ pub octet-lt : (r x : ℕ) → crcOctet r x < 65536
 unfolding crcOctet crcBits
 octet-lt r x = bit-lt _
 
-pub from-lt : (xs : List ℕ) (r : ℕ) → r < 65536 → crcFrom r xs < 65536
-unfolding crcFrom
-from-lt [] r below = below
-from-lt (x ∷ xs) r below = from-lt xs (crcOctet r x) (octet-lt r x)
-
 -- Nothing is lost: the polynomial is odd, so the bit that fell out can be read at the low end
 
 fallen-out : (a : ℕ) → crcBit a % 2 ≡ a / 32768 % 2

@@ -30,15 +30,15 @@ unfoldable pub crcFrom : ℕ → List ℕ → ℕ
 crcFrom r [] = r
 crcFrom r (x ∷ xs) = crcFrom (crcOctet r x) xs
 
--- "the check value" of a list of octets
+-- "The check value" of a list of octets
 abbrev pub crc : List ℕ → ℕ
 crc xs = crcFrom start xs
 
--- "a normal packet is three octets: 0x00, then the amount", high octet first
+-- "A normal packet is three octets: 0x00, then the amount", high octet first
 abbrev pub amountOctets : ℕ → List ℕ
 amountOctets m = 0 ∷ m / 256 ∷ m % 256 ∷ []
 
--- "it runs over the octets of normal packets": those of a list of amounts, in order
+-- "It runs over the octets of normal packets": those of a list of amounts, in order
 unfoldable pub amountsOctets : List ℕ → List ℕ
 amountsOctets [] = []
 amountsOctets (m ∷ ms) = amountOctets m ++ amountsOctets ms

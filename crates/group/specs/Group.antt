@@ -1,14 +1,13 @@
 -- The whole group: one accessor and one store function for each component, and what is asked of all cabinets at once.
 -- Those marked `unfoldable` stay shut unless unfolded, so that a caller's goal names them and does not spell them out.
-use Prim.Native.Nat.{ℕ, zero, suc}
-use mathlib.Core.Bool.{Bool, true, false, cond, _&&_}
+use Prim.Native.Nat.{ℕ, zero}
+use mathlib.Core.Bool.{Bool, cond, _&&_}
 use mathlib.Core.List.{List, [], _∷_}
-use lib.ListN.{getD, set, replicate}
+use lib.ListN.{getD, set}
 use lib.Dec.{ltb}
 use Rattle.marks.specs.Marks.{Marks, lowest, noMarks}
 use Rattle.marks.specs.Reach.{Rows}
 use Rattle.line.specs.declared.Line.{Line}
-use Rattle.line.specs.Line.{emptyLine}
 use Rattle.state.specs.declared.State.{State}
 use Rattle.state.specs.declared.State.the-variants.{Error, Crashed}
 use Rattle.image.specs.declared.Image.{Image}

@@ -1,7 +1,7 @@
 -- Document 01, "The group": a line is first in, first out, and holds at most 12 packets.
 -- Its cells are a list of 12; the packets stand first, oldest first, and the empty cells after them.
-use Prim.Native.Nat.{ℕ, zero, suc, _+_}
-use mathlib.Core.Bool.{Bool, true, false, cond}
+use Prim.Native.Nat.{ℕ, suc, _+_}
+use mathlib.Core.Bool.{cond}
 use mathlib.Core.List.{List, [], _∷_, _++_}
 use lib.ListN.{getD, set, replicate}
 use Rattle.line.specs.declared.Packet.{Packet}

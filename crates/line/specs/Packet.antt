@@ -55,7 +55,7 @@ isNormal (Recover v) = false
 isNormal (Fault p) = false
 isNormal Invalid = false
 
--- damage: the pattern XORed on a normal amount; "a fail-safe packet hit by damage is invalid"
+-- damage: the pattern XORed on a normal amount; "A fail-safe packet hit by damage is invalid"
 abbrev pub damaged : Packet → ℕ → Packet
 damaged Empty q = Empty
 damaged (Normal p) q = Normal (record { amount = bitXor (p .amount) q })

@@ -2,16 +2,16 @@
 use Prim.Native.Nat.{ℕ, zero, suc, _+_, _-_, _*_, _≤_, _<_}
 use mathlib.Core.Path.{_≡_, refl, sym, _∙_, ap}
 use mathlib.Core.Bool.{Bool, true, false, cond, _&&_, and-eq-true-iff}
-use mathlib.Core.List.{List, [], _∷_}
+use mathlib.Core.List.{List, []}
 use mathlib.Core.Logic.{⊎-elim}
 use native.Mathlib.Omega.{arith}
 use native.Mathlib.Decide.{ℕ-discrete, decLt}
 use native.Mathlib.Nat.{eq-or-lt-of-le}
-use lib.ListN.{length, getD, replicate, List·getD-eq-default}
+use lib.ListN.{length, getD, List·getD-eq-default}
 use lib.Dec.{leb, ltb, eqb, lit<}
-use borrow.Author.Tests.{lt-ltb, le-ltb, leb-true, eqb-true, eq-eqb, ne-eqb}
-use Rattle.marks.specs.Marks.{Marks, marked, noMarks}
-use Rattle.marks.specs.Reach.{Rows, mark, connected}
+use borrow.Author.Tests.{lt-ltb, le-ltb, leb-true, eq-eqb, ne-eqb}
+use Rattle.marks.specs.Marks.{marked, noMarks}
+use Rattle.marks.specs.Reach.{Rows, mark}
 use Rattle.line.specs.Line.{emptyLine}
 use Rattle.image.specs.declared.Image.{Image}
 use Rattle.cabinet.specs.declared.Cabinet.{Cabinet}
@@ -23,8 +23,8 @@ use Rattle.group.specs.declared.Slots.{Slots}
 use Rattle.group.specs.declared.Group.{Group}
 use Rattle.group.specs.declared.Outcome.{Outcome}
 use Rattle.outgoing.specs.Lines.{emptyLines, lineTo}
-use Rattle.group.specs.Group.{cabinet, outgoing, line, blankSlots, slot, rowAt, rowsOf, ofRows, working, answering}
-use Rattle.load.specs.Load.{cabinetCount, linkCount, homeOf, storeMark, bookingOf, cabinetRight, cabinetsRight, linkRows, rowsIn, present, bookings, feederTotal, loadRefusal, imageOf, startingCabinet, cabinetOf, cabinetsOf, slotsOf, storeOf, groupOf, noGroup, loadWith, load}
+use Rattle.group.specs.Group.{cabinet, outgoing, line, blankSlots, slot, rowsOf, ofRows, working, answering}
+use Rattle.load.specs.Load.{cabinetCount, linkCount, homeOf, storeMark, bookingOf, cabinetRight, cabinetsRight, rowsIn, present, bookings, loadRefusal, imageOf, startingCabinet, cabinetOf, cabinetsOf, slotsOf, storeOf, groupOf, noGroup, loadWith, load}
 use Rattle.load.specs.Starts.{bookedTo, Starts}
 use Rattle.load.proofs.Lists.{eight, made, read-back, repeated, chosen, other}
 use Rattle.marks.proofs.Lists.{getD-in}

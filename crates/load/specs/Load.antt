@@ -1,17 +1,16 @@
 -- Document 01, "The group file" and the refusals of a load: a file's octets to the group, lines and store, or a number 1 to 7.
-use Prim.Native.Nat.{ℕ, zero, suc, _+_, _-_, _*_, _/_, _%_}
-use mathlib.Core.Bool.{Bool, true, false, cond, not, _&&_, _||_}
+use Prim.Native.Nat.{ℕ, zero, suc, _+_, _-_, _*_}
+use mathlib.Core.Bool.{Bool, true, false, cond, _&&_}
 use mathlib.Core.List.{List, [], _∷_}
 use lib.ListN.{length, getD, set, replicate}
 use lib.Dec.{eqb, ltb, leb}
-use Rattle.marks.specs.Marks.{Marks, marked, noMarks}
-use Rattle.marks.specs.Reach.{Rows, mark, connected}
+use Rattle.marks.specs.Marks.{Marks, noMarks}
+use Rattle.marks.specs.Reach.{Rows, connected}
 use Rattle.state.specs.declared.State.the-variants.{Normal}
 use Rattle.state.specs.declared.Version.the-variants.{Known}
 use Rattle.cabinet.specs.declared.Alarm.the-variants.{Quiet}
 use Rattle.image.specs.declared.Image.{Image}
 use Rattle.cabinet.specs.declared.Cabinet.{Cabinet}
-use Rattle.outgoing.specs.declared.Outgoing.{Outgoing}
 use Rattle.group.specs.declared.Slots.{Slots}
 use Rattle.group.specs.declared.Group.{Group}
 use Rattle.group.specs.declared.Outcome.{Outcome}

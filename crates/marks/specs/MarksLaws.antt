@@ -41,10 +41,6 @@ module _ (test : ℕ → Bool) where
       (λ f l. ⊎-elim (λ q. ap test (sym q) ∙ f) (λ m. lowestFrom-least n (i + 1) (omega arith) k (omega arith) l) (eq-or-lt-of-le from))
       h
 
-pub lowest-le-eight : (m : Marks) → lowest m ≤ 8
-unfolding lowest
-lowest-le-eight m = lowestFrom-le-eight (marked m) 8 0 refl
-
 pub lowest-marked : (m : Marks) → lowest m < 8 → marked m (lowest m) ≡ true
 unfolding lowest
 lowest-marked m h = lowestFrom-passes (marked m) 8 0 h

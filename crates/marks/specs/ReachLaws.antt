@@ -1,8 +1,8 @@
 -- Laws of the reach check (exactly those are reached that a path over working neighbours leads to) and of a struck link.
 use Prim.Native.Nat.{ℕ, zero, suc, _≤_, _<_}
 use mathlib.Core.Path.{_≡_, refl, sym, _∙_, ap}
-use mathlib.Core.Bool.{Bool, true, false, cond, not, _&&_, _||_}
-use mathlib.Core.List.{List, [], _∷_}
+use mathlib.Core.Bool.{Bool, true, false, not, _&&_, _||_}
+use mathlib.Core.List.{[], _∷_}
 use mathlib.Core.Logic.{_⊎_, inl, inr, ⊎-elim}
 use lib.ListN.{length, getD, set, length-set, getD-replicate, List·getD-eq-default}
 use lib.Seq.{getD-set-same, getD-set-other}
@@ -11,7 +11,7 @@ use borrow.Author.Tests.{ltb-true, ltb-false}
 use native.Mathlib.Decide.{ℕ-discrete, decLt}
 use native.Mathlib.Nat.{eq-or-lt-of-le}
 use native.Mathlib.Omega.{arith}
-use Rattle.marks.specs.Marks.{Marks, marked, noMarks, lowestFrom, lowest}
+use Rattle.marks.specs.Marks.{Marks, marked, noMarks, lowest}
 use Rattle.marks.specs.Reach.{Rows, mark, cleared, struck, touched, fresh, next, spread, unseen, first, reached, connected}
 use Rattle.marks.specs.MarksLaws.{cond-elim, never-both, true-unless, lowestFrom-passes, lowestFrom-least, lowest-le-marked, covers-has, has-covers}
 

@@ -156,12 +156,6 @@ sum-at f g a (suc n) l h = elim (ℕ-discrete n a) [
   | no d ↦ omega (arith, sum-at f g a n (omega arith) h, h n d)
 ]
 
-pub sum-ge : (f : ℕ → ℕ) (a n : ℕ) → a < n → f a ≤ sum f n
-unfolding sum
-sum-ge f a zero l = omega arith
-sum-ge f a (suc n) l = elim (ℕ-discrete n a)
-    [ yes e ↦ rw (← e) (omega arith) | no d ↦ omega (arith, sum-ge f a n (omega arith)) ]
-
 pub sum-add : (f g : ℕ → ℕ) (n : ℕ) → sum (λ i. f i + g i) n ≡ sum f n + sum g n
 unfolding sum
 sum-add f g zero = refl

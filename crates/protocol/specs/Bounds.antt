@@ -2,12 +2,13 @@
 -- too short is in `Fifo`.
 use Prim.Native.Nat.{ℕ, _+_, _<_, _≤_}
 use mathlib.Core.Path.{_≡_}
-use mathlib.Core.Bool.{true, false, cond}
+use mathlib.Core.Bool.{true, false}
 use mathlib.Core.List.{List, [], _∷_}
+use lib.ListN.{length}
 use Rattle.line.specs.declared.Payload.{Payload}
-use Rattle.line.specs.declared.Packet.the-variants.{Normal as NormalPacket}
+use Rattle.line.specs.declared.Packet.{Packet}
+use Rattle.line.specs.declared.Packet.the-variants.{Empty, Normal as NormalPacket, Checkp, Resume, Recover, Fault, Invalid}
 use Rattle.line.specs.declared.Cell.{Cell}
-use Rattle.line.specs.Packet.{isEmpty}
 use Rattle.line.specs.Line.{oldest, normals}
 use Rattle.image.specs.Image.{booked}
 use Rattle.group.specs.declared.Group.{Group}
@@ -17,20 +18,40 @@ use Rattle.protocol.specs.Receive.{takesFrom}
 use Rattle.protocol.specs.History.{History}
 use Rattle.protocol.specs.Restored.{Octets, Records, worldAfter}
 
+-- ---- the packets of a line, oldest first
+
+abbrev pub packetOf : Packet → List Packet → List Packet
+packetOf Empty l = l
+packetOf (NormalPacket p) l = NormalPacket p ∷ l
+packetOf (Checkp v) l = Checkp v ∷ l
+packetOf Resume l = Resume ∷ l
+packetOf (Recover v) l = Recover v ∷ l
+packetOf (Fault p) l = Fault p ∷ l
+packetOf Invalid l = Invalid ∷ l
+
+unfoldable pub content : List Cell → List Packet
+content [] = []
+content (c ∷ cs) = packetOf (c .packet) (content cs)
+
+abbrev pub packets : Group → ℕ → ℕ → List Packet
+packets g a b = content (line g a b .cells)
+
+-- ---- what is asked of every run
+
 -- of the group and its history after every list of step records from a freshly loaded file
 abbrev pub Always : (Group → History → Type 0) → Type 0
 Always P =
     (f : List ℕ) → Octets f → load f .answer ≡ 0 → (rs : List (List ℕ)) → Records rs → P (worldAfter f rs .group) (worldAfter f rs .history)
 
--- ---- lines
+-- of every group that has not crashed, and its history
+abbrev pub Running : (Group → History → Type 0) → Type 0
+Running P = Always (λ g h. isCrashed g ≡ false → P g h)
 
-abbrev pub packetsIn : List Cell → ℕ
-packetsIn [] = 0
-packetsIn (c ∷ cs) = cond (isEmpty (c .packet)) 0 1 + packetsIn cs
+-- ---- lines
 
 -- "each direction is a line, first in, first out, of at most 12 packets, at most 8 of them normal"
 abbrev pub LinesBounded : Type 0
-LinesBounded = Always (λ g h. (a b : ℕ) → (packetsIn (line g a b .cells) ≤ 12) × (normals (line g a b) ≤ 8))
+LinesBounded = Always (λ g h. (a b : ℕ) → (length (packets g a b) ≤ 12) × (normals (line g a b) ≤ 8))
 
 -- ---- amounts
 
@@ -38,7 +59,7 @@ LinesBounded = Always (λ g h. (a b : ℕ) → (packetsIn (line g a b .cells) �
 -- start or the end of the last recovery": b adds p, the oldest packet from a
 abbrev pub NeverWraps : Type 0
 NeverWraps =
-    Always (λ g h.
-    isCrashed g ≡ false → h .hurt ≡ false
+    Running (λ g h.
+    h .hurt ≡ false
     → (a b : ℕ) (p : Payload) → oldest (line g a b) ≡ NormalPacket p → takesFrom (cabinet g b) a ≡ true
     → booked (cabinet g b .image) + p .amount < 65536)

@@ -2,7 +2,7 @@
 -- free place". `lineAfter` is what a line without bounds would hold after a taken step: what it held, less what is taken off, and then what
 -- the rules put. It reads the cabinets before the step and after it, and the step; it knows no cells and no number of places.
 -- In a step cabinets count from 1, everywhere else here from 0.
-use Prim.Native.Nat.{ℕ, zero, suc, _-_}
+use Prim.Native.Nat.{ℕ, suc, _-_}
 use mathlib.Core.Path.{_≡_}
 use mathlib.Core.Bool.{Bool, true, false, cond, not, _&&_, _||_}
 use mathlib.Core.List.{List, [], _∷_, _++_}
@@ -10,8 +10,7 @@ use lib.ListN.{getD, set, drop}
 use lib.Dec.{eqb}
 use Rattle.marks.specs.Marks.{marked}
 use Rattle.line.specs.declared.Packet.{Packet}
-use Rattle.line.specs.declared.Packet.the-variants.{Empty, Normal as NormalPacket, Checkp, Resume, Recover, Fault, Invalid}
-use Rattle.line.specs.declared.Cell.{Cell}
+use Rattle.line.specs.declared.Packet.the-variants.{Empty, Normal as NormalPacket, Checkp, Resume, Recover, Fault}
 use Rattle.line.specs.Packet.{startCheck, damaged, isEmpty}
 use Rattle.line.specs.Line.{packetAt}
 use Rattle.state.specs.declared.State.the-variants.{Normal, CheckpBegin, Checkpointing, Checkpointed, Error, Recovering}
@@ -29,25 +28,7 @@ use Rattle.protocol.specs.declared.Decoded.the-variants.{Taken}
 use Rattle.protocol.specs.Receive.{serving}
 use Rattle.protocol.specs.Entry.{decode, step}
 use Rattle.protocol.specs.Restored.{Octets, Records, worldAfter}
-use Rattle.protocol.specs.Bounds.{Always}
-
--- ---- the packets of a line, oldest first
-
-abbrev pub packetOf : Packet → List Packet → List Packet
-packetOf Empty l = l
-packetOf (NormalPacket p) l = NormalPacket p ∷ l
-packetOf (Checkp v) l = Checkp v ∷ l
-packetOf Resume l = Resume ∷ l
-packetOf (Recover v) l = Recover v ∷ l
-packetOf (Fault p) l = Fault p ∷ l
-packetOf Invalid l = Invalid ∷ l
-
-unfoldable pub content : List Cell → List Packet
-content [] = []
-content (c ∷ cs) = packetOf (c .packet) (content cs)
-
-abbrev pub packets : Group → ℕ → ℕ → List Packet
-packets g a b = content (line g a b .cells)
+use Rattle.protocol.specs.Bounds.{packets, Always}
 
 -- ---- what a step takes off a line, hits on it or sends over it
 

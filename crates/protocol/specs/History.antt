@@ -1,11 +1,10 @@
 -- Document 01, "Which save" and "Words of demand 3": the history of a run, a fold over the file and the records with what the
 -- rules make of them. Of the groups before and after a step it reads states, tables, homes, images, the packet that is taken or damaged,
 -- and which checkps have come; no version, slot, register, report, piece or fault place. In a step cabinets count from 1, here from 0.
-use Prim.Native.Nat.{ℕ, zero, suc, _+_, _-_}
+use Prim.Native.Nat.{ℕ, _+_, _-_}
 use mathlib.Core.Bool.{Bool, true, false, cond, not, _&&_}
 use mathlib.Core.List.{List, [], _∷_, _++_}
 use mathlib.Core.Option.{Option, none, some}
-use lib.ListN.{length}
 use lib.Dec.{eqb, ltb}
 use Rattle.marks.specs.Marks.{marked}
 use Rattle.line.specs.declared.Payload.{Payload}
@@ -66,8 +65,8 @@ pub record History : Type 0 where
   pub lost : ℕ → Option Image
   -- a normal packet was damaged since the start or the last recovery's end: no matter to demand 3, it is for `NeverWraps`
   pub hurt : Bool
-  -- what `Saves` speaks of, no matter to demand 3 either: a begin was taken since the start or the last recovery's end, and a save
-  -- committed since then stands, that is, was not passed over
+  -- what `Saves` speaks of, no matter to demand 3 either: a begin was taken since the start or the last recovery's end; a save was
+  -- committed since then, and the last one was not passed over, so that it is the newest
   pub begun : Bool
   pub standing : Bool
 
@@ -82,12 +81,26 @@ startCut g i = cond (ltb i (g .n)) (some (record { image = cabinet g i .image; s
 abbrev pub startSave : Group → Save
 startSave g = record { by = 8; cut = startCut g; known = true }
 
+-- what counts anew from the start and from every recovery's end
+abbrev pub fresh : List Save → Save → (ℕ → Option Image) → History
+fresh saves start lost = record {
+  sent = noLog;
+  taken = noLog;
+  cuts = λ i. none;
+  saves = saves;
+  start = start;
+  lost = lost;
+  hurt = false;
+  begun = false;
+  standing = false;
+}
+
 abbrev pub atStart : Group → History
-atStart g = record { sent = noLog; taken = noLog; cuts = λ i. none; saves = []; start = startSave g; lost = λ i. none; hurt = false; begun = false; standing = false }
+atStart g = fresh [] (startSave g) (λ i. none)
 
 -- ---- which save
 
--- "The last one committed before the recovery's end, or the start where there is none. If its coordinator failed before any working
+-- "the last one committed before the recovery's end, or the start where there is none. If its coordinator failed before any working
 -- cabinet took that resume or was restored from that save, the one before; the save passed over then counts as never committed."
 -- So `saves` never holds one passed over: it is dropped in the fail itself. While another cabinet works, only the newest can be one
 -- that nobody took or was restored from, so one at most is dropped.
@@ -154,12 +167,12 @@ noteTaken true h a b (Fault p) = h
 noteTaken true h a b Invalid = h
 noteTaken false h a b p = h
 
--- a resume taken in checkpointed, or the last piece fetched: it is the newest save's (`Saves.ResumeOfNewest`, `Saves.VersionsNameNewest`)
+-- a resume taken in checkpointed, or the last piece fetched: it is the newest save's (`Saves.ResumeOfNewest`, `Saves.FetchedOfNewest`)
 abbrev pub noteKnown : Bool → History → History
 noteKnown true h = withSaves h (markKnown (h .saves))
 noteKnown false h = h
 
--- "it flips its version, enters normal and puts resume everywhere: the commit": the coordinator goes from a saving state to normal
+-- "it flips its version, enters normal and puts resume everywhere: the commit": the coordinator goes from checkpointing or checkpointed to normal
 abbrev pub commits : Group → Group → ℕ → Bool
 commits g g′ k = inSaving (stateOf g k) && isIn (stateOf g′ k) Normal
 
@@ -188,17 +201,7 @@ lostNow h g i none = cond (works (stateOf g i)) none (imageIn (latest h .cut i))
 -- "Packets for a cut count from the start or the end of the last recovery before that save's begin": they count anew at every end,
 -- and a save begun before one has no cut after it (`Saves.CutsSinceBegin`). The cabinets failed since the last end have their image now.
 abbrev pub noteEnd : Bool → History → Group → History
-noteEnd true h g = record {
-  sent = noLog;
-  taken = noLog;
-  cuts = λ i. none;
-  saves = h .saves;
-  start = h .start;
-  lost = λ i. lostNow h g i (h .lost i);
-  hurt = false;
-  begun = false;
-  standing = false;
-}
+noteEnd true h g = fresh (h .saves) (h .start) (λ i. lostNow h g i (h .lost i))
 noteEnd false h g = h
 
 -- "a recovery ends in the step that takes a coordinator from recovered to normal": the coordinator in the table of cabinet j

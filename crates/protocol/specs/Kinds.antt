@@ -1,11 +1,10 @@
 -- The eleven kinds of step: of each its refusals, "the first in the order written", and what it does when it is taken.
 -- Cabinets are numbered from 0 here; the step entry has made checks 8 to 12.
-use Prim.Native.Nat.{ℕ, zero, suc, _+_, _-_}
+use Prim.Native.Nat.{ℕ}
 use mathlib.Core.Bool.{Bool, true, false, cond, not, _&&_, _||_}
-use mathlib.Core.List.{List}
-use lib.ListN.{getD, set}
+use lib.ListN.{set}
 use lib.Dec.{eqb, ltb, leb}
-use Rattle.marks.specs.Marks.{Marks, marked, covers}
+use Rattle.marks.specs.Marks.{marked, covers}
 use Rattle.marks.specs.Reach.{mark, connected}
 use Rattle.line.specs.declared.Place.the-variants.{Cabinet as AtCabinet, Link as AtLink}
 use Rattle.line.specs.declared.Packet.{Packet}
@@ -97,7 +96,7 @@ writePiece g a =
     (withPiece (cabinet g a .noted .pieces) (cabinet g a .image) (slot g a (not (bitOf (cabinet g a .phase .version))))))
     a (wrote (cabinet g a) a)
 
--- with piece 3 "the home then owes one saved report"
+-- with piece 3 "The home then owes one saved report"
 abbrev pub oweIf : Bool → Group → ℕ → ℕ → Group
 oweIf true g h a = withCabinet g h (owing (cabinet g h) a true)
 oweIf false g h a = g

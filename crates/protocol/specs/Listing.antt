@@ -1,8 +1,8 @@
 -- The listing: the whole text that the program prints for a group file and a file of step records.
-use Prim.Native.Nat.{ℕ, zero, suc, _+_, _*_, _/_, _%_}
+use Prim.Native.Nat.{ℕ, zero, suc, _+_, _/_, _%_}
 use Prim.Native.Char.{code}
 use Prim.Native.String.{String, [] as nothing, _∷_ as _then_}
-use mathlib.Core.Bool.{Bool, true, false, cond}
+use mathlib.Core.Bool.{cond}
 use mathlib.Core.List.{List, [], _∷_, _++_}
 use lib.ListN.{length, take, drop}
 use lib.Dec.{eqb, ltb}
@@ -17,7 +17,7 @@ use Rattle.state.specs.State.{works}
 use Rattle.image.specs.Image.{booked}
 use Rattle.group.specs.Group.{cabinet}
 use Rattle.load.specs.Load.{load}
-use Rattle.protocol.specs.Entry.{step}
+use Rattle.protocol.specs.Entry.{stepAll, answersFrom}
 
 -- a text is the list of its ASCII octets
 abbrev pub Text : Type 0
@@ -100,13 +100,17 @@ unfoldable pub records : ℕ → List ℕ → List (List ℕ)
 records zero s = []
 records (suc n) s = cond (eqb (length s) 0) [] (take 6 s ∷ records n (drop 6 s))
 
--- the steps from number k on, and the cabinets after the last
-unfoldable pub runFrom : ℕ → Group → List (List ℕ) → Text
-runFrom k g [] = cabLines (g .n) g
-runFrom k g (r ∷ rs) = let o = step g r in stepLine k (o .answer) ++ runFrom (suc k) (o .group) rs
+-- a line for each answer, the first with the number k
+abbrev pub stepLines : ℕ → List ℕ → Text
+stepLines k [] = []
+stepLines k (answer ∷ answers) = stepLine k answer ++ stepLines (suc k) answers
+
+-- the steps, and the cabinets after the last
+unfoldable pub runLines : Group → List (List ℕ) → Text
+runLines g rs = stepLines 1 (answersFrom g rs) ++ cabLines (stepAll g rs .n) (stepAll g rs)
 
 abbrev pub listingOf : Outcome → List ℕ → Text
-listingOf o steps = cond (eqb (o .answer) 0) (runFrom 1 (o .group) (records 10000 steps)) (loadLine (o .answer))
+listingOf o steps = cond (eqb (o .answer) 0) (runLines (o .group) (records 10000 steps)) (loadLine (o .answer))
 
 unfoldable pub listing : List ℕ → List ℕ → Text
 listing file steps = listingOf (load file) steps

@@ -4,7 +4,6 @@ use Prim.Native.Nat.{ℕ, zero, suc, _+_, _*_, _/_, _%_}
 use mathlib.Core.List.{List, [], _∷_, _++_}
 use lib.ListN.{length, replicate}
 use Rattle.crc.specs.Crc.{crc}
-use Rattle.group.specs.declared.Group.{Group}
 use Rattle.load.specs.Load.{load}
 use Rattle.protocol.specs.Entry.{step, stepAll}
 use Rattle.protocol.specs.Listing.{Text, ascii, listing}

@@ -1,11 +1,9 @@
 -- The moves that the rules of document 01 are made of, each once: what several kinds of step or packet have in common.
 use Prim.Native.Nat.{ℕ, zero, suc}
-use mathlib.Core.Bool.{Bool, true, false, cond, not, _&&_}
-use mathlib.Core.List.{List, [], _∷_}
+use mathlib.Core.Bool.{Bool, true, false, cond, _&&_}
 use lib.ListN.{set}
-use Rattle.marks.specs.Marks.{Marks, marked, covers}
-use Rattle.marks.specs.Reach.{Rows, struck, connected}
-use Rattle.line.specs.declared.Payload.{Payload}
+use Rattle.marks.specs.Marks.{marked}
+use Rattle.marks.specs.Reach.{struck, connected}
 use Rattle.line.specs.declared.Place.{Place}
 use Rattle.line.specs.declared.Place.the-variants.{Cabinet as AtCabinet}
 use Rattle.line.specs.declared.Packet.{Packet}
@@ -15,12 +13,11 @@ use Rattle.line.specs.Line.{emptyLine}
 use Rattle.state.specs.declared.State.the-variants.{Failed}
 use Rattle.state.specs.declared.Version.{Version}
 use Rattle.state.specs.declared.Version.the-variants.{Known, Unknown}
-use Rattle.cabinet.specs.declared.Cabinet.{Cabinet}
 use Rattle.group.specs.declared.Group.{Group}
 use Rattle.group.specs.declared.Outcome.{Outcome}
 use Rattle.state.specs.State.{flipped, adopted, works}
 use Rattle.cabinet.specs.Cabinet.{inUse, beginning, comparing, cutting, resuming, alarmed, hearing, recovering, withState}
-use Rattle.outgoing.specs.Lines.{emptyLines, withLineTo, putAll, putCheckps}
+use Rattle.outgoing.specs.Lines.{emptyLines, putAll, putCheckps}
 use Rattle.group.specs.Group.{cabinet, withCabinet, stateOf, outgoing, withOutgoing, withLine, rowsOf, withSound, working, taken, crashed}
 
 -- a packet on all lines in use of cabinet i
@@ -66,7 +63,7 @@ abbrev pub recoverIfKnown : Group → ℕ → Version → Group
 recoverIfKnown g i (Known v) = recoverWith g i v
 recoverIfKnown g i (Unknown v) = g
 
--- enter error: strike, empty every outgoing line, forget, put fault; "if the version is known, put recover with it"
+-- enter error: strike, empty every outgoing line, forget, put fault; "If the version is known, put recover with it"
 unfoldable pub raise : Group → ℕ → Place → Group
 raise g i p = broadcast (withOutgoing (withCabinet g i (alarmed (cabinet g i) i p)) i emptyLines) i (Fault p)
 

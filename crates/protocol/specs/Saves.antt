@@ -15,19 +15,15 @@ use Rattle.image.specs.declared.Image.{Image}
 use Rattle.state.specs.State.{works, isUnknown, bitOf}
 use Rattle.cabinet.specs.Cabinet.{inUse, coordinator}
 use Rattle.group.specs.declared.Group.{Group}
-use Rattle.group.specs.Group.{cabinet, stateOf, line, slot, isCrashed}
+use Rattle.group.specs.Group.{cabinet, stateOf, line, slot}
 use Rattle.load.specs.Load.{load, cabinetCount, feederTotal}
 use Rattle.protocol.specs.declared.Step.the-variants.{Saved}
 use Rattle.protocol.specs.declared.Decoded.the-variants.{Taken}
 use Rattle.protocol.specs.Kinds.{writeRefusal, fetchRefusal}
 use Rattle.protocol.specs.Entry.{decode, step}
-use Rattle.protocol.specs.History.{Cut, Save, History, World, advance, commits, latest, imageIn}
+use Rattle.protocol.specs.History.{Cut, Save, History, advance, commits, latest, imageIn}
 use Rattle.protocol.specs.Restored.{Octets, Records, worldAfter, Balanced, amperes}
-use Rattle.protocol.specs.Bounds.{Always}
-
--- of every group that has not crashed, and its history
-abbrev pub Running : (Group → History → Type 0) → Type 0
-Running P = Always (λ g h. isCrashed g ≡ false → P g h)
+use Rattle.protocol.specs.Bounds.{Running}
 
 -- ---- a commit
 
@@ -72,7 +68,7 @@ pub record TakesResume (g : Group) (a b : ℕ) : Type 0 where
   pub uses : marked (inUse (cabinet g b)) a ≡ true
   pub resume : oldest (line g a b) ≡ Resume
 
--- that save is the newest: it stands, and b has its cut in it. And b's version is unknown.
+-- that save was not passed over, so that it is the newest, x; b has its cut in it, and b's version is unknown
 abbrev pub ResumeOfNewest : Type 0
 ResumeOfNewest =
     Running (λ g h. (a b : ℕ) → TakesResume g a b
@@ -100,6 +96,6 @@ FetchedOfNewest =
 
 -- ---- which begin a cut belongs to
 
--- a save begun before a recovery's end has no cut after it: who is past its cut is so since a begin after that end
+-- a save begun before a recovery's end has no cut after it: whoever is in checkpointing is there since a begin after that end
 abbrev pub CutsSinceBegin : Type 0
 CutsSinceBegin = Running (λ g h. (c : ℕ) → stateOf g c ≡ Checkpointing → h .begun ≡ true)

@@ -7,7 +7,7 @@ use lib.ListN.{length, replicate}
 use Rattle.load.specs.Load.{load}
 use Rattle.protocol.specs.Entry.{answersFrom}
 use Rattle.protocol.specs.Marked.{rowOf, twoCabinets, recordOf, send, begin, deliver, fetch, restored, fail}
-use Rattle.protocol.specs.Examples.{fileOf, writes, saved, fetches, waitOver, damage}
+use Rattle.protocol.specs.Examples.{fileOf, note, writes, saved, fetches, waitOver, damage}
 
 -- a run, and the answers that the paper gives
 pub record Run : Type 0 where
@@ -122,6 +122,37 @@ hurtTwice = lastOf (twoCabinets 100 50) (send 1 2 30 ∷ send 1 2 20 ∷ damage 
 abbrev pub fullLine : Run
 fullLine = lastOf (twoCabinets 100 50) (replicate 8 (send 1 2 1)) (send 1 2 1) 17
 
+-- ---- "15 p outside 2 to 31 or q above 255"
+
+abbrev pub noteLow : Run
+noteLow = lastOf triangle [] (note 1 1 7) 15
+
+abbrev pub noteHigh : Run
+noteHigh = lastOf triangle [] (note 1 32 7) 15
+
+abbrev pub noteWide : Run
+noteWide = lastOf triangle [] (note 1 2 256) 15
+
+-- ---- "19 home in error, recovering or recovered"
+
+-- 4 has its cut and does not know that 2 has failed; its home, 1, does
+abbrev pub homeRecovers : Run
+homeRecovers = lastOf farFromThree (begin 1 ∷ deliver 1 4 ∷ deliver 4 3 ∷ deliver 3 4 ∷ fail 2 ∷ []) (recordOf 5 4 0 0 0) 19
+
+-- ---- "14 .. the fault is not a's coordinator as it was before"
+
+-- 2 has written and does not know its version; the one that failed is 3
+abbrev pub otherFailed : Run
+otherFailed =
+    lastOf triangle
+    (begin 1 ∷ deliver 1 2 ∷ deliver 1 3 ∷ deliver 2 1 ∷ deliver 3 1 ∷ deliver 2 3 ∷ deliver 3 2 ∷ writes 2 ++ fail 3 ∷ [])
+    (waitOver 2) 14
+
+-- ---- "13 no link in a's table; 14 a not in normal": in that order
+
+abbrev pub linkFirst : Run
+linkFirst = lastOf (rowOf 10 (20 ∷ 30 ∷ [])) (begin 1 ∷ []) (send 1 3 5) 13
+
 -- ---- "The group crashes when, and only when"
 
 -- "a store cabinet fails;"
@@ -174,6 +205,6 @@ inOrder = record {
 abbrev pub AllAsWritten : Type 0
 AllAsWritten =
     AsWritten hole × AsWritten holeLate × AsWritten wait × AsWritten homeInDoubt × AsWritten heard × AsWritten heardOneWay
-    × AsWritten oldResume × AsWritten emptied × AsWritten failedBefore × AsWritten beginAgain × AsWritten hurtTwice × AsWritten fullLine × AsWritten storeFails
+    × AsWritten oldResume × AsWritten emptied × AsWritten failedBefore × AsWritten beginAgain × AsWritten hurtTwice × AsWritten fullLine × AsWritten noteLow × AsWritten noteHigh × AsWritten noteWide × AsWritten homeRecovers × AsWritten otherFailed × AsWritten linkFirst × AsWritten storeFails
     × AsWritten failsInRecovery × AsWritten damageInRecovery × AsWritten placesMeet × AsWritten failParts × AsWritten linkParts
     × AsWritten faultyLinkParts × AsWritten inOrder

@@ -1,6 +1,6 @@
--- The text of a run as step lines and cabinet lines, and how long it is.
+-- One step line more, and how long the lines are.
 use Prim.Native.Nat.{ℕ, zero, suc, _+_, _*_, _≤_}
-use mathlib.Core.Path.{_≡_, refl, sym, ap, _∙_}
+use mathlib.Core.Path.{_≡_, sym, ap, _∙_}
 use mathlib.Core.Bool.{Bool, true, false, cond}
 use mathlib.Core.List.{List, [], _∷_, _++_, append-assoc, append-nil}
 use native.Mathlib.Nat.{add-zero, add-suc, suc-add}
@@ -15,12 +15,10 @@ use Rattle.state.specs.State.{works}
 use Rattle.image.specs.Image.{booked}
 use Rattle.group.specs.declared.Group.{Group}
 use Rattle.group.specs.Group.{cabinet}
-use Rattle.protocol.specs.Entry.{step, stepAll, answersFrom}
-use Rattle.protocol.specs.Listing.{Text, stateWord, versionWord, decimal, loadLine, stepLine, cabLine, cabLines, runFrom}
+use Rattle.protocol.specs.Listing.{Text, stateWord, versionWord, decimal, loadLine, stepLine, stepLines, cabLine, cabLines}
 use Rattle.buffer.proofs.Digits.{at-most}
-use Rattle.report.specs.StepLines.{stepLines}
 
--- ---- one line more, and the whole run
+-- ---- one line more
 
 one-more : (k : ℕ) (answers : List ℕ) (answer : ℕ) → stepLines k (answers ++ (answer ∷ [])) ≡ stepLines k answers ++ stepLine (k + length answers) answer
 one-more k [] answer = rw (add-zero k) (append-nil (stepLine k answer))
@@ -32,12 +30,6 @@ pub next-line : (answers : List ℕ) (i answer : ℕ) → length answers ≡ i �
 next-line answers i answer e =
     let k : i + 1 ≡ 1 + length answers = omega arith in
     rw k (one-more 1 answers answer)
-
-pub run-lines : (k : ℕ) (g : Group) (rs : List (List ℕ)) → stepLines k (answersFrom g rs) ++ cabLines (stepAll g rs .n) (stepAll g rs) ≡ runFrom k g rs
-unfolding answersFrom stepAll runFrom
-run-lines k g [] = refl
-run-lines k g (r ∷ rs) =
-    append-assoc (stepLine k (step g r .answer)) _ _ ∙ ap (λ (t : Text). stepLine k (step g r .answer) ++ t) (run-lines (suc k) (step g r .group) rs)
 
 -- ---- lengths
 

@@ -11,7 +11,7 @@ use lib.Seq.{sets, length-sets, take-all}
 use borrow.Author.Tests.{eq-eqb, ne-eqb}
 use Rattle.group.specs.declared.Outcome.{Outcome}
 use Rattle.load.specs.Load.{load}
-use Rattle.protocol.specs.Listing.{Text, loadLine, cabLines, records, runFrom, listing}
+use Rattle.protocol.specs.Listing.{Text, loadLine, stepLines, cabLines, records, runLines, listing}
 use Rattle.protocol.specs.History.{opening}
 use Rattle.buffer.specs.Written.{Written}
 use Rattle.buffer.proofs.Texts.{then, place-added, stored-sets, at-start}
@@ -19,8 +19,7 @@ use Rattle.protocol.specs.Entry.{stepAll, answersFrom}
 use Rattle.replay.specs.Replay.{recordsIn, replayed, answersOf, EndsWell}
 use Rattle.replay.proofs.Records.{enough, count, an-answer-each}
 use Rattle.replay.proofs.Moments.{run-groups, same-answer}
-use Rattle.report.specs.StepLines.{stepLines}
-use Rattle.report.proofs.Lines.{run-lines, load-length, steps-length, cabs-length}
+use Rattle.report.proofs.Lines.{load-length, steps-length, cabs-length}
 use Rattle.report.proofs.Prefix.{first-records}
 
 -- ---- the records that the listing takes
@@ -85,8 +84,8 @@ module _ (file list : List ℕ) {used : ℕ} (u : used ≡ min (length list) 600
         let r : length room ≡ length answers = sym (ap length a ∙ length-sets room 0 (answersFrom (load file .group) rs)) in
         rw (← n, a) (at-start (answersFrom (load file .group) rs) room (omega (arith, limited (length list) u)))
 
-    lines : listing file list ≡ runFrom 1 (load file .group) rs
-    unfolding listing
+    lines : listing file list ≡ stepLines 1 (answersFrom (load file .group) rs) ++ cabLines (stepAll (load file .group) rs .n) (stepAll (load file .group) rs)
+    unfolding listing runLines
     lines = rw loaded
 
     pub accepted : {answers before mid after : List ℕ} {at end : ℕ} (room : List ℕ) → length answers ≡ 10000 → answers ≡ sets room 0 (answersOf file (recordsIn (take used list)))
@@ -95,7 +94,7 @@ module _ (file list : List ℕ) {used : ℕ} (u : used ≡ min (length list) 600
     accepted {answers} room l s v w n =
         let steps : Text = stepLines 1 (take ((used + 5) / 6) answers) in
         let cabs : Text = cabLines (o .group .n) (o .group) in
-        let all : steps ++ cabs ≡ listing file list = rw (told room l s, last, lines) (run-lines 1 (load file .group) rs) in
+        let all : steps ++ cabs ≡ listing file list = rw (told room l s, last) (sym lines) in
         let short : length (steps ++ cabs) ≤ 200000 =
         rw (length-append steps cabs) (omega (arith, steps-length 1 (take ((used + 5) / 6) answers), length-take ((used + 5) / 6) answers, cabs-length (o .group .n) (o .group), limited (length list) u)) in
         exactly all short (then v w)

@@ -5,10 +5,9 @@ ghost use mathlib.Core.Path.{_≡_};
 ghost use lib.ListN.{length};
 ghost use lib.Seq.{sets};
 ghost use Rattle.load.specs.Load.{load};
-ghost use Rattle.protocol.specs.Listing.{cabLines, records, listing};
+ghost use Rattle.protocol.specs.Listing.{stepLines, cabLines, records, listing};
 ghost use Rattle.buffer.specs.Written.{Written};
 ghost use Rattle.replay.specs.Replay.{EndsWell};
-ghost use Rattle.report.specs.StepLines.{stepLines};
 
 // A line for each answer. Records are numbered from 0 inside and from 1 in the listing.
 fn step_lines(out: &mut [u8], answers: &[u8]) -> usize

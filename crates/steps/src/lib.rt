@@ -30,7 +30,6 @@ fn perform(g: Group, s: Step) -> Outcome
     }
 }
 
-// The step entry: the record is decoded, checks 10 to 12 are made, and its kind decides the rest.
 pub fn step(g: Group, octets: &[u8]) -> Outcome
     ensures { λ r. ⌜ r ≡ step g (now (octets .entry)) ⌝ }
 {

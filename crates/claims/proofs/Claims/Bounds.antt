@@ -2,7 +2,7 @@
 use Prim.Native.Nat.{ℕ, zero, suc, _+_, _<_, _≤_}
 use mathlib.Core.Path.{_≡_, refl, sym, ap, _∙_, subst}
 use mathlib.Core.Logic.{⊎-elim}
-use mathlib.Core.Bool.{Bool, true, false, cond, not, _&&_, _||_, false≢true}
+use mathlib.Core.Bool.{Bool, true, false, not, _&&_, _||_, false≢true}
 use mathlib.Core.List.{List, [], _∷_, _++_, nil≢cons}
 use lib.ListN.{length}
 use native.Mathlib.Omega.{arith}
@@ -10,9 +10,8 @@ use native.Mathlib.Decide.{ℕ-discrete}
 use Rattle.marks.specs.Marks.{marked}
 use Rattle.line.specs.declared.Payload.{Payload}
 use Rattle.line.specs.declared.Packet.{Packet}
-use Rattle.line.specs.declared.Packet.the-variants.{Normal as NormalPacket}
+use Rattle.line.specs.declared.Packet.the-variants.{Empty, Normal as NormalPacket, Checkp, Resume, Recover, Fault, Invalid}
 use Rattle.line.specs.declared.Cell.{Cell}
-use Rattle.line.specs.Packet.{isEmpty}
 use Rattle.line.specs.Line.{oldest, rest}
 use Rattle.state.specs.declared.State.{State}
 use Rattle.state.specs.declared.State.the-variants.{Failed, Normal, CheckpBegin, Checkpointing, Checkpointed, Error, Recovering, Recovered, Crashed}
@@ -24,9 +23,9 @@ use Rattle.load.specs.Load.{load, feederTotal}
 use Rattle.protocol.specs.Receive.{takesFrom}
 use Rattle.protocol.specs.History.{run, opening}
 use Rattle.protocol.specs.Restored.{Octets, Records}
-use Rattle.protocol.specs.Bounds.{packetsIn, LinesBounded, NeverWraps}
+use Rattle.protocol.specs.Bounds.{LinesBounded, NeverWraps}
 use Rattle.protocol.proofs.Fun.{never, is-true, sum, sum-add, sum-swap}
-use Rattle.claims.proofs.State.View.{View, content, view}
+use Rattle.claims.proofs.State.View.{View, packetOf, content, view}
 use Rattle.claims.proofs.State.ViewMoves.{sim-off}
 use Rattle.claims.proofs.Invariant.Facts.{Ghost, Pair, unaware, amount}
 use Rattle.claims.proofs.Invariant.Whole.{Inv, outOf, gotOf}
@@ -38,13 +37,19 @@ use Rattle.claims.proofs.Claims.Demand.{Runs, every-list}
 
 -- ---- sizes
 
-packets-within : (cs : List Cell) → packetsIn cs ≤ length cs
+one-within : (p : Packet) (l : List Packet) → length (packetOf p l) ≤ suc (length l)
+one-within Empty l = omega arith
+one-within (NormalPacket q) l = omega arith
+one-within (Checkp v) l = omega arith
+one-within Resume l = omega arith
+one-within (Recover v) l = omega arith
+one-within (Fault q) l = omega arith
+one-within Invalid l = omega arith
+
+packets-within : (cs : List Cell) → length (content cs) ≤ length cs
+unfolding content
 packets-within [] = omega arith
-packets-within (c ∷ cs) = go (isEmpty (c .packet)) (packets-within cs)
-  where
-    go : (t : Bool) → packetsIn cs ≤ length cs → cond t 0 1 + packetsIn cs ≤ suc (length cs)
-    go true h = omega arith
-    go false h = omega arith
+packets-within (c ∷ cs) = omega (arith, one-within (c .packet) (content cs), packets-within cs)
 
 pub lines-bounded : LinesBounded
 lines-bounded f of e rs o a b =

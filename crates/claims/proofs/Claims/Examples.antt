@@ -9,8 +9,7 @@ use native.Mathlib.Omega.{arith}
 use Rattle.marks.specs.Marks.{both}
 use Rattle.group.specs.Group.{stateOf}
 use Rattle.state.specs.State.{works}
-use Rattle.load.specs.Load.{load, cabinetCount, feederTotal}
-use Rattle.protocol.specs.History.{run}
+use Rattle.load.specs.Load.{cabinetCount, feederTotal}
 use Rattle.protocol.specs.Restored.{Restored, Octets, Records}
 use Rattle.protocol.specs.Examples.{Example, Found, records, worldTo, worldAtEnd, found, after-save, after-save-finds, passed-over, passed-over-finds, link-fault, link-fault-finds, second-recovery, second-recovery-finds, restored-before, restored-before-finds}
 use Rattle.protocol.proofs.Fun.{and-true}

@@ -1,4 +1,4 @@
--- A cabinet that works stands below eight, and its lines have room; the others' lines are empty.
+-- A cabinet that works stands below eight, and its lines have room; from eight on every line is empty.
 use Prim.Native.Nat.{ℕ, _<_, _≤_}
 use mathlib.Core.Path.{_≡_}
 use mathlib.Core.Logic.{⊎-elim}

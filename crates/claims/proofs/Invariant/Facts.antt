@@ -1,5 +1,5 @@
 -- The invariant behind demand 3, as named facts about one cabinet, an ordered pair of cabinets and the whole group.
--- Letters: A tables and places, B modes, C versions, D what a save holds, E the store, F reports, G lines.
+-- Letters: A tables and places, B progress in a save, C versions, D what a save holds, E the store, F reports, G lines.
 use Prim.Native.Nat.{ℕ, _+_, _*_, _<_, _≤_}
 use mathlib.Core.Path.{_≡_}
 use mathlib.Core.Logic.{_≢_, _⊎_}

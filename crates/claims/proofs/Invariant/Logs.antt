@@ -4,7 +4,7 @@ use Prim.Native.Nat.{ℕ, zero, suc, _+_, _≤_, _<_}
 use mathlib.Core.Path.{_≡_, refl, ap, _∙_, sym}
 use mathlib.Core.Bool.{Bool, true, false, cond, false≢true, true≢false}
 use mathlib.Core.List.{List, [], _∷_, _++_, map, nil≢cons, append-nil}
-use lib.ListN.{length, getD}
+use lib.ListN.{getD}
 use native.Mathlib.Omega.{arith}
 use Rattle.crc.specs.Crc.{start, crcFrom, amountsOctets}
 use Rattle.crc.proofs.Laws.{from-append, amounts-append, one-differs}
@@ -207,11 +207,6 @@ pub differ-more : {b : Bool} {k l : List Payload} (x : List Payload) → Differ 
 differ-more x same = same
 differ-more x (here n) = here n
 differ-more x (later d) = later (differ-more x d)
-
-pub differ-length : {b : Bool} {k l : List Payload} → Differ b k l → length k ≡ length l
-differ-length same = refl
-differ-length (here n) = refl
-differ-length (later d) = ap suc (differ-length d)
 
 -- the register after one packet more
 map-snoc : (l : List Payload) (p : Payload) → map (λ (x : Payload). x .amount) (l ++ (p ∷ [])) ≡ map (λ (x : Payload). x .amount) l ++ (p .amount ∷ [])

@@ -26,7 +26,7 @@ use Rattle.claims.proofs.Invariant.Whole.{Inv, awareOf, workOf}
 abbrev pub HeldIn : Option Image → Option Cut → Image → Type 0
 HeldIn lost cut m = (lost ≡ some m) ⊎ ((lost ≡ none) × ((x : Cut) × (cut ≡ some x) × (x .image ≡ m)))
 
--- a save committed since the start or the last recovery's end stands
+-- a save was committed since the start or the last recovery's end, and the last one was not passed over
 abbrev pub Stands : History → Type 0
 Stands h = (h .standing ≡ true) × ((x : Save) × (xs : List Save) × (h .saves ≡ x ∷ xs))
 

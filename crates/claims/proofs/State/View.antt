@@ -2,14 +2,12 @@
 -- the view. What a cabinet holds of itself is its `Own`, what it holds of another cabinet is its `Side` towards that one.
 use Prim.Native.Nat.{ℕ}
 use mathlib.Core.Bool.{Bool, cond, not, _&&_}
-use mathlib.Core.List.{List, [], _∷_}
+use mathlib.Core.List.{List}
 use lib.ListN.{getD}
 use Rattle.marks.specs.Marks.{marked}
 use Rattle.marks.specs.Reach.{mark}
 use Rattle.line.specs.declared.Check.{Check}
 use Rattle.line.specs.declared.Packet.{Packet}
-use Rattle.line.specs.declared.Packet.the-variants.{Empty, Normal as NormalPacket, Checkp, Resume, Recover, Fault, Invalid}
-use Rattle.line.specs.declared.Cell.{Cell}
 use Rattle.line.specs.Packet.{startCheck}
 use Rattle.state.specs.declared.State.{State}
 use Rattle.state.specs.declared.Version.{Version}
@@ -19,8 +17,8 @@ use Rattle.cabinet.specs.declared.Cabinet.{Cabinet}
 use Rattle.group.specs.declared.Group.{Group}
 use Rattle.group.specs.Group.{cabinet, line, slot, rowsOf}
 use Rattle.protocol.specs.History.{upd}
-pub use Rattle.protocol.specs.Fifo.{packetOf}
-unfoldable pub use Rattle.protocol.specs.Fifo.{content}
+pub use Rattle.protocol.specs.Bounds.{packetOf}
+unfoldable pub use Rattle.protocol.specs.Bounds.{content}
 
 pub record Own : Type 0 where
   pub state : State

@@ -10,11 +10,11 @@ use Rattle.load.specs.Load.{load}
 use Rattle.protocol.specs.Moves.{broadcast, resumeWith, recoverWith, raise, enterError, markFailed, alarmTo, endRecovery}
 use Rattle.protocol.specs.Receive.{receiveNormal}
 use Rattle.protocol.specs.Kinds.{sent, sendStep, beginStep, delivered, deliverStep, fetchPiece, fetchStep, reportRestored, endIfAll, restoredStep, failStep}
-use Rattle.protocol.specs.Entry.{step, stepAll}
-use Rattle.protocol.specs.Listing.{records, runFrom, listing}
+use Rattle.protocol.specs.Entry.{step, stepAll, answersFrom}
+use Rattle.protocol.specs.Listing.{records, runLines, listing}
 use Rattle.protocol.specs.Marked.{Case, marked, found}
 
 -- every case of the table is found as the paper has it
 pub marked-cases : map (λ (c : Case). found (c .asked)) marked ≡ map (λ (c : Case). c .expected) marked
-unfolding crcBit crcBits crcOctet crcFrom lowest covers both connected emptyLines lineTo withLineTo putAll cabinet withCabinet outgoing withOutgoing line withLine blankSlots slot rowsOf ofRows some working recoveringOnes isCrashed load broadcast resumeWith recoverWith raise enterError markFailed alarmTo endRecovery receiveNormal sent sendStep beginStep delivered deliverStep fetchPiece fetchStep reportRestored endIfAll restoredStep failStep step stepAll records runFrom listing found
+unfolding crcBit crcBits crcOctet crcFrom lowest covers both connected emptyLines lineTo withLineTo putAll cabinet withCabinet outgoing withOutgoing line withLine blankSlots slot rowsOf ofRows some working recoveringOnes isCrashed load broadcast resumeWith recoverWith raise enterError markFailed alarmTo endRecovery receiveNormal sent sendStep beginStep delivered deliverStep fetchPiece fetchStep reportRestored endIfAll restoredStep failStep step stepAll answersFrom records runLines listing found
 marked-cases = refl

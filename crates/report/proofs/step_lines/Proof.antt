@@ -6,7 +6,7 @@ use lib.ListN.{length, getD, take}
 use lib.Seq.{take-suc, take-all, length-take-le}
 use Rattle.buffer.specs.Written.{Written}
 use Rattle.buffer.proofs.Texts.{then, nothing}
-use Rattle.report.specs.StepLines.{stepLines}
+use Rattle.protocol.specs.Listing.{stepLines}
 use Rattle.report.proofs.Lines.{next-line}
 use Rattle.report.proofs.step_lines.Statement.{statement}
 use Rattle.report.proofs.step_lines.Tie as tie

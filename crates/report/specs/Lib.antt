@@ -1,2 +1,0 @@
--- The step lines of a list of answers.
-pub mod StepLines
