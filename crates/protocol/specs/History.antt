@@ -63,9 +63,9 @@ pub record History : Type 0 where
   pub start : Save
   -- a failed cabinet's image in the save restored after it failed
   pub lost : ℕ → Option Image
-  -- a normal packet was damaged since the start or the last recovery's end: no matter to demand 3, it is for `NeverWraps`
+  -- a normal packet was damaged since the start or the last recovery's end: no matter to demand 3, it is for `claims.Bounds.NeverWraps`
   pub hurt : Bool
-  -- what `Saves` speaks of, no matter to demand 3 either: a begin was taken since the start or the last recovery's end; a save was
+  -- what `claims.Saves` speaks of, no matter to demand 3 either: a begin was taken since the start or the last recovery's end; a save was
   -- committed since then, and the last one was not passed over, so that it is the newest
   pub begun : Bool
   pub standing : Bool
@@ -167,7 +167,7 @@ noteTaken true h a b (Fault p) = h
 noteTaken true h a b Invalid = h
 noteTaken false h a b p = h
 
--- a resume taken in checkpointed, or the last piece fetched: it is the newest save's (`Saves.ResumeOfNewest`, `Saves.FetchedOfNewest`)
+-- a resume taken in checkpointed, or the last piece fetched: it is the newest save's (`claims.Saves.{ResumeOfNewest, FetchedOfNewest}`)
 abbrev pub noteKnown : Bool → History → History
 noteKnown true h = withSaves h (markKnown (h .saves))
 noteKnown false h = h
@@ -199,7 +199,7 @@ lostNow h g i (some m) = some m
 lostNow h g i none = cond (works (stateOf g i)) none (imageIn (latest h .cut i))
 
 -- "Packets for a cut count from the start or the end of the last recovery before that save's begin": they count anew at every end,
--- and a save begun before one has no cut after it (`Saves.CutsSinceBegin`). The cabinets failed since the last end have their image now.
+-- and a save begun before one has no cut after it (`claims.Saves.CutsSinceBegin`). The cabinets failed since the last end have their image now.
 abbrev pub noteEnd : Bool → History → Group → History
 noteEnd true h g = fresh (h .saves) (h .start) (λ i. lostNow h g i (h .lost i))
 noteEnd false h g = h

@@ -1,5 +1,5 @@
--- Document 01 as definitions: the moves, the eleven kinds of step, the step entry and the listing; then the history, what is claimed of
--- every run, closed cases, and what the entry answers.
+-- Document 01 as definitions: the moves, the eleven kinds of step, the step entry and the listing; then the history and demand 3, closed
+-- runs, and what the entry answers.
 pub mod Moves
 pub mod Receive
 pub mod Kinds
@@ -7,9 +7,6 @@ pub mod Entry
 pub mod Listing
 pub mod History
 pub mod Restored
-pub mod Bounds
-pub mod Fifo
-pub mod Saves
 pub mod Marked
 pub mod Examples
 pub mod Tempting

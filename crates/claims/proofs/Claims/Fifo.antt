@@ -24,8 +24,8 @@ use Rattle.protocol.specs.Kinds.{need, orRefuse, sendRefusal, sent, sendStep, n
 use Rattle.protocol.specs.Entry.{step, stepDecoded, decode, firstOf, secondOf, actorWorks, isCabinet, entryRefusal, perform}
 use Rattle.protocol.specs.History.{History}
 use Rattle.protocol.specs.Restored.{worldAfter}
-use Rattle.protocol.specs.Bounds.{packets}
-use Rattle.protocol.specs.Fifo.{handled, cameFrom, lineAfter, FirstInFirstOut, PacketsFirst}
+use Rattle.claims.specs.Bounds.{packets}
+use Rattle.claims.specs.Fifo.{handled, cameFrom, lineAfter, FirstInFirstOut, PacketsFirst}
 use Rattle.protocol.proofs.Fun.{is-true, and-true, not-true-false, cond-elim, kept-at}
 use Rattle.claims.proofs.State.Every.{passed, Fits, FitsIn, decode-fits, every-step}
 use Rattle.claims.proofs.State.View.{View, Own, view}

@@ -31,7 +31,7 @@ use Rattle.protocol.specs.Kinds.{need, orRefuse, writeRefusal, fetchRefusal, sa
 use Rattle.protocol.specs.Entry.{step, stepDecoded, entryRefusal, isCabinet}
 use Rattle.protocol.specs.History.{Cut, Save, History, advance, opening, commits, latest, newest, imageIn}
 use Rattle.protocol.specs.Restored.{Octets, Records, worldAfter, Balanced, amperes}
-use Rattle.protocol.specs.Saves.{Commits, savedImage, savedTo, CommitsWhole, CommitsBetweenResumes, TakesResume, ResumeOfNewest, VersionsNameNewest, KnownWhereUsed, FetchedOfNewest, CutsSinceBegin}
+use Rattle.claims.specs.Saves.{Commits, savedImage, savedTo, CommitsWhole, CommitsBetweenResumes, TakesResume, ResumeOfNewest, VersionsNameNewest, KnownWhereUsed, FetchedOfNewest, CutsSinceBegin}
 use Rattle.protocol.proofs.Fun.{never, is-true, and-true, and-intro, not-true-false, cond-elim, sum}
 use Rattle.claims.proofs.State.Every.{passed}
 use Rattle.claims.proofs.State.Counting.{step-n}

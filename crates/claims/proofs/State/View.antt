@@ -17,8 +17,8 @@ use Rattle.cabinet.specs.declared.Cabinet.{Cabinet}
 use Rattle.group.specs.declared.Group.{Group}
 use Rattle.group.specs.Group.{cabinet, line, slot, rowsOf}
 use Rattle.protocol.specs.History.{upd}
-pub use Rattle.protocol.specs.Bounds.{packetOf}
-unfoldable pub use Rattle.protocol.specs.Bounds.{content}
+pub use Rattle.claims.specs.Bounds.{packetOf}
+unfoldable pub use Rattle.claims.specs.Bounds.{content}
 
 pub record Own : Type 0 where
   pub state : State

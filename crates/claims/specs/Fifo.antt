@@ -22,13 +22,13 @@ use Rattle.cabinet.specs.Cabinet.{inUse}
 use Rattle.group.specs.declared.Group.{Group}
 use Rattle.group.specs.Group.{cabinet, line}
 use Rattle.load.specs.Load.{load}
 use Rattle.protocol.specs.declared.Step.{Step}
 use Rattle.protocol.specs.declared.Step.the-variants.{Send, Note, Begin, Deliver, Write, Saved, Fetch, Restored, WaitOver, Fail, Damage}
 use Rattle.protocol.specs.declared.Decoded.the-variants.{Taken}
 use Rattle.protocol.specs.Receive.{serving}
 use Rattle.protocol.specs.Entry.{decode, step}
 use Rattle.protocol.specs.Restored.{Octets, Records, worldAfter}
-use Rattle.protocol.specs.Bounds.{packets, Always}
+use Rattle.claims.specs.Bounds.{packets, Always}
 
 -- ---- what a step takes off a line, hits on it or sends over it
 

@@ -3,7 +3,7 @@
 -- committed save holds.
 use Prim.Native.Nat.{ℕ, zero, suc, _+_, _-_, _<_}
 use mathlib.Core.Path.{_≡_}
-use mathlib.Core.Bool.{true, false}
+use mathlib.Core.Bool.{Bool, true, false}
 use mathlib.Core.List.{List, _∷_}
 use mathlib.Core.Option.{Option, none, some}
 use Rattle.marks.specs.Marks.{marked}
@@ -17,13 +17,13 @@ use Rattle.cabinet.specs.Cabinet.{inUse, coordinator}
 use Rattle.group.specs.declared.Group.{Group}
 use Rattle.group.specs.Group.{cabinet, stateOf, line, slot}
 use Rattle.load.specs.Load.{load, cabinetCount, feederTotal}
 use Rattle.protocol.specs.declared.Step.the-variants.{Saved}
 use Rattle.protocol.specs.declared.Decoded.the-variants.{Taken}
 use Rattle.protocol.specs.Kinds.{writeRefusal, fetchRefusal}
 use Rattle.protocol.specs.Entry.{decode, step}
 use Rattle.protocol.specs.History.{Cut, Save, History, advance, commits, latest, imageIn}
 use Rattle.protocol.specs.Restored.{Octets, Records, worldAfter, Balanced, amperes}
-use Rattle.protocol.specs.Bounds.{Running}
+use Rattle.claims.specs.Bounds.{Running}
 
 -- ---- a commit
 
@@ -80,7 +80,7 @@ ResumeOfNewest =
 abbrev pub VersionsNameNewest : Type 0
 VersionsNameNewest =
     Running (λ g h. (c d : ℕ) → works (stateOf g c) ≡ true → works (stateOf g d) ≡ true
-    → (v : _) → cabinet g d .phase .version ≡ Known v → (y : Cut) × (latest h .cut c ≡ some y) × (slot g c v ≡ y .image))
+    → (v : Bool) → cabinet g d .phase .version ≡ Known v → (y : Cut) × (latest h .cut c ≡ some y) × (slot g c v ≡ y .image))
 
 -- a version is known wherever a slot is written by it or read by it
 abbrev pub KnownWhereUsed : Type 0

@@ -1,0 +1,4 @@
+-- What is claimed of every run beside demand 3, which is in `protocol.Restored`: bounds, what a step leaves on each line, and saves.
+pub mod Bounds
+pub mod Fifo
+pub mod Saves
