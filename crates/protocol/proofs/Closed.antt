@@ -1,3 +1,4 @@
--- Closed runs, by computation over the definitions: whole recoveries, and runs with the answer to every record.
+-- Closed runs, by computation over the definitions: the marked cases, whole recoveries, and runs with the answer to every record.
+pub mod Marked
 pub mod Examples
 pub mod Tempting

@@ -24,7 +24,7 @@ use Rattle.protocol.specs.Receive.{takesFrom}
 use Rattle.protocol.specs.History.{run, opening}
 use Rattle.protocol.specs.Restored.{Octets, Records}
 use Rattle.claims.specs.Bounds.{LinesBounded, NeverWraps}
-use Rattle.protocol.proofs.Fun.{never, is-true, sum, sum-add, sum-swap}
+use Rattle.claims.proofs.State.Fun.{never, is-true, sum, sum-add, sum-swap}
 use Rattle.claims.proofs.State.View.{View, packetOf, content, view}
 use Rattle.claims.proofs.State.ViewMoves.{sim-off}
 use Rattle.claims.proofs.Invariant.Facts.{Ghost, Pair, unaware, amount}

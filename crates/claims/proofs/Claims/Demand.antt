@@ -26,15 +26,15 @@ use Rattle.protocol.specs.Kinds.{need, orRefuse}
 use Rattle.protocol.specs.Entry.{step, stepDecoded, decode, firstOf, secondOf, isCabinet, actorWorks, perform}
 use Rattle.protocol.specs.History.{History, World, recordDecoded, advance, run, opening, ends}
 use Rattle.protocol.specs.Restored.{Restored, Octets, Records, worldAfter, DemandThree}
-use Rattle.protocol.proofs.Fun.{never, and-true, and-intro, cond-elim}
+use Rattle.claims.proofs.State.Fun.{never, and-true, and-intro, cond-elim}
 use Rattle.claims.proofs.State.Every.{every-step, FitsIn, decode-fits}
 use Rattle.claims.proofs.State.Counting.{step-n}
 use Rattle.claims.proofs.State.View.{view}
 use Rattle.claims.proofs.State.Shape.{Shaped, Lined, Pictured, shaped}
 use Rattle.claims.proofs.State.Sim.{Fit}
 use Rattle.claims.proofs.State.Runs.{loaded-fit}
-use Rattle.protocol.proofs.Answers.Tests.{in-state, those-marked}
-use Rattle.protocol.proofs.Answers.Entry.{refusal-keeps, crash-stops}
+use Rattle.claims.proofs.Answers.Tests.{in-state, those-marked}
+use Rattle.claims.proofs.Answers.Entry.{refusal-keeps, crash-stops}
 use Rattle.claims.proofs.Invariant.States.{failed-state, not-both}
 use Rattle.claims.proofs.Invariant.Facts.{Ghost, unaware}
 use Rattle.claims.proofs.Invariant.Whole.{Inv}

@@ -12,7 +12,7 @@ use Rattle.state.specs.State.{works}
 use Rattle.load.specs.Load.{cabinetCount, feederTotal}
 use Rattle.protocol.specs.Restored.{Restored, Octets, Records}
 use Rattle.protocol.specs.Examples.{Example, Found, records, worldTo, worldAtEnd, found, after-save, after-save-finds, passed-over, passed-over-finds, link-fault, link-fault-finds, second-recovery, second-recovery-finds, restored-before, restored-before-finds}
-use Rattle.protocol.proofs.Fun.{and-true}
+use Rattle.claims.proofs.State.Fun.{and-true}
 use Rattle.claims.proofs.Claims.Demand.{demand-three}
 use Rattle.protocol.proofs.Closed.Examples.{runs-found}
 

@@ -26,7 +26,7 @@ use Rattle.protocol.specs.History.{History}
 use Rattle.protocol.specs.Restored.{worldAfter}
 use Rattle.claims.specs.Bounds.{packets}
 use Rattle.claims.specs.Fifo.{handled, cameFrom, lineAfter, FirstInFirstOut, PacketsFirst}
-use Rattle.protocol.proofs.Fun.{is-true, and-true, not-true-false, cond-elim, kept-at}
+use Rattle.claims.proofs.State.Fun.{is-true, and-true, not-true-false, cond-elim, kept-at}
 use Rattle.claims.proofs.State.Every.{passed, Fits, FitsIn, decode-fits, every-step}
 use Rattle.claims.proofs.State.View.{View, Own, view}
 use Rattle.claims.proofs.State.Cells.{Packed, nothing-there}

@@ -17,7 +17,7 @@ use Rattle.protocol.specs.declared.Step.the-variants.{Send, Note, Begin, Delive
 use Rattle.protocol.specs.Kinds.{orRefuse, sendRefusal, sendStep, noteRefusal, noteStep, beginRefusal, beginStep, deliverRefusal, deliverStep, writeRefusal, writeStep, savedRefusal, savedStep, fetchRefusal, fetchStep, restoredRefusal, restoredStep, waitOverRefusal, waitOverStep, failCrashes, failStep, damageRefusal, damageStep}
 use Rattle.protocol.specs.Entry.{firstOf, secondOf, actorWorks, isCabinet, entryRefusal, perform}
 use Rattle.protocol.specs.History.{History}
-use Rattle.protocol.proofs.Fun.{and-true, cond-elim, not-true-false}
+use Rattle.claims.proofs.State.Fun.{and-true, cond-elim, not-true-false}
 use Rattle.claims.proofs.State.Every.{passed, Fits}
 use Rattle.claims.proofs.State.View.{view}
 use Rattle.claims.proofs.State.Sim.{Fit}

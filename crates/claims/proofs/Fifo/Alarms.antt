@@ -21,7 +21,7 @@ use Rattle.group.specs.declared.Group.{Group}
 use Rattle.group.specs.Group.{stateOf}
 use Rattle.protocol.specs.Moves.{markFailed, alarmTo, neighbours, enterErrorIf}
 use Rattle.protocol.specs.Receive.{serving}
-use Rattle.protocol.proofs.Fun.{never, is-true, and-true, and-false, upd-same, upd-other}
+use Rattle.claims.proofs.State.Fun.{never, is-true, and-true, and-false, upd-same, upd-other}
 use Rattle.claims.proofs.State.Every.{ok-markFailed, ok-alarm}
 use Rattle.claims.proofs.State.View.{View, Own, used, view}
 use Rattle.claims.proofs.State.Shape.{Shaped, Lined, Pictured, shaped}

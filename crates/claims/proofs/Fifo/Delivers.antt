@@ -29,13 +29,13 @@ use Rattle.protocol.specs.History.{History, upd}
 use Rattle.protocol.specs.Moves.{join, takeCheckp, enterError, findLinkFault, endRecovery}
 use Rattle.protocol.specs.Receive.{serving, takesFrom, joinIf, resumesFrom, receive, receiveNormal, receiveCheckp, receiveResume, receiveRecover, receiveFault, receiveInvalid}
 use Rattle.protocol.specs.Kinds.{delivered}
-use Rattle.protocol.proofs.Fun.{and-true, and-same, and-false, cond-elim, kept-at, upd-same, upd-other, pair-same, pair-other}
+use Rattle.claims.proofs.State.Fun.{and-true, and-same, and-false, cond-elim, kept-at, upd-same, upd-other, pair-same, pair-other}
 use Rattle.claims.proofs.State.Every.{with-cabinet, ok-join, ok-enterError}
 use Rattle.claims.proofs.State.View.{View, Own, view, setLine}
 use Rattle.claims.proofs.State.Shape.{Shaped, Lined, Pictured, shaped}
 use Rattle.claims.proofs.State.Sim.{Fit}
 use Rattle.claims.proofs.State.ViewMoves.{Room, vTake, sim-off, view-off, sim-take, sim-join, sim-compare}
-use Rattle.protocol.proofs.Answers.Tests.{in-state}
+use Rattle.claims.proofs.Answers.Tests.{in-state}
 use Rattle.claims.proofs.Invariant.States.{opens-serve}
 use Rattle.claims.proofs.Invariant.Facts.{Ghost}
 use Rattle.claims.proofs.Invariant.Whole.{Inv}

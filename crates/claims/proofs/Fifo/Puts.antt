@@ -25,7 +25,7 @@ use Rattle.group.specs.Group.{cabinet, withCabinet}
 use Rattle.protocol.specs.History.{upd}
 use Rattle.protocol.specs.Moves.{join, cutIfAll, resumeWith, adopt, recoverWith, enterError, hear}
 use Rattle.protocol.specs.Receive.{serving}
-use Rattle.protocol.proofs.Fun.{and-false, and-same, cond-elim, kept-at, kept-pair, upd-same, upd-id, upd-case}
+use Rattle.claims.proofs.State.Fun.{and-false, and-same, cond-elim, kept-at, kept-pair, upd-same, upd-id, upd-case}
 use Rattle.claims.proofs.State.View.{View, Own, Side, used, ownOf, sideOf, view, setCabinet}
 use Rattle.claims.proofs.State.Sim.{Fit, view-cabinet}
 use Rattle.claims.proofs.State.Methods.{sBegun, sCleared}

@@ -8,7 +8,7 @@ use native.Mathlib.Omega.{arith}
 use Rattle.state.specs.State.{works}
 use Rattle.group.specs.declared.Group.{Group}
 use Rattle.group.specs.Group.{stateOf}
-use Rattle.protocol.proofs.Fun.{is-false, and-true}
+use Rattle.claims.proofs.State.Fun.{is-false, and-true}
 use Rattle.claims.proofs.State.View.{view}
 use Rattle.claims.proofs.State.Sim.{Fit}
 use Rattle.claims.proofs.State.ViewMoves.{Room}

@@ -14,14 +14,14 @@ use Rattle.group.specs.Group.{cabinet, withCabinet, stateOf}
 use Rattle.protocol.specs.Moves.{join, cutIfAll, resumeWith, commit, endRecovery, recoverWith}
 use Rattle.protocol.specs.Kinds.{beginRefusal, writeRefusal, writePiece, oweIf, savedRefusal, reportSaved, commitIfAll, fetchRefusal, fetchPiece, restoredRefusal, mayReport, reportRestored, endIfAll, lostCoordinator, waitOverRefusal}
 use Rattle.protocol.specs.History.{upd}
-use Rattle.protocol.proofs.Fun.{and-true, and-false, cond-elim, kept-at, kept-pair, upd-case, upd-same}
+use Rattle.claims.proofs.State.Fun.{and-true, and-false, cond-elim, kept-at, kept-pair, upd-case, upd-same}
 use Rattle.claims.proofs.State.Every.{passed, with-cabinet, ok-join, ok-writePiece, ok-reportSaved}
 use Rattle.claims.proofs.State.View.{View, Own, Side, used, ownOf, sideOf, view, setCabinet}
 use Rattle.claims.proofs.State.Shape.{Shaped, Lined, Pictured, shaped}
 use Rattle.claims.proofs.State.Sim.{Fit, view-cabinet}
 use Rattle.claims.proofs.State.Methods.{sOwed}
 use Rattle.claims.proofs.State.ViewMoves.{Room, vOwe, vRestored, sim-join, sim-owe, sim-restored}
-use Rattle.protocol.proofs.Answers.Tests.{in-state}
+use Rattle.claims.proofs.Answers.Tests.{in-state}
 use Rattle.claims.proofs.Invariant.States.{saving-works, restoring-works}
 use Rattle.claims.proofs.Invariant.Facts.{Ghost}
 use Rattle.claims.proofs.Invariant.Whole.{Inv}

@@ -18,7 +18,7 @@ use Rattle.state.specs.State.{isIn, works, inRecovery, bitOf}
 use Rattle.protocol.specs.History.{upd}
 use Rattle.protocol.specs.Receive.{serving}
 use Rattle.claims.specs.Fifo.{faultOf}
-use Rattle.protocol.proofs.Fun.{kept-at, upd-same, upd-other}
+use Rattle.claims.proofs.State.Fun.{kept-at, upd-same, upd-other}
 use Rattle.claims.proofs.State.View.{View, Own, Side, used}
 use Rattle.claims.proofs.Invariant.Frame.{moved}
 

@@ -11,7 +11,7 @@ use Rattle.image.specs.declared.Image.{Image}
 use Rattle.state.specs.State.{works, inRecovery, isUnknown}
 use Rattle.protocol.specs.History.{upd}
 use Rattle.state.specs.declared.State.{State}
-use Rattle.protocol.proofs.Fun.{upd-elim, upd-same, upd-other, sum-cong, upd-id, kept, kept-at}
+use Rattle.claims.proofs.State.Fun.{upd-elim, upd-same, upd-other, sum-cong, upd-id, kept, kept-at}
 use Rattle.claims.proofs.State.View.{View, Own, Side, used}
 use Rattle.claims.proofs.Invariant.Facts.{Big, Mind, Wire, Ghost, Pair, Node, Books, aware, unaware, amount}
 use Rattle.claims.proofs.Invariant.Whole.{PairAt, NodeAt, BooksAt, GroundOf, PlacesOf, MeetsOf, ChainOf, SumsOf, lkOf, outOf, gotOf, Inv}

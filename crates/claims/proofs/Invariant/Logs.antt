@@ -17,7 +17,7 @@ use mathlib.Core.Logic.{_⊎_, inl, inr, ⊎-elim}
 use Rattle.line.specs.declared.Place.{Place}
 use Rattle.state.specs.declared.Version.{Version}
 use Rattle.state.specs.declared.Version.the-variants.{Known}
-use Rattle.protocol.proofs.Fun.{never}
+use Rattle.claims.proofs.State.Fun.{never}
 use Rattle.claims.proofs.Invariant.Facts.{amountsIn, isCheckp, count, resumeFirst, checkOf, Amounts, Differ, same, here, later, Alarms, amount, isFault, isSafe, isInvalid, checkpLast}
 
 -- ---- one packet more

@@ -5,7 +5,7 @@ use mathlib.Core.Option.{some}
 use Rattle.image.specs.declared.Image.{Image}
 use Rattle.image.specs.Image.{booked}
 use Rattle.protocol.specs.History.{History, latest, newest, upd}
-use Rattle.protocol.proofs.Fun.{upd-elim, kept-at, upd-case}
+use Rattle.claims.proofs.State.Fun.{upd-elim, kept-at, upd-case}
 use Rattle.claims.proofs.State.View.{View, Side, used, setCabinet}
 use Rattle.claims.proofs.Invariant.Facts.{Mind, Ghost, Pair}
 use Rattle.claims.proofs.Invariant.Whole.{Inv, PairAt}

@@ -30,7 +30,7 @@ use Rattle.load.specs.Starts.{Starts, bookedTo}
 use Rattle.protocol.specs.History.{Cut, atStart, startCut}
 use Rattle.protocol.specs.Restored.{sentIn, takenIn}
 use Rattle.marks.proofs.Lists.{getD-in}
-use Rattle.protocol.proofs.Fun.{never, and-true, cond-elim, sum, sum-zero, sum-tail}
+use Rattle.claims.proofs.State.Fun.{never, and-true, cond-elim, sum, sum-zero, sum-tail}
 use Rattle.claims.proofs.State.View.{Own, Side, view, content}
 use Rattle.claims.proofs.State.Shape.{Pictured}
 use Rattle.claims.proofs.State.Sim.{Fit}

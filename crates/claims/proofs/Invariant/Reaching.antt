@@ -14,7 +14,7 @@ use Rattle.state.specs.State.{works}
 use Rattle.group.specs.declared.Row.{Row}
 use Rattle.group.specs.declared.Group.{Group}
 use Rattle.group.specs.Group.{cabinet, stateOf, line, outgoing, slot, working, rowsOf, ofRows, withSound}
-use Rattle.protocol.proofs.Fun.{never}
+use Rattle.claims.proofs.State.Fun.{never}
 use Rattle.claims.proofs.State.View.{view, setSound}
 
 -- the fact about reach, of any links and any cabinets that work

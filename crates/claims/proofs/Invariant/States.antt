@@ -10,8 +10,8 @@ use Rattle.state.specs.declared.Version.the-variants.{Known, Unknown}
 use Rattle.cabinet.specs.declared.Alarm.the-variants.{Fault as At}
 use Rattle.state.specs.State.{isIn, works, inRecovery, inRestoring, inSaving, isUnknown, bitOf}
 use Rattle.protocol.specs.Receive.{serving}
-use Rattle.protocol.proofs.Fun.{never, is-false, and-true, or-left, or-right, or-split, not-not}
-use Rattle.protocol.proofs.Answers.Tests.{in-state}
+use Rattle.claims.proofs.State.Fun.{never, is-false, and-true, or-left, or-right, or-split, not-not}
+use Rattle.claims.proofs.Answers.Tests.{in-state}
 
 -- ---- states
 

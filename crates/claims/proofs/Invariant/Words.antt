@@ -21,11 +21,11 @@ use Rattle.group.specs.declared.Group.{Group}
 use Rattle.group.specs.Group.{cabinet, line, some, recoveringOnes, stateOf}
 use Rattle.cabinet.specs.declared.Cabinet.{Cabinet}
 use native.Mathlib.Decide.{decLt}
-use Rattle.protocol.proofs.Fun.{never, is-true, is-false, and-true, and-intro}
+use Rattle.claims.proofs.State.Fun.{never, is-true, is-false, and-true, and-intro}
 use Rattle.claims.proofs.State.View.{View, Own, Side, used, content, packetOf, view}
 use Rattle.claims.proofs.State.Sim.{Fit}
 use Rattle.claims.proofs.State.ViewMoves.{Room}
-use Rattle.protocol.proofs.Answers.Tests.{some-recovers, in-recovery}
+use Rattle.claims.proofs.Answers.Tests.{some-recovers, in-recovery}
 use Rattle.claims.proofs.Invariant.States.{recovering-works}
 use Rattle.claims.proofs.Invariant.Facts.{Big, Mind, Wire, Ghost, Pair, Alarms, aware, unaware, linked, count, isSafe}
 use Rattle.claims.proofs.Invariant.Whole.{Core, GroundOf}

@@ -26,14 +26,14 @@ use Rattle.group.specs.Group.{cabinet, withCabinet, stateOf, line, withLine}
 use Rattle.protocol.specs.History.{History, Save, upd, goes, newest, markKnown, noteKnown, noteCuts, withKnown}
 use Rattle.protocol.specs.Restored.{Balanced}
 use Rattle.protocol.specs.Moves.{adopt}
-use Rattle.protocol.proofs.Fun.{and-true, and-intro, upd-elim, upd-same, upd-other, not-not}
+use Rattle.claims.proofs.State.Fun.{and-true, and-intro, upd-elim, upd-same, upd-other, not-not}
 use Rattle.claims.proofs.State.Every.{with-cabinet, with-line}
 use Rattle.claims.proofs.State.View.{View, Own, used, content, view, setLines, setLine}
 use Rattle.claims.proofs.State.Shape.{Shaped, Lined, Pictured, shaped}
 use Rattle.claims.proofs.State.Sim.{Fit, view-outgoing, in-use, past-use, row-content}
 use Rattle.claims.proofs.State.Methods.{unmark}
 use Rattle.claims.proofs.State.ViewMoves.{Room, view-resumed, sim-off, view-off}
-use Rattle.protocol.proofs.Answers.Tests.{in-state}
+use Rattle.claims.proofs.Answers.Tests.{in-state}
 use Rattle.claims.proofs.Invariant.Facts.{Ghost, aware, unaware, linked, behind}
 use Rattle.claims.proofs.Invariant.Whole.{Inv}
 use Rattle.claims.proofs.Invariant.Past.{Past, Kept, Stays, aware-not-normal, past-turn}

@@ -13,7 +13,7 @@ use Rattle.state.specs.State.{works, inRecovery, isUnknown}
 use Rattle.group.specs.declared.Group.{Group}
 use Rattle.group.specs.Group.{cabinet}
 use Rattle.protocol.specs.Moves.{alarmTo, neighbours, enterErrorIf}
-use Rattle.protocol.proofs.Fun.{never, and-true, upd-elim, upd-same, upd-other, and-not}
+use Rattle.claims.proofs.State.Fun.{never, and-true, upd-elim, upd-same, upd-other, and-not}
 use Rattle.claims.proofs.State.Every.{ok-alarm}
 use Rattle.claims.proofs.State.View.{View, Own, Side, used, view}
 use Rattle.claims.proofs.State.Shape.{Shaped, Lined, Pictured, shaped}

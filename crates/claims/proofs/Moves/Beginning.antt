@@ -30,13 +30,13 @@ use Rattle.protocol.specs.Moves.{join, cutIfAll, takeCheckp}
 use Rattle.protocol.specs.Receive.{joinIf}
 use Rattle.protocol.specs.Kinds.{beginRefusal}
 use Rattle.protocol.specs.History.{upd, Cut, History, withCuts, withBegun, observe, noteCuts, cutIn}
-use Rattle.protocol.proofs.Fun.{never, is-true, and-true, upd-elim, upd-same, upd-other, upd-id, kept-at, kept-pair, is-false}
+use Rattle.claims.proofs.State.Fun.{never, is-true, and-true, upd-elim, upd-same, upd-other, upd-id, kept-at, kept-pair, is-false}
 use Rattle.claims.proofs.State.Every.{passed, with-cabinet, with-line, ok-join}
 use Rattle.claims.proofs.State.View.{View, Own, Side, used, content, view, setLine}
 use Rattle.claims.proofs.State.Shape.{Shaped, Lined, Pictured, shaped}
 use Rattle.claims.proofs.State.Sim.{Fit, view-cabinet, in-use, past-use}
 use Rattle.claims.proofs.State.ViewMoves.{Room, vPut, vJoin, vCompare, vCut, sim-join, sim-compare, sim-cut, sim-off, view-off}
-use Rattle.protocol.proofs.Answers.Tests.{in-state, same-check}
+use Rattle.claims.proofs.Answers.Tests.{in-state, same-check}
 use Rattle.claims.proofs.Invariant.Facts.{Mind, Wire, Ghost, unaware}
 use Rattle.claims.proofs.Invariant.Whole.{Inv}
 use Rattle.claims.proofs.Invariant.Past.{Past, Kept, Stays, after, no-cuts, past-one, past-same, aware-not-normal}

@@ -10,10 +10,10 @@ use Rattle.state.specs.declared.Version.{Version}
 use Rattle.state.specs.declared.Version.the-variants.{Known}
 use Rattle.image.specs.declared.Image.{Image}
 use Rattle.state.specs.State.{isIn, works, inRecovery, isUnknown, bitOf}
-use Rattle.protocol.proofs.Fun.{never, is-true, is-false, and-intro, cond-elim, not-not}
+use Rattle.claims.proofs.State.Fun.{never, is-true, is-false, and-intro, cond-elim, not-not}
 use Rattle.claims.proofs.State.View.{Own}
 use Rattle.claims.proofs.State.Shape.{Pictured}
-use Rattle.protocol.proofs.Answers.Tests.{in-state}
+use Rattle.claims.proofs.Answers.Tests.{in-state}
 use Rattle.claims.proofs.Invariant.States.{other-state}
 use Rattle.claims.proofs.Invariant.Facts.{Big, Mind, Node, Books, aware, unaware}
 use Rattle.claims.proofs.Invariant.Words.{un-works, un-not-aware, un-or-aware}

@@ -8,10 +8,10 @@ use native.Mathlib.Omega.{arith}
 use Rattle.line.specs.declared.Packet.{Packet}
 use Rattle.state.specs.declared.State.the-variants.{CheckpBegin, Checkpointed}
 use Rattle.state.specs.State.{isIn, works, inSaving}
-use Rattle.protocol.proofs.Fun.{never, is-false, and-true, and-intro}
+use Rattle.claims.proofs.State.Fun.{never, is-false, and-true, and-intro}
 use Rattle.claims.proofs.State.View.{Own, Side, used}
 use Rattle.claims.proofs.State.Methods.{sMarks}
-use Rattle.protocol.proofs.Answers.Tests.{in-state}
+use Rattle.claims.proofs.Answers.Tests.{in-state}
 use Rattle.claims.proofs.Invariant.States.{other-state}
 use Rattle.claims.proofs.Invariant.Facts.{Big, Mind, Wire, Ghost, Pair, Stream, unaware, linked, behind, closed, count, isCheckp, isSafe}
 use Rattle.claims.proofs.Invariant.Logs.{count-none}

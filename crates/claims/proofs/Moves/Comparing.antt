@@ -19,7 +19,7 @@ use Rattle.state.specs.declared.State.the-variants.{CheckpBegin, Recovered}
 use Rattle.image.specs.declared.Image.{Image}
 use Rattle.state.specs.State.{isIn, works}
 use Rattle.protocol.specs.History.{upd}
-use Rattle.protocol.proofs.Fun.{never, is-true, is-false, and-true, and-intro, upd-elim, upd-same, upd-other, or-right, upd-id, kept-at, kept-pair}
+use Rattle.claims.proofs.State.Fun.{never, is-true, is-false, and-true, and-intro, upd-elim, upd-same, upd-other, or-right, upd-id, kept-at, kept-pair}
 use Rattle.claims.proofs.State.View.{View, Own, Side, used, setLine}
 use Rattle.claims.proofs.State.Methods.{sCompared}
 use Rattle.claims.proofs.State.ViewMoves.{vCompare}

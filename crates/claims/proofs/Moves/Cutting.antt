@@ -13,7 +13,7 @@ use Rattle.state.specs.declared.State.the-variants.{Normal, CheckpBegin, Checkp
 use Rattle.image.specs.declared.Image.{Image}
 use Rattle.state.specs.State.{isIn, works, inRecovery, isUnknown}
 use Rattle.protocol.specs.History.{upd}
-use Rattle.protocol.proofs.Fun.{never, is-true, is-false, and-true, and-intro, upd-other, and-false, or-right, kept}
+use Rattle.claims.proofs.State.Fun.{never, is-true, is-false, and-true, and-intro, upd-other, and-false, or-right, kept}
 use Rattle.claims.proofs.State.View.{View, Own, Side, used}
 use Rattle.claims.proofs.State.Shape.{Pictured}
 use Rattle.claims.proofs.State.ViewMoves.{oPhase, vCut}

@@ -27,7 +27,7 @@ use Rattle.group.specs.declared.Group.{Group}
 use Rattle.group.specs.Group.{line, withLine, rowsOf, some, recoveringOnes}
 use Rattle.protocol.specs.Kinds.{need, hurtAlready, damageRefusal, hurtIf, hurt}
 use Rattle.protocol.specs.History.{History, upd, noteCuts, noteHurt}
-use Rattle.protocol.proofs.Fun.{never, is-false, and-true, and-intro, not-true-false, upd-same, upd-other, upd-elim, upd-id, pair-same, pair-other}
+use Rattle.claims.proofs.State.Fun.{never, is-false, and-true, and-intro, not-true-false, upd-same, upd-other, upd-elim, upd-id, pair-same, pair-other}
 use Rattle.claims.proofs.State.Every.{passed, with-line}
 use Rattle.claims.proofs.State.View.{View, Own, Side, used, content, view, setLine}
 use Rattle.claims.proofs.State.Cells.{content-set}

@@ -27,12 +27,12 @@ use Rattle.protocol.specs.Moves.{findLinkFault, takeCheckp, adopt, endRecovery}
 use Rattle.protocol.specs.Receive.{serving, takesFrom, joinIf, resumesFrom, receive, receiveNormal, receiveCheckp, receiveResume, receiveRecover, receiveFault, receiveInvalid}
 use Rattle.protocol.specs.Kinds.{delivered}
 use Rattle.protocol.specs.History.{History, goes, noteTaken, noteKnown, noteCuts}
-use Rattle.protocol.proofs.Fun.{never, and-true, and-intro, cond-elim, and-off, or-split}
+use Rattle.claims.proofs.State.Fun.{never, and-true, and-intro, cond-elim, and-off, or-split}
 use Rattle.claims.proofs.State.View.{view, used, content}
 use Rattle.claims.proofs.State.Sim.{Fit, in-use}
 use Rattle.claims.proofs.State.Methods.{hitsLink}
 use Rattle.claims.proofs.State.ViewMoves.{sim-off}
-use Rattle.protocol.proofs.Answers.Tests.{in-state, same-check}
+use Rattle.claims.proofs.Answers.Tests.{in-state, same-check}
 use Rattle.claims.proofs.Invariant.States.{serving-calm, not-both, apart, opens-serve}
 use Rattle.claims.proofs.Invariant.Facts.{Ghost, aware, unaware, linked, behind, resumeFirst, count, isFault, isInvalid}
 use Rattle.claims.proofs.Invariant.Whole.{Inv}

@@ -19,7 +19,7 @@ use Rattle.state.specs.State.{isIn}
 use Rattle.group.specs.declared.Group.{Group}
 use Rattle.group.specs.Group.{line, withLine}
 use Rattle.protocol.specs.History.{History, upd, noteCuts}
-use Rattle.protocol.proofs.Fun.{never, is-false, upd-same, upd-other}
+use Rattle.claims.proofs.State.Fun.{never, is-false, upd-same, upd-other}
 use Rattle.claims.proofs.State.View.{View, Own, Side, used, content, view, setLine}
 use Rattle.claims.proofs.State.Sim.{Fit}
 use Rattle.claims.proofs.State.ViewMoves.{sim-off, view-off}

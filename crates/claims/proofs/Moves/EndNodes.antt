@@ -9,7 +9,7 @@ use Rattle.state.specs.declared.State.the-variants.{Failed, Normal, CheckpBegin
 use Rattle.state.specs.declared.Version.the-variants.{Unknown}
 use Rattle.image.specs.declared.Image.{Image}
 use Rattle.state.specs.State.{isIn, works, isUnknown}
-use Rattle.protocol.proofs.Fun.{never}
+use Rattle.claims.proofs.State.Fun.{never}
 use Rattle.claims.proofs.State.View.{Own}
 use Rattle.claims.proofs.Invariant.States.{failed-state, other-state}
 use Rattle.claims.proofs.Invariant.Facts.{Big, Mind, Node, Books, aware, unaware}

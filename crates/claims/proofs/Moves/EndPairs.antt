@@ -15,7 +15,7 @@ use Rattle.state.specs.declared.State.the-variants.{CheckpBegin, Recovered}
 use Rattle.state.specs.declared.Version.{Version}
 use Rattle.cabinet.specs.declared.Alarm.the-variants.{Fault as At}
 use Rattle.state.specs.State.{isIn, works, inSaving}
-use Rattle.protocol.proofs.Fun.{never, and-true, and-intro}
+use Rattle.claims.proofs.State.Fun.{never, and-true, and-intro}
 use Rattle.claims.proofs.State.View.{Own, Side, used}
 use Rattle.claims.proofs.State.Methods.{hitsCabinet, hitsLink}
 use Rattle.claims.proofs.Invariant.Facts.{Big, Mind, Wire, Pair, Stream, Alarms, aware, unaware, linked, behind, closed, amountsIn, count, isFault, Amounts, same}

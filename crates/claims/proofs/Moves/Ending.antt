@@ -20,10 +20,10 @@ use Rattle.cabinet.specs.declared.Alarm.the-variants.{Quiet, Fault as At}
 use Rattle.cabinet.specs.Alarm.{isFor}
 use Rattle.state.specs.State.{isIn, works, isUnknown}
 use Rattle.protocol.specs.History.{upd}
-use Rattle.protocol.proofs.Fun.{never, is-false, and-true, and-intro, sum-zero, upd-same, upd-other, upd-elim, kept}
+use Rattle.claims.proofs.State.Fun.{never, is-false, and-true, and-intro, sum-zero, upd-same, upd-other, upd-elim, kept}
 use Rattle.claims.proofs.State.View.{View, Own, Side, used}
 use Rattle.claims.proofs.State.Methods.{sCleared, hitsCabinet, hitsLink}
-use Rattle.protocol.proofs.Answers.Tests.{fault-for}
+use Rattle.claims.proofs.Answers.Tests.{fault-for}
 use Rattle.claims.proofs.Invariant.Facts.{Big, Mind, Ghost, Pair, Books, unaware, amount}
 use Rattle.claims.proofs.Invariant.Whole.{Ground, Place-of, failed, faulty, Places, Inv, PairAt, NodeAt, BooksAt, workOf, awareOf, alarmOf, outOf, gotOf, GroundOf, PlacesOf, MeetsOf, ChainOf, SumsOf}
 use Rattle.claims.proofs.Invariant.Logs.{resumedBy}

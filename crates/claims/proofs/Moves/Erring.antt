@@ -17,7 +17,7 @@ use Rattle.cabinet.specs.declared.Alarm.the-variants.{Fault as At}
 use Rattle.image.specs.declared.Image.{Image}
 use Rattle.state.specs.State.{isIn, works, inRecovery, isUnknown}
 use Rattle.protocol.specs.History.{History, upd}
-use Rattle.protocol.proofs.Fun.{never, is-true, is-false, and-true, and-intro, upd-elim, upd-same, upd-other, or-right, or-left, kept-at, or-map}
+use Rattle.claims.proofs.State.Fun.{never, is-true, is-false, and-true, and-intro, upd-elim, upd-same, upd-other, or-right, or-left, kept-at, or-map}
 use Rattle.claims.proofs.State.View.{View, Own, Side, used, setSound}
 use Rattle.claims.proofs.State.Methods.{sAlarmed, hitsCabinet, hitsLink}
 use Rattle.claims.proofs.Invariant.States.{place-same}

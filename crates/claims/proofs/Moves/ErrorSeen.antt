@@ -19,7 +19,7 @@ use Rattle.group.specs.declared.Group.{Group}
 use Rattle.group.specs.Group.{cabinet}
 use Rattle.protocol.specs.History.{upd}
 use Rattle.protocol.specs.Moves.{recoverWith, recoverIfKnown, raise, enterError}
-use Rattle.protocol.proofs.Fun.{and-true, upd-elim, upd-same, upd-other, upd-id, kept-at, upd-twice}
+use Rattle.claims.proofs.State.Fun.{and-true, upd-elim, upd-same, upd-other, upd-id, kept-at, upd-twice}
 use Rattle.claims.proofs.State.Every.{ok-raise}
 use Rattle.claims.proofs.State.View.{View, Own, Side, used, view}
 use Rattle.claims.proofs.State.Shape.{Shaped, Lined, Pictured, shaped}

@@ -11,7 +11,7 @@ use Rattle.line.specs.declared.Place.{Place}
 use Rattle.line.specs.declared.Place.the-variants.{Cabinet as AtCabinet}
 use Rattle.cabinet.specs.declared.Alarm.the-variants.{Fault as At}
 use Rattle.state.specs.State.{inRecovery}
-use Rattle.protocol.proofs.Fun.{never, is-true, and-true, and-intro, not-true-false}
+use Rattle.claims.proofs.State.Fun.{never, is-true, and-true, and-intro, not-true-false}
 use Rattle.claims.proofs.State.View.{View, Own, Side, used}
 use Rattle.claims.proofs.State.ViewMoves.{vFailed}
 use Rattle.claims.proofs.Invariant.States.{place-same}

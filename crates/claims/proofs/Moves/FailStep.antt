@@ -23,13 +23,13 @@ use Rattle.group.specs.Group.{cabinet, stateOf, rowsOf, working, some, recoveri
 use Rattle.protocol.specs.Moves.{markFailed, alarmTo}
 use Rattle.protocol.specs.Kinds.{failCrashes}
 use Rattle.protocol.specs.History.{Save, History, newest, passesOver, passOver, withSaves, withStanding, notePassed, noteCuts}
-use Rattle.protocol.proofs.Fun.{never, is-false, and-true, and-not}
+use Rattle.claims.proofs.State.Fun.{never, is-false, and-true, and-not}
 use Rattle.claims.proofs.State.Every.{ok-markFailed}
 use Rattle.claims.proofs.State.View.{View, Own, used, view}
 use Rattle.claims.proofs.State.Shape.{Shaped, Lined, Pictured, shaped}
 use Rattle.claims.proofs.State.Sim.{Fit}
 use Rattle.claims.proofs.State.ViewMoves.{vFailed, sim-failed}
-use Rattle.protocol.proofs.Answers.Tests.{in-state}
+use Rattle.claims.proofs.Answers.Tests.{in-state}
 use Rattle.claims.proofs.Invariant.States.{saving-works}
 use Rattle.claims.proofs.Invariant.Facts.{Big, Ghost}
 use Rattle.claims.proofs.Invariant.Whole.{Core, Inv, workOf}

@@ -13,7 +13,7 @@ use Rattle.line.specs.declared.Packet.{Packet}
 use Rattle.state.specs.declared.State.the-variants.{Failed}
 use Rattle.image.specs.declared.Image.{Image}
 use Rattle.state.specs.State.{works, inRecovery, isUnknown}
-use Rattle.protocol.proofs.Fun.{never, is-false, and-true, cond-elim, upd-elim, upd-same, upd-other, upd-id, kept}
+use Rattle.claims.proofs.State.Fun.{never, is-false, and-true, cond-elim, upd-elim, upd-same, upd-other, upd-id, kept}
 use Rattle.claims.proofs.State.View.{View, Own, Side}
 use Rattle.claims.proofs.State.ViewMoves.{vFailed, oPhase}
 use Rattle.claims.proofs.Invariant.Facts.{Big, Mind, Wire, Ghost, Pair, Node, Books, aware, unaware, amountsIn, Amounts, count, checkpLast}

@@ -19,7 +19,7 @@ use Rattle.group.specs.Group.{cabinet, stateOf, line}
 use Rattle.protocol.specs.Receive.{serving}
 use Rattle.protocol.specs.Moves.{enterError, hear}
 use Rattle.protocol.specs.History.{History, upd, noteCuts}
-use Rattle.protocol.proofs.Fun.{and-intro, upd-elim, upd-same, upd-other, kept, kept-at, upd-swap}
+use Rattle.claims.proofs.State.Fun.{and-intro, upd-elim, upd-same, upd-other, kept, kept-at, upd-swap}
 use Rattle.claims.proofs.State.Every.{ok-enterError}
 use Rattle.claims.proofs.State.View.{View, Own, used, view, setLine}
 use Rattle.claims.proofs.State.Shape.{Shaped, Lined, Pictured, shaped}

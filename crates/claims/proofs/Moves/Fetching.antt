@@ -21,14 +21,14 @@ use Rattle.group.specs.declared.Group.{Group}
 use Rattle.group.specs.Group.{cabinet, withCabinet, stateOf, slot}
 use Rattle.protocol.specs.History.{History, upd, goes, noteKnown, noteCuts}
 use Rattle.protocol.specs.Kinds.{fetchRefusal, fetchPiece}
-use Rattle.protocol.proofs.Fun.{never, is-true, is-false, and-true, and-intro, upd-elim, upd-same}
+use Rattle.claims.proofs.State.Fun.{never, is-true, is-false, and-true, and-intro, upd-elim, upd-same}
 use Rattle.claims.proofs.State.Every.{passed}
 use Rattle.claims.proofs.State.View.{View, Own, Side, view, ownOf, sideOf, setCabinet}
 use Rattle.claims.proofs.State.Shape.{Pictured, shaped}
 use Rattle.claims.proofs.State.Sim.{Fit, view-cabinet}
 use Rattle.claims.proofs.State.Methods.{sFresh, side-fetched}
 use Rattle.claims.proofs.State.ViewMoves.{oImage, oPhase, oPieces}
-use Rattle.protocol.proofs.Answers.Tests.{in-state}
+use Rattle.claims.proofs.Answers.Tests.{in-state}
 use Rattle.claims.proofs.Invariant.States.{restoring-works, other-state}
 use Rattle.claims.proofs.Invariant.Facts.{Big, Mind, Wire, Ghost, Pair, Node, Books, SameTo, aware, unaware, behind, closed}
 use Rattle.claims.proofs.Invariant.Whole.{Inv, PairAt}

@@ -9,7 +9,7 @@ use Rattle.line.specs.declared.Packet.{Packet}
 use Rattle.state.specs.declared.State.the-variants.{CheckpBegin}
 use Rattle.image.specs.declared.Image.{Image}
 use Rattle.state.specs.State.{isIn, inRecovery, isUnknown}
-use Rattle.protocol.proofs.Fun.{never, is-false, and-true, and-intro, or-map}
+use Rattle.claims.proofs.State.Fun.{never, is-false, and-true, and-intro, or-map}
 use Rattle.claims.proofs.State.View.{View, Own, Side}
 use Rattle.claims.proofs.Invariant.Facts.{Big, Mind, Wire, Ghost, Pair, Node, Books, aware, unaware, behind, closed}
 use Rattle.claims.proofs.Invariant.Whole.{Core, ChainOf, calmOf}

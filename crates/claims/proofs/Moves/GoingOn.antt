@@ -15,7 +15,7 @@ use Rattle.state.specs.declared.Version.the-variants.{Known}
 use Rattle.image.specs.declared.Image.{Image}
 use Rattle.state.specs.State.{isIn, works, isUnknown}
 use Rattle.protocol.specs.History.{upd}
-use Rattle.protocol.proofs.Fun.{never, is-false, and-true, and-intro, upd-elim, upd-same, upd-other, kept-at, or-map}
+use Rattle.claims.proofs.State.Fun.{never, is-false, and-true, and-intro, upd-elim, upd-same, upd-other, kept-at, or-map}
 use Rattle.claims.proofs.State.View.{View, Own, Side, used}
 use Rattle.claims.proofs.Invariant.States.{known-same, known-not-unknown}
 use Rattle.claims.proofs.Invariant.Facts.{Big, Mind, Wire, Ghost, Pair, Node, Books, Alarms, aware, unaware, closed, amountsIn, isFault, isInvalid, count}

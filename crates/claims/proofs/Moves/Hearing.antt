@@ -22,14 +22,14 @@ use Rattle.group.specs.declared.Group.{Group}
 use Rattle.group.specs.Group.{cabinet, stateOf, line, withLine}
 use Rattle.protocol.specs.History.{History, upd, noteCuts}
 use Rattle.protocol.specs.Moves.{hear}
-use Rattle.protocol.proofs.Fun.{never, is-true, and-true, and-intro, upd-elim, upd-same, upd-other, kept-at}
+use Rattle.claims.proofs.State.Fun.{never, is-true, and-true, and-intro, upd-elim, upd-same, upd-other, kept-at}
 use Rattle.claims.proofs.State.Every.{with-line}
 use Rattle.claims.proofs.State.View.{View, Own, Side, used, content, view, setLine}
 use Rattle.claims.proofs.State.Shape.{Shaped, Lined, Pictured, shaped}
 use Rattle.claims.proofs.State.Sim.{Fit}
 use Rattle.claims.proofs.State.Methods.{sMarks}
 use Rattle.claims.proofs.State.ViewMoves.{vHear, sim-hear, sim-off, view-off}
-use Rattle.protocol.proofs.Answers.Tests.{fault-for}
+use Rattle.claims.proofs.Answers.Tests.{fault-for}
 use Rattle.claims.proofs.Invariant.States.{place-same}
 use Rattle.claims.proofs.Invariant.Facts.{Big, Mind, Wire, Ghost, Pair, Alarms, aware, unaware, isFault, isInvalid, count, amountsIn}
 use Rattle.claims.proofs.Invariant.Whole.{Inv}

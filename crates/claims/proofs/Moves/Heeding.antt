@@ -23,7 +23,7 @@ use Rattle.group.specs.Group.{cabinet, stateOf, line, withLine, withOutgoing, t
 use Rattle.protocol.specs.Moves.{recoverWith, enterError, hear}
 use Rattle.protocol.specs.Receive.{serving, receiveRecover, receiveFault}
 use Rattle.protocol.specs.History.{History, goes, noteTaken, noteKnown, noteCuts}
-use Rattle.protocol.proofs.Fun.{never, and-true, cond-elim, and-off}
+use Rattle.claims.proofs.State.Fun.{never, and-true, cond-elim, and-off}
 use Rattle.claims.proofs.State.View.{view}
 use Rattle.claims.proofs.State.Sim.{Fit}
 use Rattle.claims.proofs.Invariant.States.{serves-or-restores, not-both}

@@ -14,7 +14,7 @@ use Rattle.state.specs.declared.State.the-variants.{Failed, Normal, CheckpBegin
 use Rattle.image.specs.declared.Image.{Image}
 use Rattle.state.specs.State.{isIn, works, inRecovery, isUnknown}
 use Rattle.protocol.specs.History.{upd}
-use Rattle.protocol.proofs.Fun.{never, is-false, and-true, and-intro, cond-elim, upd-elim, upd-same, upd-other, and-false, or-right, kept}
+use Rattle.claims.proofs.State.Fun.{never, is-false, and-true, and-intro, cond-elim, upd-elim, upd-same, upd-other, and-false, or-right, kept}
 use Rattle.claims.proofs.State.View.{View, Own, Side, used}
 use Rattle.claims.proofs.State.Methods.{sBegun}
 use Rattle.claims.proofs.State.ViewMoves.{oPhase, oPieces, vPut, vJoin}

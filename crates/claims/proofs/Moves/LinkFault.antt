@@ -28,7 +28,7 @@ use Rattle.group.specs.Group.{cabinet, stateOf, outgoing, line, slot, withOutgo
 use Rattle.protocol.specs.History.{History, upd, noteCuts}
 use Rattle.protocol.specs.Moves.{enterError}
 use Rattle.protocol.specs.Receive.{serving}
-use Rattle.protocol.proofs.Fun.{never, is-false, and-true, and-intro, upd-other, upd-swap}
+use Rattle.claims.proofs.State.Fun.{never, is-false, and-true, and-intro, upd-other, upd-swap}
 use Rattle.claims.proofs.State.Every.{with-line}
 use Rattle.claims.proofs.State.View.{View, Side, used, content, view, setLine, setSound}
 use Rattle.claims.proofs.State.Shape.{Shaped, Lined, Pictured, shaped}

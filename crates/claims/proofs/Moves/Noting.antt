@@ -18,12 +18,12 @@ use Rattle.group.specs.declared.Group.{Group}
 use Rattle.group.specs.Group.{cabinet, withCabinet, stateOf}
 use Rattle.protocol.specs.Kinds.{noteRefusal}
 use Rattle.protocol.specs.History.{History, noteCuts}
-use Rattle.protocol.proofs.Fun.{never, and-true, kept-at}
+use Rattle.claims.proofs.State.Fun.{never, and-true, kept-at}
 use Rattle.claims.proofs.State.Every.{passed}
 use Rattle.claims.proofs.State.View.{View, Own, Side, view}
 use Rattle.claims.proofs.State.Sim.{Fit, view-cabinet}
 use Rattle.claims.proofs.State.ViewMoves.{oImage}
-use Rattle.protocol.proofs.Answers.Tests.{in-state}
+use Rattle.claims.proofs.Answers.Tests.{in-state}
 use Rattle.claims.proofs.Invariant.Facts.{Big, Mind, Wire, Ghost, Pair, Node, Books, SameTo, aware, unaware}
 use Rattle.claims.proofs.Invariant.Whole.{Inv, PairAt, BooksAt}
 use Rattle.claims.proofs.Invariant.Past.{Past, Kept, aware-not-normal, past-still}

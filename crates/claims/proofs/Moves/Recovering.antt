@@ -19,11 +19,11 @@ use Rattle.group.specs.declared.Group.{Group}
 use Rattle.group.specs.Group.{cabinet, stateOf, line}
 use Rattle.protocol.specs.History.{History, upd, noteCuts}
 use Rattle.protocol.specs.Moves.{recoverWith}
-use Rattle.protocol.proofs.Fun.{never, is-true, and-intro, upd-elim}
+use Rattle.claims.proofs.State.Fun.{never, is-true, and-intro, upd-elim}
 use Rattle.claims.proofs.State.View.{View, Own, view, setLine}
 use Rattle.claims.proofs.State.Sim.{Fit}
 use Rattle.claims.proofs.State.ViewMoves.{oPhase, view-off}
-use Rattle.protocol.proofs.Answers.Tests.{in-state}
+use Rattle.claims.proofs.Answers.Tests.{in-state}
 use Rattle.claims.proofs.Invariant.Facts.{Ghost, Alarms, aware, isFault, resumeFirst}
 use Rattle.claims.proofs.Invariant.Whole.{Core, Inv, PlacesOf}
 use Rattle.claims.proofs.Invariant.Past.{Past, Kept, aware-not-normal, past-still, past-turn}

@@ -11,7 +11,7 @@ use Rattle.cabinet.specs.Cabinet.{owing}
 use Rattle.group.specs.declared.Group.{Group}
 use Rattle.group.specs.Group.{cabinet}
 use Rattle.protocol.specs.Kinds.{reportSaved}
-use Rattle.protocol.proofs.Fun.{never, is-false, upd-elim, upd-same, kept-at}
+use Rattle.claims.proofs.State.Fun.{never, is-false, upd-elim, upd-same, kept-at}
 use Rattle.claims.proofs.State.Every.{with-cabinet}
 use Rattle.claims.proofs.State.View.{View, Own, Side, view}
 use Rattle.claims.proofs.State.Shape.{Shaped, Lined, Pictured, shaped}

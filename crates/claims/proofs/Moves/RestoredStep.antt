@@ -23,14 +23,14 @@ use Rattle.protocol.specs.Moves.{endRecovery}
 use Rattle.protocol.specs.Kinds.{mayReport, restoredRefusal, reportRestored, endIfAll}
 use Rattle.protocol.specs.History.{Cut, History, latest, imageIn, lostNow, noteEnd, noteCuts, ends, goes}
 use Rattle.protocol.specs.Restored.{Restored, counted, countedTo, amperes}
-use Rattle.protocol.proofs.Fun.{never, is-false, and-true, and-intro, cond-elim, upd-elim, upd-same, upd-other, sum, kept-at}
+use Rattle.claims.proofs.State.Fun.{never, is-false, and-true, and-intro, cond-elim, upd-elim, upd-same, upd-other, sum, kept-at}
 use Rattle.claims.proofs.State.Every.{passed, with-cabinet}
 use Rattle.claims.proofs.State.View.{View, Own, Side, view, used}
 use Rattle.claims.proofs.State.Shape.{Shaped, Lined, Pictured, shaped}
 use Rattle.claims.proofs.State.Sim.{Fit, in-use}
 use Rattle.claims.proofs.State.Methods.{sCleared}
 use Rattle.claims.proofs.State.ViewMoves.{Room, vResumed, vRestored, sim-restored, sim-resume}
-use Rattle.protocol.proofs.Answers.Tests.{in-state}
+use Rattle.claims.proofs.Answers.Tests.{in-state}
 use Rattle.claims.proofs.Invariant.States.{restoring-one, restoring-works, known-is-known}
 use Rattle.claims.proofs.Invariant.Facts.{Mind, Ghost, unaware}
 use Rattle.claims.proofs.Invariant.Whole.{Inv, workOf, awareOf}

@@ -23,13 +23,13 @@ use Rattle.group.specs.Group.{cabinet, stateOf, line, withLine}
 use Rattle.protocol.specs.History.{History, upd, goes, noteCuts}
 use Rattle.protocol.specs.Moves.{endRecovery}
 use Rattle.protocol.specs.Receive.{resumesFrom}
-use Rattle.protocol.proofs.Fun.{never, is-true, and-true, and-intro, upd-same, upd-other}
+use Rattle.claims.proofs.State.Fun.{never, is-true, and-true, and-intro, upd-same, upd-other}
 use Rattle.claims.proofs.State.Every.{with-line}
 use Rattle.claims.proofs.State.View.{View, Side, used, content, view, setLine}
 use Rattle.claims.proofs.State.Shape.{Shaped, Lined, Pictured, shaped}
 use Rattle.claims.proofs.State.Sim.{Fit}
 use Rattle.claims.proofs.State.ViewMoves.{Room, vPut, vBroadcast, vResumed, sim-resume, sim-off, view-off}
-use Rattle.protocol.proofs.Answers.Tests.{in-state}
+use Rattle.claims.proofs.Answers.Tests.{in-state}
 use Rattle.claims.proofs.Invariant.Facts.{Ghost, aware, unaware, linked, behind, isFault}
 use Rattle.claims.proofs.Invariant.Whole.{Inv}
 use Rattle.claims.proofs.Invariant.Past.{Past, Kept, past-turn}

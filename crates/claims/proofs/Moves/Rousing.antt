@@ -14,7 +14,7 @@ use mathlib.Core.List.{List, [], _++_}
 use mathlib.Core.Logic.{inl, ⊎-elim, inr}
 use mathlib.Core.Path.{_≡_, refl, sym, ap, _∙_, subst, fun-ext}
 use native.Mathlib.Omega.{arith}
-use Rattle.protocol.proofs.Fun.{never, and-true, and-intro, upd-same, is-false}
+use Rattle.claims.proofs.State.Fun.{never, and-true, and-intro, upd-same, is-false}
 use Rattle.claims.proofs.State.View.{View, Own, Side, used}
 use Rattle.claims.proofs.State.Methods.{sCleared}
 use Rattle.claims.proofs.State.ViewMoves.{oPhase, oPieces, vPut, vBroadcast, vResumed}

@@ -22,7 +22,7 @@ use Rattle.protocol.specs.Moves.{commit, resumeWith}
 use Rattle.protocol.specs.Kinds.{savedRefusal, reportSaved, commitIfAll}
 use Rattle.protocol.specs.History.{History, Cut, latest, commits, noteCommit, noteCuts, upd}
 use Rattle.protocol.specs.Restored.{sentIn, takenIn}
-use Rattle.protocol.proofs.Fun.{never, is-false, and-true, upd-elim, upd-same, upd-other, kept-at}
+use Rattle.claims.proofs.State.Fun.{never, is-false, and-true, upd-elim, upd-same, upd-other, kept-at}
 use Rattle.claims.proofs.State.Every.{passed, ok-reportSaved}
 use Rattle.claims.proofs.State.View.{View, Own, Side, used, view}
 use Rattle.claims.proofs.State.Shape.{Shaped, Lined, Pictured, shaped}

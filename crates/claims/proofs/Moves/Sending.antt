@@ -27,14 +27,14 @@ use Rattle.group.specs.declared.Group.{Group}
 use Rattle.group.specs.Group.{cabinet, stateOf, line}
 use Rattle.protocol.specs.Kinds.{need, sendRefusal, sent}
 use Rattle.protocol.specs.History.{History, upd, logged, withSent, noteCuts}
-use Rattle.protocol.proofs.Fun.{never, and-true, and-intro, upd-same, upd-other, upd-elim, sum, sum-cong, sum-at, kept-at, upd-pair, pair-same, pair-other}
+use Rattle.claims.proofs.State.Fun.{never, and-true, and-intro, upd-same, upd-other, upd-elim, sum, sum-cong, sum-at, kept-at, upd-pair, pair-same, pair-other}
 use Rattle.claims.proofs.State.Every.{passed}
 use Rattle.claims.proofs.State.View.{View, Own, Side, used, view}
 use Rattle.claims.proofs.State.Shape.{Pictured}
 use Rattle.claims.proofs.State.Sim.{Fit, in-use}
 use Rattle.claims.proofs.State.Methods.{sRegisters}
 use Rattle.claims.proofs.State.ViewMoves.{oImage, vSent, sim-sent}
-use Rattle.protocol.proofs.Answers.Tests.{in-state}
+use Rattle.claims.proofs.Answers.Tests.{in-state}
 use Rattle.claims.proofs.Invariant.Facts.{Big, Mind, Wire, Ghost, Pair, Books, Stream, aware, unaware, linked, behind, closed, amountsIn, count, isFault, isCheckp, isSafe, isInvalid, amount}
 use Rattle.claims.proofs.Invariant.Whole.{Inv, PairAt, BooksAt, outOf, gotOf}
 use Rattle.claims.proofs.Invariant.Past.{Past, Kept, no-cuts, aware-not-normal}

@@ -12,9 +12,9 @@ use Rattle.state.specs.declared.State.{State}
 use Rattle.state.specs.declared.State.the-variants.{Normal, CheckpBegin, Checkpointing, Checkpointed, Recovered}
 use Rattle.image.specs.declared.Image.{Image}
 use Rattle.state.specs.State.{isIn, works, isUnknown}
-use Rattle.protocol.proofs.Fun.{never, is-false, and-true, and-intro, or-right}
+use Rattle.claims.proofs.State.Fun.{never, is-false, and-true, and-intro, or-right}
 use Rattle.claims.proofs.State.View.{Own, Side}
-use Rattle.protocol.proofs.Answers.Tests.{in-state}
+use Rattle.claims.proofs.Answers.Tests.{in-state}
 use Rattle.claims.proofs.Invariant.States.{other-state}
 use Rattle.claims.proofs.Invariant.Facts.{Big, Mind, Wire, Ghost, Pair, Node, Books, Stream, SameTo, unaware, linked, behind, closed, count, isCheckp, checkpLast}
 use Rattle.claims.proofs.Invariant.Words.{un-works, un-not-aware, aware-works}

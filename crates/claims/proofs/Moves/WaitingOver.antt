@@ -22,11 +22,11 @@ use Rattle.group.specs.Group.{cabinet, stateOf, working, unsure}
 use Rattle.protocol.specs.Moves.{recoverWith}
 use Rattle.protocol.specs.Kinds.{need, waitOverRefusal, lostCoordinator}
 use Rattle.protocol.specs.History.{History, noteCuts}
-use Rattle.protocol.proofs.Fun.{never, is-true, and-true, and-intro}
+use Rattle.claims.proofs.State.Fun.{never, is-true, and-true, and-intro}
 use Rattle.claims.proofs.State.Every.{passed}
 use Rattle.claims.proofs.State.View.{View, view}
 use Rattle.claims.proofs.State.Sim.{Fit}
-use Rattle.protocol.proofs.Answers.Tests.{in-state, those-marked}
+use Rattle.claims.proofs.Answers.Tests.{in-state, those-marked}
 use Rattle.claims.proofs.Invariant.States.{unknown-old}
 use Rattle.claims.proofs.Invariant.Facts.{Ghost, aware, unaware}
 use Rattle.claims.proofs.Invariant.Whole.{Core, Inv, Place-of, failed}

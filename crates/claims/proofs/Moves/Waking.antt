@@ -18,7 +18,7 @@ use Rattle.cabinet.specs.declared.Alarm.{Alarm}
 use Rattle.image.specs.declared.Image.{Image}
 use Rattle.state.specs.State.{isIn, works}
 use Rattle.protocol.specs.History.{upd}
-use Rattle.protocol.proofs.Fun.{never, is-false, and-true, upd-elim, upd-same, upd-other, upd-id, kept, upd-swap}
+use Rattle.claims.proofs.State.Fun.{never, is-false, and-true, upd-elim, upd-same, upd-other, upd-id, kept, upd-swap}
 use Rattle.claims.proofs.State.View.{View, Own, Side, used, setLine}
 use Rattle.claims.proofs.State.Methods.{sCleared}
 use Rattle.claims.proofs.Invariant.States.{known-same, known-not-unknown, other-state}

@@ -23,14 +23,14 @@ use Rattle.group.specs.declared.Group.{Group}
 use Rattle.group.specs.Group.{cabinet, stateOf, slot}
 use Rattle.protocol.specs.Kinds.{need, writeRefusal, writePiece, oweIf}
 use Rattle.protocol.specs.History.{History, noteCuts, upd}
-use Rattle.protocol.proofs.Fun.{never, not-true-false, cond-elim, is-false, and-true, upd-elim, upd-same, upd-other, kept-at}
+use Rattle.claims.proofs.State.Fun.{never, not-true-false, cond-elim, is-false, and-true, upd-elim, upd-same, upd-other, kept-at}
 use Rattle.claims.proofs.State.Every.{passed, with-slot, ok-writePiece}
 use Rattle.claims.proofs.State.View.{View, Own, Side, ownOf, sideOf, same, view, setCabinet, setSlot}
 use Rattle.claims.proofs.State.Shape.{Shaped, Lined, Pictured, shaped}
 use Rattle.claims.proofs.State.Sim.{Fit, view-cabinet, view-slot}
 use Rattle.claims.proofs.State.Methods.{sOwed}
 use Rattle.claims.proofs.State.ViewMoves.{oPieces, vOwe, sim-owe}
-use Rattle.protocol.proofs.Answers.Tests.{in-state}
+use Rattle.claims.proofs.Answers.Tests.{in-state}
 use Rattle.claims.proofs.Invariant.States.{known-is-known, other-state}
 use Rattle.claims.proofs.Invariant.Facts.{Big, Mind, Wire, Ghost, Pair, Node, Books, SameTo, aware, unaware, behind, closed}
 use Rattle.claims.proofs.Invariant.Whole.{Inv, PairAt, NodeAt, ChainOf, workOf, calmOf, knownOf, tabOf, outOf, gotOf}

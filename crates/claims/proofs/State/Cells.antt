@@ -10,7 +10,7 @@ use Rattle.line.specs.declared.Packet.the-variants.{Empty, Normal as NormalPack
 use Rattle.line.specs.declared.Cell.{Cell}
 use Rattle.line.specs.Packet.{isEmpty}
 use Rattle.line.specs.Line.{emptyCell, restCells, putCells}
-use Rattle.protocol.proofs.Fun.{cond-elim}
+use Rattle.claims.proofs.State.Fun.{cond-elim}
 use Rattle.claims.proofs.State.View.{packetOf, content}
 
 -- ---- empty and full cells

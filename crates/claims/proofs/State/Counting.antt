@@ -30,7 +30,7 @@ use Rattle.protocol.specs.Moves.{broadcast, join, cutIfAll, takeCheckp, resumeW
 use Rattle.protocol.specs.Receive.{serving, takesFrom, joinIf, resumesFrom, receiveNormal, receiveCheckp, receiveResume, receiveRecover, receiveFault, receiveInvalid, receive}
 use Rattle.protocol.specs.Kinds.{orRefuse, sendStep, sendRefusal, sent, noteStep, noteRefusal, beginStep, beginRefusal, deliverStep, deliverRefusal, delivered, writeStep, writeRefusal, writePiece, oweIf, savedStep, savedRefusal, reportSaved, commitIfAll, fetchStep, fetchRefusal, fetchPiece, restoredStep, restoredRefusal, reportRestored, endIfAll, waitOverStep, waitOverRefusal, failStep, failCrashes, hurtIf, hurt, damageStep, damageRefusal}
 use Rattle.protocol.specs.Entry.{step, stepDecoded, perform, entryRefusal, decode}
-use Rattle.protocol.proofs.Fun.{cond-elim}
+use Rattle.claims.proofs.State.Fun.{cond-elim}
 
 -- ---- the moves
 

@@ -44,7 +44,7 @@ use Rattle.protocol.specs.Moves.{broadcast, join, cutIfAll, takeCheckp, resumeW
 use Rattle.protocol.specs.Receive.{serving, takesFrom, receiveNormal, joinIf, receiveCheckp, resumesFrom, receiveResume, receiveRecover, receiveFault, receiveInvalid, receive}
 use Rattle.protocol.specs.Kinds.{need, orRefuse, sendRefusal, sent, sendStep, noteRefusal, noteStep, beginStep, beginRefusal, deliverRefusal, delivered, deliverStep, writeRefusal, writePiece, oweIf, writeStep, savedRefusal, reportSaved, commitIfAll, savedStep, fetchRefusal, fetchPiece, fetchStep, restoredRefusal, reportRestored, endIfAll, restoredStep, waitOverRefusal, waitOverStep, failCrashes, failStep, hurtIf, hurt, damageRefusal, damageStep}
 use Rattle.protocol.specs.Entry.{step, stepDecoded, perform, entryRefusal, decode, fieldsOf, aloneOf}
-use Rattle.protocol.proofs.Fun.{cond-elim, and-true}
+use Rattle.claims.proofs.State.Fun.{cond-elim, and-true}
 
 -- ---- lists: what holds of the element stored and of the old ones holds of each one after the store
 

@@ -22,7 +22,7 @@ use Rattle.cabinet.specs.Cabinet.{inUse, sending, taking, hurtFrom, restartIf, 
 use Rattle.image.specs.declared.Image.{Image}
 use Rattle.state.specs.declared.State.the-variants.{Recovered}
 use Rattle.protocol.specs.History.{upd}
-use Rattle.protocol.proofs.Fun.{upd-elim, and-false, and-same}
+use Rattle.claims.proofs.State.Fun.{upd-elim, and-false, and-same}
 use Rattle.claims.proofs.State.Every.{getD-repeated}
 use Rattle.claims.proofs.State.View.{Side, sideOf, used}
 use Rattle.claims.proofs.State.Shape.{Shaped}

@@ -22,7 +22,7 @@ use Rattle.marks.proofs.Lists.{getD-in}
 use Rattle.load.specs.Load.{load, loadRefusal, groupOf, noGroup, cabinetCount, cabinetOf, cabinetsOf, imageOf, slotsOf, storeOf, linked, linkRows, linkCount, rowsIn, lowerOf, higherOf}
 use Rattle.protocol.specs.History.{World, advance, run, opening}
 use Rattle.protocol.specs.Restored.{Octets, Records}
-use Rattle.protocol.proofs.Fun.{cond-elim}
+use Rattle.claims.proofs.State.Fun.{cond-elim}
 use Rattle.claims.proofs.State.Every.{getD-set, getD-each, getD-repeated, every-step}
 use Rattle.claims.proofs.State.Shape.{Shaped, Lined, Pictured, shaped}
 use Rattle.claims.proofs.State.Sim.{Fit}

@@ -22,7 +22,7 @@ use Rattle.image.specs.declared.Image.{Image}
 use Rattle.cabinet.specs.declared.Cabinet.{Cabinet}
 use Rattle.image.specs.Image.{booked, withBooked, withOctet, pieceTo}
 use Rattle.cabinet.specs.Cabinet.{inUse, sending, taking, restartIf, restartTo, struckAt, wrote, fetched, alarmed}
-use Rattle.protocol.proofs.Fun.{cond-elim}
+use Rattle.claims.proofs.State.Fun.{cond-elim}
 use Rattle.claims.proofs.State.Every.{Closed, getD-set, getD-repeated}
 use Rattle.claims.proofs.State.View.{content, packetOf}
 use Rattle.claims.proofs.State.Cells.{Packed, packed-put, length-put, packed-rest, length-rest, packed-set, empty-is}

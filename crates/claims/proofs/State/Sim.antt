@@ -24,7 +24,7 @@ use Rattle.group.specs.declared.Group.{Group}
 use Rattle.outgoing.specs.Lines.{emptyLines, lineTo, withLineTo, putIf, putRowTo}
 use Rattle.group.specs.Group.{cabinet, withCabinet, outgoing, withOutgoing, line, withLine, blankSlots, slot, withSlot, withSlots}
 use Rattle.protocol.specs.History.{upd}
-use Rattle.protocol.proofs.Fun.{upd-elim}
+use Rattle.claims.proofs.State.Fun.{upd-elim}
 use Rattle.claims.proofs.State.Every.{Framed, All}
 use Rattle.claims.proofs.State.View.{ownOf, sideOf, used, content, view, setCabinet, setLines, setLine, setSlot, same}
 use Rattle.claims.proofs.State.Cells.{content-put}

@@ -35,7 +35,7 @@ use Rattle.group.specs.Group.{cabinet, withCabinet, outgoing, withOutgoing, lin
 use Rattle.protocol.specs.History.{upd}
 use Rattle.protocol.specs.Moves.{broadcast, join, resumeWith, recoverWith, raise, hear, emptiedTo, markFailed}
 use Rattle.protocol.specs.Kinds.{sent}
-use Rattle.protocol.proofs.Fun.{upd-elim, upd-same, and-false}
+use Rattle.claims.proofs.State.Fun.{upd-elim, upd-same, and-false}
 use Rattle.claims.proofs.State.Every.{getD-repeated, with-cabinet, with-outgoing, put-checkps, out-of, no-packets, ok-emptied}
 use Rattle.claims.proofs.State.View.{View, Own, ownOf, used, content, view, setCabinet, setLines, setLine}
 use Rattle.claims.proofs.State.Cells.{content-oldest}

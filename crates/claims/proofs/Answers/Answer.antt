@@ -10,10 +10,10 @@ use native.Mathlib.Omega.{arith}
 use Rattle.group.specs.declared.Group.{Group}
 use Rattle.group.specs.declared.Outcome.{Outcome}
 use Rattle.group.specs.Group.{answering, taken, crashAll, crashed}
 use Rattle.protocol.specs.Kinds.{need, orRefuse}
 use Rattle.protocol.specs.Answers.{among}
-use Rattle.protocol.proofs.Fun.{or-right, or-left}
-use Rattle.protocol.proofs.Answers.Tests.{Reflects}
+use Rattle.claims.proofs.State.Fun.{or-right, or-left}
+use Rattle.claims.proofs.Answers.Tests.{Reflects}
 
 -- ---- which refusal
 

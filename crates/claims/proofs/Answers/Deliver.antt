@@ -21,14 +21,14 @@ use Rattle.group.specs.declared.Group.{Group}
 use Rattle.cabinet.specs.Alarm.{isFor}
 use Rattle.state.specs.State.{isIn, inRecovery}
 use Rattle.group.specs.Group.{cabinet, stateOf, line, withOutgoing, withLine, working}
 use Rattle.protocol.specs.Moves.{findLinkFault}
 use Rattle.protocol.specs.Receive.{serving, takesFrom, receiveNormal, receiveCheckp, receiveResume, receiveRecover, receiveFault, receiveInvalid, receive}
 use Rattle.protocol.specs.Crash.{Recovers, Saves, Serves, Compares, Unreached, soundLinks, PlacesMeet, LinkFault}
 use Rattle.protocol.specs.Crash.PlacesMeet.{other-place}
 use Rattle.protocol.specs.Crash.LinkFault.{unequal, after-checkp, after-cut, hit}
-use Rattle.protocol.proofs.Answers.Tests.{Reflects, itself, not-reflects, or-reflects, and-reflects, in-state, in-recovery, in-serving, serves-or-recovers, fault-for, same-check, not-reached}
-use Rattle.protocol.proofs.Answers.Answer.{Answer, recast, either, only-if, unless, crash-unless}
-use Rattle.protocol.proofs.Answers.Answer.Answer.{took}
+use Rattle.claims.proofs.Answers.Tests.{Reflects, itself, not-reflects, or-reflects, and-reflects, in-state, in-recovery, in-serving, serves-or-recovers, fault-for, same-check, not-reached}
+use Rattle.claims.proofs.Answers.Answer.{Answer, recast, either, only-if, unless, crash-unless}
+use Rattle.claims.proofs.Answers.Answer.Answer.{took}
 
 -- ---- a normal packet out of place
 

@@ -12,21 +12,21 @@ use Rattle.group.specs.declared.Group.{Group}
 use Rattle.group.specs.declared.Outcome.{Outcome}
 use Rattle.cabinet.specs.Cabinet.{inUse}
 use Rattle.group.specs.Group.{cabinet, line, some, working, recoveringOnes, taken, crashAll}
 use Rattle.protocol.specs.declared.Step.{Step}
 use Rattle.protocol.specs.declared.Step.the-variants.{Send, Note, Begin, Deliver, Write, Saved, Fetch, Restored, WaitOver, Fail, Damage}
 use Rattle.protocol.specs.declared.Decoded.{Decoded}
 use Rattle.protocol.specs.declared.Decoded.the-variants.{Malformed, Unused, Taken}
 use Rattle.protocol.specs.Kinds.{need, orRefuse, sendStep, noteStep, beginStep, deliverRefusal, delivered, deliverStep, writeStep, savedStep, fetchStep, restoredStep, waitOverStep, failCrashes, failStep, damageRefusal, damageStep}
 use Rattle.protocol.specs.Entry.{decode, actorWorks, entryRefusal, perform, stepDecoded, step}
 use Rattle.protocol.specs.Answers.{among, workNumbers, kindNumbers, refusalNumbers, kindRefusal}
 use Rattle.protocol.specs.Crash.{SomeRecovers, Unreached, soundLinks, LineInUse, Cause, Crashes}
 use Rattle.protocol.specs.Crash.Cause.{store-fails, fails-in-recovery, damage-in-recovery, places-meet, fail-parts, link-parts}
 use Rattle.protocol.specs.Crash.Crashes.{crashes}
-use Rattle.protocol.proofs.Answers.Tests.{Reflects, itself, or-reflects, some-recovers, not-reached}
-use Rattle.protocol.proofs.Answers.Answer.{Listed, checks, Answer, recast, refusing, guarded, only-if, crash-if, keeps, listed, crashes-all, exactly}
-use Rattle.protocol.proofs.Answers.Answer.Listed.{nothing}
-use Rattle.protocol.proofs.Answers.Answer.Answer.{took, refused}
-use Rattle.protocol.proofs.Answers.Deliver.{Upset, receive-answers}
+use Rattle.claims.proofs.Answers.Tests.{Reflects, itself, or-reflects, some-recovers, not-reached}
+use Rattle.claims.proofs.Answers.Answer.{Listed, checks, Answer, recast, refusing, guarded, only-if, crash-if, keeps, listed, crashes-all, exactly}
+use Rattle.claims.proofs.Answers.Answer.Listed.{nothing}
+use Rattle.claims.proofs.Answers.Answer.Answer.{took, refused}
+use Rattle.claims.proofs.Answers.Deliver.{Upset, receive-answers}
 
 -- ---- the kinds: their refusals, and those that crash nothing
 
