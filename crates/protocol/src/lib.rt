@@ -1,5 +1,5 @@
 // The steps of a group, and what a step record decodes to.
-// The protocol itself is in specs/, and the theorems about it are in proofs/.
+// The protocol itself is in specs/, closed runs of it are in proofs/, and the theorems about it in the crate claims.
 
 // A step with the fields that its kind uses. Cabinets are numbered from 1, as in the record.
 pub enum Step {
