@@ -18,8 +18,8 @@ use Rattle.group.specs.declared.Group.{Group}
 use Rattle.group.specs.Group.{cabinet, stateOf}
 use Rattle.load.specs.Load.{load, cabinetCount}
 use Rattle.protocol.specs.Entry.{step}
-use Rattle.protocol.specs.History.{Cut, History, World, advance, ends, latest}
-use Rattle.protocol.specs.Restored.{takenIn, counted, worldAfter}
+use Rattle.protocol.specs.History.{Cut, History, World, advance, opening, ends, latest}
+use Rattle.protocol.specs.Restored.{takenIn, counted}
 use Rattle.protocol.specs.Marked.{twoOctets, header, recordOf, send, begin, deliver, fetch, restored, fail}
 
 -- ---- files and records
@@ -62,14 +62,34 @@ pub record Example : Type 0 where
   pub last : List ℕ
   pub coordinator : ℕ
 
+-- those before the last one
 abbrev pub records : Example → List (List ℕ)
 records e = e .before ++ e .since
 
-abbrev pub worldTo : Example → List (List ℕ) → World
-worldTo e rs = worldAfter (e .file) rs
+-- the run so far: whether every record was taken, and what the records made of the file. One walk serves all that is found.
+pub record Walk : Type 0 where
+  pub taken : Bool
+  pub world : World
 
-abbrev pub worldAtEnd : Example → World
-worldAtEnd e = advance (worldTo e (records e)) (e .last)
+abbrev pub walkOn : Walk → List ℕ → Walk
+walkOn w r = record { taken = w .taken && eqb (step (w .world .group) r .answer) 0; world = advance (w .world) r }
+
+unfoldable pub walk : Walk → List (List ℕ) → Walk
+walk w [] = w
+walk w (r ∷ rs) = walk (walkOn w r) rs
+
+abbrev pub setOut : Example → Walk
+setOut e = record { taken = true; world = opening (load (e .file) .group) }
+
+-- at the fault, before the last record, and after it
+abbrev pub walkToFault : Example → Walk
+walkToFault e = walk (setOut e) (e .before)
+
+abbrev pub walkNear : Example → Walk
+walkNear e = walk (walkToFault e) (e .since)
+
+abbrev pub walkToEnd : Example → Walk
+walkToEnd e = walkOn (walkNear e) (e .last)
 
 -- what is found; a list has one place for each cabinet
 pub record Found : Type 0 where
@@ -92,10 +112,6 @@ pub record Found : Type 0 where
   pub standing : List Image
   pub held : List (Option Image)
   pub gone : List (Option Image)
-
-abbrev pub allTaken : Group → List (List ℕ) → Bool
-allTaken g [] = true
-allTaken g (r ∷ rs) = eqb (step g r .answer) 0 && allTaken (step g r .group) rs
 
 -- what was taken by a cut from the first n cabinets, from the first one first
 abbrev pub takenFrom : ℕ → Option Cut → List Payload
@@ -120,26 +136,32 @@ forEach (suc n) f = forEach n f ++ f n ∷ []
 abbrev pub sizeOf : Example → ℕ
 sizeOf e = cabinetCount (e .file)
 
-abbrev pub foundIn : Example → World → World → World → Found
-foundIn e fault near end = record {
+abbrev pub foundAt : Example → World → World → Walk → Found
+foundAt e fault near end = record {
   loaded = load (e .file) .answer;
-  taken = allTaken (load (e .file) .group) (records e ++ e .last ∷ []);
-  ended = works (stateOf (near .group) (e .coordinator)) && ends (near .group) (end .group) (e .coordinator);
+  taken = end .taken;
+  ended = works (stateOf (near .group) (e .coordinator)) && ends (near .group) (end .world .group) (e .coordinator);
   place = cabinet (near .group) (e .coordinator) .phase .alarm;
   committed = length (fault .history .saves);
-  left = length (end .history .saves);
+  left = length (end .world .history .saves);
   begun = near .history .begun;
   stands = near .history .standing;
-  by = latest (end .history) .by;
-  took = forEach (sizeOf e) (tookIn (sizeOf e) (end .history));
+  by = latest (end .world .history) .by;
+  took = forEach (sizeOf e) (tookIn (sizeOf e) (end .world .history));
   standing = forEach (sizeOf e) (λ c. cabinet (fault .group) c .image);
-  held = forEach (sizeOf e) (heldBy (end .group));
-  gone = forEach (sizeOf e) (goneOf (end .history) (end .group));
+  held = forEach (sizeOf e) (heldBy (end .world .group));
+  gone = forEach (sizeOf e) (goneOf (end .world .history) (end .world .group));
 }
 
--- at the fault, before the last record and after it
+-- Each part of the walk is handed on, so that it is computed once.
+abbrev pub foundNear : Example → Walk → Walk → Found
+foundNear e fault near = foundAt e (fault .world) (near .world) (walkOn near (e .last))
+
+abbrev pub foundFrom : Example → Walk → Found
+foundFrom e fault = foundNear e fault (walk fault (e .since))
+
 unfoldable pub found : Example → Found
-found e = foundIn e (worldTo e (e .before)) (worldTo e (records e)) (worldAtEnd e)
+found e = foundFrom e (walkToFault e)
 
 -- an image with a booking and a note in its last octet
 abbrev pub imageWith : ℕ → ℕ → Image
