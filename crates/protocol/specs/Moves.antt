@@ -1,4 +1,4 @@
--- The moves that the rules of document 01 are made of, each once: what several kinds of step or packet have in common.
+-- The moves that the rules of document 01 are made of, each once.
 use Prim.Native.Nat.{ℕ, zero, suc}
 use mathlib.Core.Bool.{Bool, true, false, cond, _&&_}
 use lib.ListN.{set}
