@@ -302,9 +302,9 @@ pub record Node (b : Big) (c : ℕ) (o : Own) (m : Mind) (z : Bool → Image) : 
   -- D5, D7
   pub cutImage : b .alive ≡ true → m .done ≡ true → unaware b o ≡ true → o .image ≡ m .cut
   pub gone : m .tab ≡ false → (m .base ≡ m .top) × (b .adopted ≡ false → m .prev ≡ m .top)
-  -- E1 to E3
-  pub slotTop : works (o .state) ≡ true → z (b .topv) ≡ m .top
-  pub slotPrev : b .adopted ≡ false → c ≢ b .chief → works (o .state) ≡ true → z (not (b .topv)) ≡ m .prev
+  -- E1 to E3: of failed cabinets too, until the recovery ends; the coordinator writes over the save before once it has its cut
+  pub slotTop : m .tab ≡ true → z (b .topv) ≡ m .top
+  pub slotPrev : b .adopted ≡ false → m .tab ≡ true → (c ≡ b .chief → m .done ≡ false) → z (not (b .topv)) ≡ m .prev
   pub slotCut : b .alive ≡ true → m .wrote ≡ true → z (not (b .topv)) ≡ m .cut
   pub slotPieces : b .alive ≡ true → unaware b o ≡ true → o .state ≡ Checkpointing → SameTo (8 * o .pieces) (z (not (b .topv))) (m .cut)
   -- images have their 32 octets

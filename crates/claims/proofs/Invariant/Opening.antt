@@ -189,7 +189,7 @@ module _ (c : ℕ) (o : Own) (x : Image) (t : Bool) (z : Bool → Image) (r : Re
     waits = λ e. absurd (true≢false e);
     cutImage = λ a e. absurd (false≢true e);
     gone = λ e. (refl, λ f. refl);
-    slotTop = λ w. slot (sym (working-tab t o r) ∙ w);
+    slotTop = slot;
     slotPrev = λ e. absurd (true≢false e);
     slotCut = λ a e. absurd (false≢true e);
     slotPieces = λ a u e. not-in Checkpointing refl refl refl e;

@@ -219,8 +219,8 @@ module _ (b : Big) (c : ℕ) (o : Own) (m : Mind) (z : Bool → Image) (h : Node
         waits = λ a n e. (h .waits a n w .0, no);
         cutImage = λ a d. no;
         gone = h .gone;
-        slotTop = λ e. h .slotTop w;
-        slotPrev = λ a n e. h .slotPrev a n w;
+        slotTop = h .slotTop;
+        slotPrev = h .slotPrev;
         slotCut = h .slotCut;
         slotPieces = λ a. no;
         sizes = h .sizes;

@@ -273,8 +273,8 @@ module _ (b : Big) (c : ℕ) (o : Own) (m : Mind) (z : Bool → Image) (h : Node
         waits = no-first;
         cutImage = λ a e. none-calm;
         gone = h .gone;
-        slotTop = λ e. h .slotTop at-work;
-        slotPrev = no-first;
+        slotTop = h .slotTop;
+        slotPrev = λ e. no-first e;
         slotCut = h .slotCut;
         slotPieces = λ a. none-calm;
         sizes = h .sizes;
@@ -374,7 +374,7 @@ module _ (total : ℕ) (g : Group) (h : History) (γ : Ghost) (w : Fit g) (i : I
   x = withPiece k from (cabinet g a .image)
 
   top : from ≡ γ .mind a .top
-  top = ap (slot g a) home-version ∙ i .core .nodes a .slotTop (aware-works (γ .big) (v .own a) aw)
+  top = ap (slot g a) home-version ∙ i .core .nodes a .slotTop (i .core .nodes a .placed (aware-works (γ .big) (v .own a) aw))
 
   few : k < 4
   few = i .core .nodes a .inRecovering aw state .0

@@ -328,8 +328,8 @@ module _ (b : Big) (c : ℕ) (o : Own) (m : Mind) (z : Bool → Image) (h : Node
     waits = λ e d. ⊎-elim (λ x. absurd (d (x .0))) (λ x. absurd (never (x .2) e)) joins;
     cutImage = λ a e. absurd (never e node-begun);
     gone = h .gone;
-    slotTop = λ e. h .slotTop (un-works b o un);
-    slotPrev = λ a d e. h .slotPrev a d (un-works b o un);
+    slotTop = h .slotTop;
+    slotPrev = h .slotPrev;
     slotCut = h .slotCut;
     slotPieces = λ a u e. not-state Checkpointing refl e;
     sizes = h .sizes;
