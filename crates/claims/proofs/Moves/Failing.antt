@@ -71,7 +71,7 @@ module _ (b : Big) (c d : ℕ) (o : Own) (m : Mind) (p : Own) (n : Mind) (s t : 
     room = λ u. omega arith;
     sound = λ e. refl;
     unhurt = h .unhurt;
-    prefix = h .prefix;
+    noMore = h .noMore;
     small = (h .small .0, (h .small .1 .0, search));
   }
 
@@ -107,7 +107,7 @@ module _ (b : Big) (c d : ℕ) (o : Own) (m : Mind) (p : Own) (n : Mind) (s t : 
     room = λ u. omega arith;
     sound = λ e. refl;
     unhurt = λ e u. absurd (false≢true u);
-    prefix = h .prefix;
+    noMore = h .noMore;
     small = (h .small .0, (h .small .1 .0, search));
   }
 

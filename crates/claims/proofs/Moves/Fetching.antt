@@ -178,7 +178,7 @@ module _ (b : Big) (c d : ℕ) (o : Own) (m : Mind) (p : Own) (n : Mind) (s t : 
       room = calm-no;
       sound = h .sound;
       unhurt = h .unhurt;
-      prefix = h .prefix;
+      noMore = h .noMore;
       small = h .small;
     }
 
@@ -224,7 +224,7 @@ module _ (b : Big) (c d : ℕ) (o : Own) (m : Mind) (p : Own) (n : Mind) (s t : 
       room = h .room;
       sound = h .sound;
       unhurt = λ e. calm-none;
-      prefix = h .prefix;
+      noMore = h .noMore;
       small = h .small;
     }
 

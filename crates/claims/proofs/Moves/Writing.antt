@@ -111,7 +111,7 @@ module _ (b : Big) (c d : ℕ) (o : Own) (m : Mind) (p : Own) (n : Mind) (s t : 
         room = λ u. h .room un;
         sound = h .sound;
         unhurt = h .unhurt;
-        prefix = h .prefix;
+        noMore = h .noMore;
         small = h .small;
       }
 
@@ -149,7 +149,7 @@ module _ (b : Big) (c d : ℕ) (o : Own) (m : Mind) (p : Own) (n : Mind) (s t : 
         room = h .room;
         sound = h .sound;
         unhurt = λ e u. h .unhurt e un;
-        prefix = h .prefix;
+        noMore = h .noMore;
         small = h .small;
       }
 
