@@ -5,11 +5,11 @@ use mathlib.Core.List.{List}
 use lib.ListN.{getD, set, replicate}
 use lib.Dec.{eqb, ltb}
 use Rattle.marks.specs.Marks.{Marks, marked, lowest, covers, both, noMarks}
-use Rattle.line.specs.declared.Check.{Check}
-use Rattle.line.specs.declared.Payload.{Payload}
-use Rattle.line.specs.declared.Place.{Place}
-use Rattle.line.specs.declared.Place.the-variants.{Cabinet as AtCabinet, Link as AtLink}
-use Rattle.line.specs.Packet.{startCheck, stepCheck}
+use Rattle.packet.specs.declared.Check.{Check}
+use Rattle.packet.specs.declared.Payload.{Payload}
+use Rattle.packet.specs.declared.Place.{Place}
+use Rattle.packet.specs.declared.Place.the-variants.{Cabinet as AtCabinet, Link as AtLink}
+use Rattle.packet.specs.Packet.{startCheck, stepCheck}
 use Rattle.image.specs.Image.{blankImage, booked, withBooked}
 use Rattle.state.specs.declared.State.{State}
 use Rattle.state.specs.declared.State.the-variants.{Failed, Normal, CheckpBegin, Checkpointing, Checkpointed, Error, Recovering, Recovered, Crashed}

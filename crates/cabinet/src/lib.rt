@@ -1,9 +1,9 @@
 // One cabinet by value: its logical state, table, notes, check registers and image.
 // Cabinets are numbered 0 to 7 here: a cabinet's number in a file or a record, less one.
 use image::Image;
-use line::Check;
-use line::Payload;
-use line::Place;
+use packet::Check;
+use packet::Payload;
+use packet::Place;
 use state::State;
 use state::Version;
 ghost use mathlib.Core.Path.{_≡_};
@@ -12,7 +12,7 @@ ghost use Prim.Native.Nat.{_-_};
 ghost use lib.Dec.{eqb};
 ghost use lib.ListN.{getD, set};
 ghost use Rattle.marks.specs.Marks.{covers};
-ghost use Rattle.line.specs.Packet.{startCheck};
+ghost use Rattle.packet.specs.Packet.{startCheck};
 ghost use Rattle.cabinet.specs.Alarm.{isFor};
 ghost use Rattle.state.specs.State.{doubted};
 ghost use Rattle.cabinet.specs.Cabinet.{withPhase, withTable, withNoted, withRegisters, withImage, withOwed, withState, withPieces, nothingNoted, startRegisters, absent, inUse, coordinator, struckAt, sending, taking, hurtFrom, restartIf, restartTo, beginning, comparing, cutting, wrote, owing, savedFor, resuming, alarmed, hearing, recovering, fetched, restoredFor, crashing};
@@ -78,7 +78,7 @@ pub fn is_for(alarm: Alarm, place: Place) -> bool
 {
     match alarm {
         Alarm::Quiet => false,
-        Alarm::Fault(known) => line::same_place(known, place),
+        Alarm::Fault(known) => packet::same_place(known, place),
     }
 }
 

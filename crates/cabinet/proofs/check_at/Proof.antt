@@ -3,7 +3,7 @@ use borrow.Author.Needs.{needs}
 use mathlib.Core.Path.{_≡_, _∙_, sym}
 use native.Mathlib.Omega.{arith}
 use lib.ListN.{length, List·getD-eq-default}
-use Rattle.line.specs.Packet.{startCheck}
+use Rattle.packet.specs.Packet.{startCheck}
 use Rattle.marks.proofs.Lists.{getD-in}
 use Rattle.cabinet.proofs.check_at.Statement.{statement}
 use Rattle.cabinet.proofs.check_at.Tie as tie

@@ -65,7 +65,7 @@ demanded e x is loads ends of os ol =
     let both = and-true {s = works (stateOf (walkNear e .world .group) (e .coordinator))} (ap (λ (y : Found). y .ended) is ∙ ends) in
     subst
     (λ (w : World). works (stateOf (w .group) (e .coordinator)) ≡ true → endsIn (w .group) (advance w (e .last) .group) (e .coordinator) ≡ true
-        → Restored (cabinetCount (e .file)) (feederTotal (e .file)) (advance w (e .last) .history) (advance w (e .last) .group))
+    → Restored (cabinetCount (e .file)) (feederTotal (e .file)) (advance w (e .last) .history) (advance w (e .last) .group))
     (sym (near e))
     (demand-three (e .file) (octets-of (e .file) of) (ap (λ (y : Found). y .loaded) is ∙ loads)
     (records e) (records-of (records e) os) (e .last) (octets-of (e .last) ol)

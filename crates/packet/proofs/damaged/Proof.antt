@@ -1,7 +1,7 @@
--- `line::damaged` meets its contract: in each arm the packet is known.
+-- `packet::damaged` meets its contract: in each arm the packet is known.
 use borrow.Author.Needs.{needs}
-use Rattle.line.proofs.damaged.Statement.{statement}
-use Rattle.line.proofs.damaged.Tie as tie
+use Rattle.packet.proofs.damaged.Statement.{statement}
+use Rattle.packet.proofs.damaged.Tie as tie
 
 pub damaged-spec : {M : Type 1} → statement M
 damaged-spec = tie.close (tie.spec

@@ -1,7 +1,7 @@
--- `line::same_place` meets its contract: in each arm both places are known.
+-- `packet::same_place` meets its contract: in each arm both places are known.
 use borrow.Author.Needs.{needs}
-use Rattle.line.proofs.same_place.Statement.{statement}
-use Rattle.line.proofs.same_place.Tie as tie
+use Rattle.packet.proofs.same_place.Statement.{statement}
+use Rattle.packet.proofs.same_place.Tie as tie
 
 returns : tie.Need-returns
 returns c = rw (c .before .before .before .before .p .given .1, c .before .q .given .1)

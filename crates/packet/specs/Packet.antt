@@ -5,12 +5,12 @@ use mathlib.Core.List.{List}
 use lib.Bits.{bitXor}
 use lib.Dec.{ltb, eqb}
 use Rattle.crc.specs.Crc.{start, crcFrom, amountOctets}
-use Rattle.line.specs.declared.Payload.{Payload}
-use Rattle.line.specs.declared.Check.{Check}
-use Rattle.line.specs.declared.Place.{Place}
-use Rattle.line.specs.declared.Place.the-variants.{Cabinet, Link}
-use Rattle.line.specs.declared.Packet.{Packet}
-use Rattle.line.specs.declared.Packet.the-variants.{Empty, Normal, Checkp, Resume, Recover, Fault, Invalid}
+use Rattle.packet.specs.declared.Payload.{Payload}
+use Rattle.packet.specs.declared.Check.{Check}
+use Rattle.packet.specs.declared.Place.{Place}
+use Rattle.packet.specs.declared.Place.the-variants.{Cabinet, Link}
+use Rattle.packet.specs.declared.Packet.{Packet}
+use Rattle.packet.specs.declared.Packet.the-variants.{Empty, Normal, Checkp, Resume, Recover, Fault, Invalid}
 
 -- "A normal packet is three octets: 0x00, then the amount."
 abbrev pub octetsOf : Payload → List ℕ

@@ -1,8 +1,8 @@
--- `line::Check::step` meets its contract: the three octets of a packet, one after the other.
+-- `packet::Check::step` meets its contract: the three octets of a packet, one after the other.
 use borrow.Author.Needs.{needs}
 use Rattle.crc.specs.Crc.{crcFrom}
-use Rattle.line.proofs.Check.step.Statement.{statement}
-use Rattle.line.proofs.Check.step.Tie as tie
+use Rattle.packet.proofs.Check.step.Statement.{statement}
+use Rattle.packet.proofs.Check.step.Tie as tie
 
 returns : tie.Need-returns
 unfolding crcFrom
