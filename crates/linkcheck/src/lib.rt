@@ -80,7 +80,7 @@ pub fn receive_checkp(before: Group, g: Group, a: u8, b: u8, v: Check) -> Outcom
     if marks::or(normal, state::is_in(s, State::CheckpBegin)) {
         let registers = c.registers;
         let taken = registers.taken;
-        if v.same(cabinet::check_at(taken, a)) {
+        if v.same(registers::check_at(taken, a)) {
             group::taken(take_checkp(join_if(normal, g, b), a, b))
         } else {
             find_link_fault(before, g, a, b)

@@ -16,7 +16,8 @@ use Rattle.state.specs.declared.Version.the-variants.{Known, Unknown}
 use Rattle.image.specs.declared.Image.{Image}
 use Rattle.state.specs.State.{isIn, works, inRestoring, isUnknown, bitOf}
 use Rattle.image.specs.Image.{withPiece}
-use Rattle.cabinet.specs.Cabinet.{withImage, withPieces, withRegisters, withState, startRegisters, fetched}
+use Rattle.registers.specs.Registers.{startRegisters}
+use Rattle.cabinet.specs.Cabinet.{withImage, withPieces, withRegisters, withState, fetched}
 use Rattle.group.specs.declared.Group.{Group}
 use Rattle.group.specs.Group.{cabinet, withCabinet, stateOf, slot}
 use Rattle.protocol.specs.History.{History, upd, goes, noteKnown, noteCuts}

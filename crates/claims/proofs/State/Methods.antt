@@ -18,7 +18,8 @@ use Rattle.packet.specs.declared.Place.the-variants.{Cabinet as AtCabinet, Link
 use Rattle.packet.specs.Packet.{startCheck, stepCheck}
 use Rattle.state.specs.declared.Version.{Version}
 use Rattle.cabinet.specs.declared.Cabinet.{Cabinet}
-use Rattle.cabinet.specs.Cabinet.{inUse, sending, taking, hurtFrom, restartIf, restartTo, beginning, comparing, owing, savedFor, resuming, alarmed, hearing, restoredFor, fetched, withImage, withPieces, withRegisters, withState, startRegisters}
+use Rattle.registers.specs.Registers.{restartIf, restartTo, startRegisters}
+use Rattle.cabinet.specs.Cabinet.{inUse, sending, taking, hurtFrom, beginning, comparing, owing, savedFor, resuming, alarmed, hearing, restoredFor, fetched, withImage, withPieces, withRegisters, withState}
 use Rattle.image.specs.declared.Image.{Image}
 use Rattle.state.specs.declared.State.the-variants.{Recovered}
 use Rattle.protocol.specs.History.{upd}

@@ -21,7 +21,9 @@ use Rattle.line.specs.Line.{emptyCell, emptyLine, put, putCells, restCells, nor
 use Rattle.image.specs.declared.Image.{Image}
 use Rattle.cabinet.specs.declared.Cabinet.{Cabinet}
 use Rattle.image.specs.Image.{booked, withBooked, withOctet, pieceTo}
-use Rattle.cabinet.specs.Cabinet.{inUse, sending, taking, restartIf, restartTo, struckAt, wrote, fetched, alarmed}
+use Rattle.registers.specs.Registers.{restartIf, restartTo}
+use Rattle.table.specs.Table.{struckAt}
+use Rattle.cabinet.specs.Cabinet.{inUse, sending, taking, wrote, fetched, alarmed}
 use Rattle.claims.proofs.State.Fun.{cond-elim}
 use Rattle.claims.proofs.State.Every.{Closed, getD-set, getD-repeated}
 use Rattle.claims.proofs.State.View.{content, packetOf}

@@ -4,9 +4,9 @@ use Prim.Native.Nat.{_≤_, _-_}
 use mathlib.Core.Path.{_≡_, _∙_}
 use native.Mathlib.Omega.{arith}
 use native.Mathlib.Numerals.{add-one}
-use Rattle.cabinet.specs.Cabinet.{restartTo}
-use Rattle.cabinet.proofs.restarted.Statement.{statement}
-use Rattle.cabinet.proofs.restarted.Tie as tie
+use Rattle.registers.specs.Registers.{restartTo}
+use Rattle.registers.proofs.restarted.Statement.{statement}
+use Rattle.registers.proofs.restarted.Tie as tie
 
 abbrev Inv-loop : tie.InvT-loop
 Inv-loop marks left₀ j₀ left j = (j ≤ 8) × (left ≡ restartTo j marks left₀)

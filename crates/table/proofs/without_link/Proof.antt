@@ -1,8 +1,8 @@
 -- `without_link`, by which end of the link the cabinet is.
 use borrow.Author.Needs.{needs}
 use borrow.Author.Tests.{eq-eqb, ne-eqb}
-use Rattle.cabinet.proofs.without_link.Statement.{statement}
-use Rattle.cabinet.proofs.without_link.Tie as tie
+use Rattle.table.proofs.without_link.Statement.{statement}
+use Rattle.table.proofs.without_link.Tie as tie
 
 pub without-link-spec : {M : Type 1} → statement M
 without-link-spec = tie.close (tie.spec

@@ -4,8 +4,8 @@ use mathlib.Core.Path.{_≡_}
 use native.Mathlib.Omega.{arith}
 use lib.ListN.{length}
 use lib.Seq.{set-out}
-use Rattle.cabinet.proofs.set_check.Statement.{statement}
-use Rattle.cabinet.proofs.set_check.Tie as tie
+use Rattle.registers.proofs.set_check.Statement.{statement}
+use Rattle.registers.proofs.set_check.Tie as tie
 
 pub set-check-spec : {M : Type 1} → statement M
 set-check-spec = tie.close (tie.spec

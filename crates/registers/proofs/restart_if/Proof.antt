@@ -1,7 +1,7 @@
 -- `restart_if`, by its test.
 use borrow.Author.Needs.{needs}
-use Rattle.cabinet.proofs.restart_if.Statement.{statement}
-use Rattle.cabinet.proofs.restart_if.Tie as tie
+use Rattle.registers.proofs.restart_if.Statement.{statement}
+use Rattle.registers.proofs.restart_if.Tie as tie
 
 pub restart-if-spec : {M : Type 1} → statement M
 restart-if-spec = tie.close (tie.spec

@@ -1,7 +1,7 @@
 -- `struck_at`, by the two cases of a place.
 use borrow.Author.Needs.{needs}
-use Rattle.cabinet.proofs.struck_at.Statement.{statement}
-use Rattle.cabinet.proofs.struck_at.Tie as tie
+use Rattle.table.proofs.struck_at.Statement.{statement}
+use Rattle.table.proofs.struck_at.Tie as tie
 
 pub struck-at-spec : {M : Type 1} → statement M
 struck-at-spec = tie.close (tie.spec

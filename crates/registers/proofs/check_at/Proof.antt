@@ -5,8 +5,8 @@ use native.Mathlib.Omega.{arith}
 use lib.ListN.{length, List·getD-eq-default}
 use Rattle.packet.specs.Packet.{startCheck}
 use Rattle.marks.proofs.Lists.{getD-in}
-use Rattle.cabinet.proofs.check_at.Statement.{statement}
-use Rattle.cabinet.proofs.check_at.Tie as tie
+use Rattle.registers.proofs.check_at.Statement.{statement}
+use Rattle.registers.proofs.check_at.Tie as tie
 
 pub check-at-spec : {M : Type 1} → statement M
 check-at-spec = tie.close (tie.spec
