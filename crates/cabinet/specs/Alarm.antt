@@ -1,7 +1,7 @@
 -- The fault that a cabinet has entered error for.
 use mathlib.Core.Bool.{Bool, false}
-use Rattle.line.specs.declared.Place.{Place}
-use Rattle.line.specs.Packet.{samePlace}
+use Rattle.packet.specs.declared.Place.{Place}
+use Rattle.packet.specs.Packet.{samePlace}
 use Rattle.cabinet.specs.declared.Alarm.{Alarm}
 use Rattle.cabinet.specs.declared.Alarm.the-variants.{Quiet, Fault}
 

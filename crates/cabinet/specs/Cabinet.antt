@@ -1,15 +1,15 @@
 -- One cabinet: what its table says, and each change that a rule of document 01 makes to it alone.
-use Prim.Native.Nat.{ℕ, zero, suc, _+_, _-_, _%_}
+use Prim.Native.Nat.{ℕ, _+_, _-_, _%_}
 use mathlib.Core.Bool.{Bool, true, false, cond}
-use mathlib.Core.List.{List}
-use lib.ListN.{getD, set, replicate}
+use lib.ListN.{set}
 use lib.Dec.{eqb, ltb}
-use Rattle.marks.specs.Marks.{Marks, marked, lowest, covers, both, noMarks}
-use Rattle.line.specs.declared.Check.{Check}
-use Rattle.line.specs.declared.Payload.{Payload}
-use Rattle.line.specs.declared.Place.{Place}
-use Rattle.line.specs.declared.Place.the-variants.{Cabinet as AtCabinet, Link as AtLink}
-use Rattle.line.specs.Packet.{startCheck, stepCheck}
+use Rattle.marks.specs.Marks.{Marks, covers, noMarks}
+use Rattle.packet.specs.declared.Payload.{Payload}
+use Rattle.packet.specs.declared.Place.{Place}
+use Rattle.registers.specs.declared.Registers.{Registers}
+use Rattle.registers.specs.Registers.{startRegisters, runOverSent, runOverTaken, markHurt, restartSent, restartTaken}
+use Rattle.table.specs.declared.Table.{Table}
+use Rattle.table.specs.Table.{struckAt, inUse as tableInUse, coordinator as tableCoordinator}
 use Rattle.image.specs.Image.{blankImage, booked, withBooked}
 use Rattle.state.specs.declared.State.{State}
 use Rattle.state.specs.declared.State.the-variants.{Failed, Normal, CheckpBegin, Checkpointing, Checkpointed, Error, Recovering, Recovered, Crashed}
@@ -18,9 +18,7 @@ use Rattle.state.specs.declared.Version.the-variants.{Known}
 use Rattle.cabinet.specs.declared.Alarm.{Alarm}
 use Rattle.cabinet.specs.declared.Alarm.the-variants.{Quiet, Fault}
 use Rattle.cabinet.specs.declared.Phase.{Phase}
-use Rattle.cabinet.specs.declared.Table.{Table}
 use Rattle.cabinet.specs.declared.Noted.{Noted}
-use Rattle.cabinet.specs.declared.Registers.{Registers}
 use Rattle.image.specs.declared.Image.{Image}
 use Rattle.cabinet.specs.declared.Cabinet.{Cabinet}
 use Rattle.state.specs.State.{works, doubted}
@@ -70,22 +68,10 @@ withRestored c m = withNoted c (record { come = c .noted .come; pieces = c .note
 abbrev pub withHeard : Cabinet → Marks → Cabinet
 withHeard c m = withNoted c (record { come = c .noted .come; pieces = c .noted .pieces; saved = c .noted .saved; restored = c .noted .restored; heard = m })
 
-abbrev pub withSentChecks : Cabinet → List Check → Cabinet
-withSentChecks c rs = withRegisters c (record { sent = rs; taken = c .registers .taken; hurt = c .registers .hurt })
-
-abbrev pub withTakenChecks : Cabinet → List Check → Cabinet
-withTakenChecks c rs = withRegisters c (record { sent = c .registers .sent; taken = rs; hurt = c .registers .hurt })
-
-abbrev pub withHurt : Cabinet → Marks → Cabinet
-withHurt c m = withRegisters c (record { sent = c .registers .sent; taken = c .registers .taken; hurt = m })
-
 -- ---- starting values
 
 abbrev pub nothingNoted : Noted
 nothingNoted = record { come = noMarks; pieces = 0; saved = noMarks; restored = noMarks; heard = noMarks }
-
-abbrev pub startRegisters : Registers
-startRegisters = record { sent = replicate 8 startCheck; taken = replicate 8 startCheck; hurt = noMarks }
 
 -- what stands at the numbers past n: a cabinet that does not work
 abbrev pub absent : Cabinet
@@ -100,66 +86,39 @@ absent = record {
   owed = noMarks;
 }
 
--- ---- what a cabinet's table says
+-- ---- what a cabinet's table says: its neighbours over links in use, and its coordinator
 
--- the neighbours over links in use: the table has the link and the cabinet
 abbrev pub inUse : Cabinet → Marks
-inUse c = both (c .table .links) (c .table .cabinets)
+inUse c = tableInUse (c .table)
 
--- "Its coordinator is the lowest-numbered cabinet in use there."
 abbrev pub coordinator : Cabinet → ℕ
-coordinator c = lowest (c .table .cabinets)
-
--- a table's two rows of marks
-abbrev pub withCabinets : Table → Marks → Table
-withCabinets t m = record { cabinets = m; links = t .links }
-
-abbrev pub withLinks : Table → Marks → Table
-withLinks t m = record { cabinets = t .cabinets; links = m }
-
--- a place struck from the table of cabinet i: a cabinet, or i's own end of a link
-abbrev pub struckAt : ℕ → Place → Table → Table
-struckAt i (AtCabinet a) t = withCabinets t (set (t .cabinets) a false)
-struckAt i (AtLink a b) t = withLinks t (cond (eqb i a) (set (t .links) b false) (cond (eqb i b) (set (t .links) a false) (t .links)))
+coordinator c = tableCoordinator (c .table)
 
 -- ---- normal packets
 
 -- a send taken: the amount leaves the booking, and the sender's register runs over the packet
 abbrev pub sending : Cabinet → ℕ → Payload → Cabinet
 sending c j p =
-    withImage (withSentChecks c (set (c .registers .sent) j (stepCheck (getD (c .registers .sent) j startCheck) p)))
-    (withBooked (c .image) (booked (c .image) - p .amount))
+    withImage (withRegisters c (runOverSent (c .registers) j p)) (withBooked (c .image) (booked (c .image) - p .amount))
 
 -- "A receiver adds an amount modulo 65,536", and its register runs over the packet
 abbrev pub taking : Cabinet → ℕ → Payload → Cabinet
 taking c j p =
-    withImage (withTakenChecks c (set (c .registers .taken) j (stepCheck (getD (c .registers .taken) j startCheck) p)))
-    (withBooked (c .image) ((booked (c .image) + p .amount) % 65536))
+    withImage (withRegisters c (runOverTaken (c .registers) j p)) (withBooked (c .image) ((booked (c .image) + p .amount) % 65536))
 
 -- a normal packet of the line from j was hurt
 abbrev pub hurtFrom : Cabinet → ℕ → Cabinet
-hurtFrom c j = withHurt c (set (c .registers .hurt) j true)
+hurtFrom c j = withRegisters c (markHurt (c .registers) j)
 
 -- ---- saving
 
--- "The sender's register restarts after a checkp is put", so on the lines in use
-abbrev pub restartIf : Bool → List Check → ℕ → List Check
-restartIf true rs j = set rs j startCheck
-restartIf false rs j = rs
-
-abbrev pub restartTo : ℕ → Marks → List Check → List Check
-restartTo zero m rs = rs
-restartTo (suc n) m rs = restartIf (marked m n) (restartTo n m rs) n
-
 -- enters checkp-begin, once its checkps are put; nothing is noted yet of the new save
 abbrev pub beginning : Cabinet → Cabinet
-beginning c = withNoted (withSentChecks (withState c CheckpBegin) (restartTo 8 (inUse c) (c .registers .sent))) nothingNoted
+beginning c = withNoted (withRegisters (withState c CheckpBegin) (restartSent (c .registers) (inUse c))) nothingNoted
 
 -- an equal comparison with the checkp from j: it has come, and the receiver's register restarts
 abbrev pub comparing : Cabinet → ℕ → Cabinet
-comparing c j =
-    withCome (withHurt (withTakenChecks c (set (c .registers .taken) j startCheck)) (set (c .registers .hurt) j false))
-    (set (c .noted .come) j true)
+comparing c j = withCome (withRegisters c (restartTaken (c .registers) j)) (set (c .noted .come) j true)
 
 -- "With checkp from all neighbours in use (none left counts as all) the cabinet enters checkpointing": its cut
 abbrev pub cutting : Cabinet → Cabinet

@@ -1,21 +1,19 @@
 // One cabinet by value: its logical state, table, notes, check registers and image.
 // Cabinets are numbered 0 to 7 here: a cabinet's number in a file or a record, less one.
 use image::Image;
-use line::Check;
-use line::Payload;
-use line::Place;
+use packet::Payload;
+use packet::Place;
+use registers::Registers;
 use state::State;
 use state::Version;
+use table::Table;
 ghost use mathlib.Core.Path.{_≡_};
-ghost use mathlib.Core.Bool.{false, cond};
+ghost use mathlib.Core.Bool.{cond};
 ghost use Prim.Native.Nat.{_-_};
-ghost use lib.Dec.{eqb};
-ghost use lib.ListN.{getD, set};
 ghost use Rattle.marks.specs.Marks.{covers};
-ghost use Rattle.line.specs.Packet.{startCheck};
 ghost use Rattle.cabinet.specs.Alarm.{isFor};
 ghost use Rattle.state.specs.State.{doubted};
-ghost use Rattle.cabinet.specs.Cabinet.{withPhase, withTable, withNoted, withRegisters, withImage, withOwed, withState, withPieces, nothingNoted, startRegisters, absent, inUse, coordinator, struckAt, sending, taking, hurtFrom, restartIf, restartTo, beginning, comparing, cutting, wrote, owing, savedFor, resuming, alarmed, hearing, recovering, fetched, restoredFor, crashing};
+ghost use Rattle.cabinet.specs.Cabinet.{withPhase, withTable, withNoted, withRegisters, withImage, withOwed, withState, withPieces, nothingNoted, absent, inUse, coordinator, sending, taking, hurtFrom, beginning, comparing, cutting, wrote, owing, savedFor, resuming, alarmed, hearing, recovering, fetched, restoredFor, crashing};
 
 // The fault that a cabinet entered error for.
 pub enum Alarm {
@@ -29,12 +27,6 @@ pub struct Phase {
     pub alarm: Alarm,
 }
 
-// The cabinets still in use, and a cabinet's own links still in use.
-pub struct Table {
-    pub cabinets: [bool; 8],
-    pub links: [bool; 8],
-}
-
 // What is noted of one save or recovery.
 pub struct Noted {
     pub come: [bool; 8],
@@ -42,14 +34,6 @@ pub struct Noted {
     pub saved: [bool; 8],
     pub restored: [bool; 8],
     pub heard: [bool; 8],
-}
-
-// The check registers of a cabinet's lines out and in, and which lines in had a normal packet
-// hurt since the register restarted.
-pub struct Registers {
-    pub sent: [Check; 8],
-    pub taken: [Check; 8],
-    pub hurt: [bool; 8],
 }
 
 pub struct Cabinet {
@@ -63,7 +47,7 @@ pub struct Cabinet {
     pub owed: [bool; 8],
 }
 
-// ---- versions and faults
+// ---- versions, faults and amounts
 
 // The version once all pieces are saved: it stays known at the coordinator.
 fn known_if(coordinates: bool, v: Version) -> Version
@@ -78,93 +62,14 @@ pub fn is_for(alarm: Alarm, place: Place) -> bool
 {
     match alarm {
         Alarm::Quiet => false,
-        Alarm::Fault(known) => line::same_place(known, place),
+        Alarm::Fault(known) => packet::same_place(known, place),
     }
-}
-
-// ---- registers by number: past the eighth all are at their start, and nothing changes
-
-pub fn check_at(checks: [Check; 8], j: u8) -> Check
-    ensures { λ r. ⌜ r ≡ getD checks j startCheck ⌝ }
-{
-    if j < 8 {
-        checks[j as usize]
-    } else {
-        Check::start()
-    }
-}
-
-fn set_check(checks: [Check; 8], j: u8, check: Check) -> [Check; 8]
-    ensures { λ r. ⌜ r ≡ set checks j check ⌝ }
-{
-    let mut changed = checks;
-    if j < 8 {
-        changed[j as usize] = check;
-    }
-    changed
-}
-
-fn restart_if(restart: bool, checks: [Check; 8], j: u8) -> [Check; 8]
-    ensures { λ r. ⌜ r ≡ restartIf restart checks j ⌝ }
-{
-    if restart {
-        set_check(checks, j, Check::start())
-    } else {
-        checks
-    }
-}
-
-// The registers of the marked lines restart.
-fn restarted(marks: [bool; 8], checks: [Check; 8]) -> [Check; 8]
-    ensures { λ r. ⌜ r ≡ restartTo 8 marks checks ⌝ }
-{
-    let mut left = checks;
-    let mut j: u8 = 0;
-    while j < 8 {
-        let next = restart_if(marks::marked(marks, j), left, j);
-        left = next;
-        j += 1;
-    }
-    left
 }
 
 fn minus(x: u16, y: u16) -> u16
     ensures { λ r. ⌜ r ≡ x - y ⌝ }
 {
     if y <= x { x - y } else { 0 }
-}
-
-// ---- a table with a place struck
-
-// The links of cabinet i without that between a and b, where i is an end of it.
-fn without_link(links: [bool; 8], i: u8, a: u8, b: u8) -> [bool; 8]
-    ensures { λ r. ⌜ r ≡ cond (eqb i a) (set links b false) (cond (eqb i b) (set links a false) links) ⌝ }
-{
-    if i == a {
-        return marks::set_mark(links, b, false);
-    }
-    if i == b {
-        return marks::set_mark(links, a, false);
-    }
-    links
-}
-
-// The place struck from the table of cabinet i: a cabinet, or i's own end of a link.
-pub fn struck_at(i: u8, place: Place, table: Table) -> Table
-    ensures { λ r. ⌜ r ≡ struckAt i place table ⌝ }
-{
-    let cabinets = table.cabinets;
-    let links = table.links;
-    match place {
-        Place::Cabinet(a) => Table {
-            cabinets: marks::set_mark(cabinets, a, false),
-            links: links,
-        },
-        Place::Link(a, b) => Table {
-            cabinets: cabinets,
-            links: without_link(links, i, a, b),
-        },
-    }
 }
 
 // ---- starting values
@@ -179,17 +84,6 @@ pub fn nothing_noted() -> Noted
         saved: [false; 8],
         restored: [false; 8],
         heard: [false; 8],
-    }
-}
-
-pub fn start_registers() -> Registers
-    ensures { λ r. ⌜ r ≡ startRegisters ⌝ }
-{
-    let start = Check::start();
-    Registers {
-        sent: [start; 8],
-        taken: [start; 8],
-        hurt: [false; 8],
     }
 }
 
@@ -209,7 +103,7 @@ impl Cabinet {
                 links: [false; 8],
             },
             noted: nothing_noted(),
-            registers: start_registers(),
+            registers: registers::start_registers(),
             image: Image::blank(),
             home: 0,
             store: false,
@@ -296,9 +190,7 @@ impl Cabinet {
         ensures { λ r. ⌜ r ≡ inUse self ⌝ }
     {
         let table = self.table;
-        let links = table.links;
-        let cabinets = table.cabinets;
-        marks::both(links, cabinets)
+        table.in_use()
     }
 
     // The lowest-numbered cabinet in use, 8 where none is.
@@ -306,8 +198,7 @@ impl Cabinet {
         ensures { λ r. ⌜ r ≡ coordinator self ⌝ }
     {
         let table = self.table;
-        let cabinets = table.cabinets;
-        marks::lowest(cabinets)
+        table.coordinator()
     }
 
     // ---- normal packets
@@ -316,14 +207,10 @@ impl Cabinet {
     pub fn sending(self, j: u8, p: Payload) -> Cabinet
         ensures { λ r. ⌜ r ≡ sending self j p ⌝ }
     {
-        let mut registers = self.registers;
-        let sent = registers.sent;
-        let check = check_at(sent, j).step(p);
-        let sent = set_check(sent, j, check);
-        registers.sent = sent;
+        let registers = self.registers;
         let image = self.image;
         let left = minus(image.booked(), p.amount);
-        self.with_registers(registers)
+        self.with_registers(registers.run_over_sent(j, p))
             .with_image(image.with_booked(left))
     }
 
@@ -331,14 +218,10 @@ impl Cabinet {
     pub fn taking(self, j: u8, p: Payload) -> Cabinet
         ensures { λ r. ⌜ r ≡ taking self j p ⌝ }
     {
-        let mut registers = self.registers;
-        let taken = registers.taken;
-        let check = check_at(taken, j).step(p);
-        let taken = set_check(taken, j, check);
-        registers.taken = taken;
+        let registers = self.registers;
         let image = self.image;
         let more = std::num::wrapping_add_u16(image.booked(), p.amount);
-        self.with_registers(registers)
+        self.with_registers(registers.run_over_taken(j, p))
             .with_image(image.with_booked(more))
     }
 
@@ -346,11 +229,8 @@ impl Cabinet {
     pub fn hurt_from(self, j: u8) -> Cabinet
         ensures { λ r. ⌜ r ≡ hurtFrom self j ⌝ }
     {
-        let mut registers = self.registers;
-        let hurt = registers.hurt;
-        let hurt = marks::set_mark(hurt, j, true);
-        registers.hurt = hurt;
-        self.with_registers(registers)
+        let registers = self.registers;
+        self.with_registers(registers.mark_hurt(j))
     }
 
     // ---- saving
@@ -359,10 +239,8 @@ impl Cabinet {
     pub fn beginning(self) -> Cabinet
         ensures { λ r. ⌜ r ≡ beginning self ⌝ }
     {
-        let mut registers = self.registers;
-        let sent = registers.sent;
-        let sent = restarted(self.in_use(), sent);
-        registers.sent = sent;
+        let registers = self.registers;
+        let registers = registers.restart_sent(self.in_use());
         self.with_state(State::CheckpBegin)
             .with_registers(registers)
             .with_noted(nothing_noted())
@@ -372,13 +250,8 @@ impl Cabinet {
     pub fn comparing(self, j: u8) -> Cabinet
         ensures { λ r. ⌜ r ≡ comparing self j ⌝ }
     {
-        let mut registers = self.registers;
-        let taken = registers.taken;
-        let taken = set_check(taken, j, Check::start());
-        registers.taken = taken;
-        let hurt = registers.hurt;
-        let hurt = marks::set_mark(hurt, j, false);
-        registers.hurt = hurt;
+        let registers = self.registers;
+        let registers = registers.restart_taken(j);
         let mut noted = self.noted;
         let come = noted.come;
         let come = marks::set_mark(come, j, true);
@@ -471,7 +344,7 @@ impl Cabinet {
             alarm: Alarm::Fault(place),
         };
         let table = self.table;
-        let table = struck_at(i, place, table);
+        let table = table::struck_at(i, place, table);
         let c = self.with_phase(phase).with_table(table);
         let forgetful = c.with_owed([false; 8]);
         forgetful.with_noted(nothing_noted())
@@ -511,7 +384,7 @@ impl Cabinet {
             return self.with_pieces(noted.pieces + 1).with_image(image);
         }
         let c = self.with_state(State::Recovered).with_pieces(4);
-        let restarted = c.with_registers(start_registers());
+        let restarted = c.with_registers(registers::start_registers());
         restarted.with_image(image)
     }
 

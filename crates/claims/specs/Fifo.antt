@@ -9,9 +9,9 @@ use mathlib.Core.List.{List, [], _∷_, _++_}
 use lib.ListN.{getD, set, drop}
 use lib.Dec.{eqb}
 use Rattle.marks.specs.Marks.{marked}
-use Rattle.line.specs.declared.Packet.{Packet}
-use Rattle.line.specs.declared.Packet.the-variants.{Empty, Normal as NormalPacket, Checkp, Resume, Recover, Fault}
-use Rattle.line.specs.Packet.{startCheck, damaged, isEmpty}
+use Rattle.packet.specs.declared.Packet.{Packet}
+use Rattle.packet.specs.declared.Packet.the-variants.{Empty, Normal as NormalPacket, Checkp, Resume, Recover, Fault}
+use Rattle.packet.specs.Packet.{startCheck, damaged, isEmpty}
 use Rattle.line.specs.Line.{packetAt}
 use Rattle.state.specs.declared.State.the-variants.{Normal, CheckpBegin, Checkpointing, Checkpointed, Error, Recovering}
 use Rattle.cabinet.specs.declared.Alarm.{Alarm}

@@ -7,7 +7,7 @@ use mathlib.Core.Bool.{Bool, true, false}
 use mathlib.Core.List.{List, _∷_}
 use mathlib.Core.Option.{Option, none, some}
 use Rattle.marks.specs.Marks.{marked}
-use Rattle.line.specs.declared.Packet.the-variants.{Resume}
+use Rattle.packet.specs.declared.Packet.the-variants.{Resume}
 use Rattle.line.specs.Line.{oldest, packetAt}
 use Rattle.state.specs.declared.State.the-variants.{Checkpointing, Checkpointed}
 use Rattle.state.specs.declared.Version.the-variants.{Known}

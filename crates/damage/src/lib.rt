@@ -1,7 +1,7 @@
 // The step damage: a packet on a line is hurt.
 use group::Group;
 use group::Outcome;
-use line::Packet;
+use packet::Packet;
 ghost use mathlib.Core.Path.{_≡_};
 ghost use Rattle.protocol.specs.Kinds.{hurtAlready, damageRefusal, hurtIf, hurt, damageStep};
 
@@ -13,7 +13,7 @@ fn hurt_already(g: Group, a: u8, b: u8, p: Packet) -> bool
     let c = g.cabinet(b);
     let registers = c.registers;
     let hurt = registers.hurt;
-    marks::and(line::is_normal(p), marks::marked(hurt, a))
+    marks::and(packet::is_normal(p), marks::marked(hurt, a))
 }
 
 fn damage_refusal(g: Group, a: u8, b: u8, p: u8, q: u16) -> u8
@@ -22,7 +22,7 @@ fn damage_refusal(g: Group, a: u8, b: u8, p: u8, q: u16) -> u8
     let hit = g.line(a, b).packet_at(p);
     let first = records::need(!hurt_already(g, a, b, hit), 20, 0);
     let changes = records::need(0 < q, 15, first);
-    let some = records::need(!line::is_empty(hit), 18, changes);
+    let some = records::need(!packet::is_empty(hit), 18, changes);
     records::need(marks::is_linked(g.link_rows(), a, b), 13, some)
 }
 
@@ -41,8 +41,8 @@ fn hurt(g: Group, a: u8, b: u8, p: u8, q: u16) -> Group
 {
     let l = g.line(a, b);
     let hit = l.packet_at(p);
-    let left = l.replaced(p, line::damaged(hit, q));
-    hurt_if(line::is_normal(hit), g.with_line(a, b, left), a, b)
+    let left = l.replaced(p, packet::damaged(hit, q));
+    hurt_if(packet::is_normal(hit), g.with_line(a, b, left), a, b)
 }
 
 pub fn damage_step(g: Group, a: u8, b: u8, p: u8, q: u16) -> Outcome

@@ -2,11 +2,11 @@
 use group::Group;
 use group::Outcome;
 use line::Line;
-use line::Packet;
+use packet::Packet;
 ghost use mathlib.Core.Path.{_≡_};
 ghost use mathlib.Core.Bool.{cond, not};
 ghost use Rattle.marks.specs.Marks.{marked};
-ghost use Rattle.line.specs.Packet.{isEmpty};
+ghost use Rattle.packet.specs.Packet.{isEmpty};
 ghost use Rattle.line.specs.Line.{oldest};
 ghost use Rattle.cabinet.specs.Cabinet.{inUse};
 ghost use Rattle.group.specs.Group.{cabinet, taken};
@@ -33,7 +33,7 @@ fn receive(before: Group, g: Group, a: u8, b: u8, p: Packet) -> Outcome
 fn deliver_refusal(linked: bool, l: Line) -> u8
     ensures { λ r. ⌜ r ≡ need linked 13 (need (not (isEmpty (oldest l))) 18 0) ⌝ }
 {
-    let some = records::need(!line::is_empty(l.oldest()), 18, 0);
+    let some = records::need(!packet::is_empty(l.oldest()), 18, 0);
     records::need(linked, 13, some)
 }
 

@@ -2,8 +2,8 @@
 use group::Group;
 use group::Outcome;
 use line::Line;
-use line::Place;
 use outgoing::Outgoing;
+use packet::Place;
 use state::State;
 ghost use mathlib.Core.Path.{_≡_};
 ghost use Rattle.protocol.specs.Moves.{enterErrorIf, emptiedTo, markFailed, neighbours, alarmTo};

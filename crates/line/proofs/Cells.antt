@@ -7,9 +7,9 @@ use mathlib.Core.Path.{_≡_, refl, ap, _∙_}
 use mathlib.Core.List.{List, [], _∷_, _++_}
 use lib.ListN.{length, getD, set, drop, drop-of-length-le}
 use lib.Seq.{drop-cons}
-use Rattle.line.specs.declared.Packet.{Packet}
+use Rattle.packet.specs.declared.Packet.{Packet}
 use Rattle.line.specs.declared.Cell.{Cell}
-use Rattle.line.specs.Packet.{isEmpty, isNormal}
+use Rattle.packet.specs.Packet.{isEmpty, isNormal}
 use Rattle.line.specs.Line.{emptyCell, restCells, putCells, firstEmpty, normalsIn}
 
 -- a search that has passed i full cells

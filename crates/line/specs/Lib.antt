@@ -1,3 +1,2 @@
--- Packets and lines: the definitions that the functions of this crate are promised equal to.
-pub mod Packet
+-- Lines: the definitions that the functions of this crate are promised equal to.
 pub mod Line

@@ -4,11 +4,11 @@ use Prim.Native.Nat.{ℕ, suc, _+_}
 use mathlib.Core.Bool.{cond}
 use mathlib.Core.List.{List, [], _∷_, _++_}
 use lib.ListN.{getD, set, replicate}
-use Rattle.line.specs.declared.Packet.{Packet}
-use Rattle.line.specs.declared.Packet.the-variants.{Empty}
+use Rattle.packet.specs.declared.Packet.{Packet}
+use Rattle.packet.specs.declared.Packet.the-variants.{Empty}
 use Rattle.line.specs.declared.Cell.{Cell}
 use Rattle.line.specs.declared.Line.{Line}
-use Rattle.line.specs.Packet.{isEmpty, isNormal}
+use Rattle.packet.specs.Packet.{isEmpty, isNormal}
 
 abbrev pub emptyCell : Cell
 emptyCell = record { packet = Empty }

@@ -2,8 +2,8 @@
 use cabinet::Cabinet;
 use group::Group;
 use group::Outcome;
-use line::Check;
-use line::Payload;
+use packet::Check;
+use packet::Payload;
 use state::State;
 ghost use mathlib.Core.Path.{_≡_};
 ghost use Rattle.protocol.specs.Moves.{takeCheckp, findLinkFault};
@@ -15,7 +15,7 @@ fn find_link_fault(before: Group, g: Group, a: u8, b: u8) -> Outcome
 {
     let rows = marks::struck(g.sound_rows(), a, b);
     if marks::connected(rows, survey::working(g)) {
-        group::taken(moves::enter_error(g.with_sound(rows), b, line::link_place(a, b)))
+        group::taken(moves::enter_error(g.with_sound(rows), b, packet::link_place(a, b)))
     } else {
         survey::crashed(before)
     }
@@ -80,7 +80,7 @@ pub fn receive_checkp(before: Group, g: Group, a: u8, b: u8, v: Check) -> Outcom
     if marks::or(normal, state::is_in(s, State::CheckpBegin)) {
         let registers = c.registers;
         let taken = registers.taken;
-        if v.same(cabinet::check_at(taken, a)) {
+        if v.same(registers::check_at(taken, a)) {
             group::taken(take_checkp(join_if(normal, g, b), a, b))
         } else {
             find_link_fault(before, g, a, b)

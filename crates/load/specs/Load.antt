@@ -15,7 +15,8 @@ use Rattle.group.specs.declared.Slots.{Slots}
 use Rattle.group.specs.declared.Group.{Group}
 use Rattle.group.specs.declared.Outcome.{Outcome}
 use Rattle.image.specs.Image.{blankImage}
-use Rattle.cabinet.specs.Cabinet.{nothingNoted, startRegisters, absent}
+use Rattle.registers.specs.Registers.{startRegisters}
+use Rattle.cabinet.specs.Cabinet.{nothingNoted, absent}
 use Rattle.outgoing.specs.Lines.{emptyLines}
 use Rattle.group.specs.Group.{noRow, blankSlots, ofRows, answering}
 

@@ -12,7 +12,8 @@ use Rattle.state.specs.declared.State.the-variants.{Normal}
 use Rattle.state.specs.declared.Version.the-variants.{Known}
 use Rattle.cabinet.specs.declared.Alarm.the-variants.{Quiet}
 use Rattle.image.specs.Image.{blankImage, booked}
-use Rattle.cabinet.specs.Cabinet.{nothingNoted, startRegisters, absent}
+use Rattle.registers.specs.Registers.{startRegisters}
+use Rattle.cabinet.specs.Cabinet.{nothingNoted, absent}
 use Rattle.group.specs.declared.Group.{Group}
 use Rattle.outgoing.specs.Lines.{emptyLines}
 use Rattle.group.specs.Group.{cabinet, outgoing, line, slot, rowsOf, working}

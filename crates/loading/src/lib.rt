@@ -3,7 +3,6 @@
 use cabinet::Alarm;
 use cabinet::Cabinet;
 use cabinet::Phase;
-use cabinet::Table;
 use group::Group;
 use group::Outcome;
 use group::Row;
@@ -12,6 +11,7 @@ use image::Image;
 use outgoing::Outgoing;
 use state::State;
 use state::Version;
+use table::Table;
 ghost use mathlib.Core.Path.{_≡_};
 ghost use Prim.Native.Nat.{_<_, _≤_};
 ghost use lib.ListN.{getD};
@@ -53,7 +53,7 @@ fn starting_cabinet(file: &[u8], rows: [[bool; 8]; 8], i: usize) -> Cabinet
             links: row_of(rows, i),
         },
         noted: cabinet::nothing_noted(),
-        registers: cabinet::start_registers(),
+        registers: registers::start_registers(),
         image: image_of(file, i),
         home: load::less_one(load::small(file, 10 + 4 * i)) as u8,
         store: load::small(file, 11 + 4 * i) == 1,

@@ -1,8 +1,8 @@
 // The moves of one cabinet that the kinds of step are made of, each promised equal to its definition in protocol.
 use group::Group;
-use line::Packet;
-use line::Place;
 use outgoing::Outgoing;
+use packet::Packet;
+use packet::Place;
 use state::State;
 use state::Version;
 ghost use mathlib.Core.Path.{_≡_};

@@ -5,12 +5,12 @@ use mathlib.Core.Bool.{Bool, true, false}
 use mathlib.Core.List.{List, [], _∷_}
 use lib.ListN.{getD, set, replicate}
 use Rattle.marks.specs.Marks.{Marks, marked}
-use Rattle.line.specs.declared.Packet.{Packet}
-use Rattle.line.specs.declared.Packet.the-variants.{Checkp}
-use Rattle.line.specs.declared.Check.{Check}
+use Rattle.packet.specs.declared.Packet.{Packet}
+use Rattle.packet.specs.declared.Packet.the-variants.{Checkp}
+use Rattle.packet.specs.declared.Check.{Check}
 use Rattle.line.specs.declared.Cell.{Cell}
 use Rattle.line.specs.declared.Line.{Line}
-use Rattle.line.specs.Packet.{startCheck}
+use Rattle.packet.specs.Packet.{startCheck}
 use Rattle.line.specs.Line.{emptyCell, emptyLine, put}
 use Rattle.outgoing.specs.declared.Outgoing.{Outgoing}
 

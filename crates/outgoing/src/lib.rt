@@ -1,8 +1,8 @@
 // A cabinet's outgoing lines by value: one of them read or replaced, and packets put on several at once.
 use line::Cell;
-use line::Check;
 use line::Line;
-use line::Packet;
+use packet::Check;
+use packet::Packet;
 ghost use mathlib.Core.Path.{_≡_};
 ghost use Prim.Native.Nat.{_<_};
 ghost use Rattle.outgoing.specs.Lines.{emptyLines, lineTo, withLineTo, putIf, putRowTo, putAll, checkpCell, checkps, putCheckps};

@@ -8,12 +8,12 @@ use lib.ListN.{getD, set}
 use Rattle.marks.specs.Marks.{Marks, marked, lowest}
 use Rattle.marks.specs.Reach.{Rows, struck}
 use Rattle.marks.specs.ReachLaws.{Path}
-use Rattle.line.specs.declared.Payload.{Payload}
-use Rattle.line.specs.declared.Check.{Check}
-use Rattle.line.specs.declared.Place.{Place}
-use Rattle.line.specs.declared.Packet.{Packet}
-use Rattle.line.specs.declared.Packet.the-variants.{Normal as NormalPacket, Checkp, Fault, Invalid}
-use Rattle.line.specs.Packet.{startCheck}
+use Rattle.packet.specs.declared.Payload.{Payload}
+use Rattle.packet.specs.declared.Check.{Check}
+use Rattle.packet.specs.declared.Place.{Place}
+use Rattle.packet.specs.declared.Packet.{Packet}
+use Rattle.packet.specs.declared.Packet.the-variants.{Normal as NormalPacket, Checkp, Fault, Invalid}
+use Rattle.packet.specs.Packet.{startCheck}
 use Rattle.line.specs.Line.{oldest}
 use Rattle.state.specs.declared.State.{State}
 use Rattle.state.specs.declared.State.the-variants.{Normal, CheckpBegin, Checkpointing, Checkpointed, Error, Recovering, Recovered}

@@ -7,10 +7,10 @@ use mathlib.Core.List.{List, [], _∷_, _++_}
 use mathlib.Core.Option.{Option, none, some}
 use lib.Dec.{eqb, ltb}
 use Rattle.marks.specs.Marks.{marked}
-use Rattle.line.specs.declared.Payload.{Payload}
-use Rattle.line.specs.declared.Packet.{Packet}
-use Rattle.line.specs.declared.Packet.the-variants.{Empty, Normal as NormalPacket, Checkp, Resume, Recover, Fault, Invalid}
-use Rattle.line.specs.Packet.{isNormal}
+use Rattle.packet.specs.declared.Payload.{Payload}
+use Rattle.packet.specs.declared.Packet.{Packet}
+use Rattle.packet.specs.declared.Packet.the-variants.{Empty, Normal as NormalPacket, Checkp, Resume, Recover, Fault, Invalid}
+use Rattle.packet.specs.Packet.{isNormal}
 use Rattle.line.specs.Line.{oldest, packetAt}
 use Rattle.state.specs.declared.State.{State}
 use Rattle.state.specs.declared.State.the-variants.{Normal, Checkpointing, Checkpointed, Recovering, Recovered}

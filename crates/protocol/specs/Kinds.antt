@@ -6,15 +6,15 @@ use lib.ListN.{set}
 use lib.Dec.{eqb, ltb, leb}
 use Rattle.marks.specs.Marks.{marked, covers}
 use Rattle.marks.specs.Reach.{mark, connected}
-use Rattle.line.specs.declared.Place.the-variants.{Cabinet as AtCabinet, Link as AtLink}
-use Rattle.line.specs.declared.Packet.{Packet}
-use Rattle.line.specs.declared.Packet.the-variants.{Normal as NormalPacket}
-use Rattle.line.specs.Packet.{isEmpty, isNormal, damaged}
+use Rattle.packet.specs.declared.Place.the-variants.{Cabinet as AtCabinet, Link as AtLink}
+use Rattle.packet.specs.declared.Packet.{Packet}
+use Rattle.packet.specs.declared.Packet.the-variants.{Normal as NormalPacket}
+use Rattle.packet.specs.Packet.{isEmpty, isNormal, damaged}
 use Rattle.line.specs.Line.{oldest, rest, put, normals, packetAt, replaced}
 use Rattle.state.specs.declared.State.the-variants.{Normal, Checkpointing, Error, Recovering, Recovered}
 use Rattle.cabinet.specs.declared.Alarm.{Alarm}
 use Rattle.cabinet.specs.declared.Alarm.the-variants.{Quiet, Fault}
-use Rattle.line.specs.declared.Place.{Place}
+use Rattle.packet.specs.declared.Place.{Place}
 use Rattle.cabinet.specs.declared.Cabinet.{Cabinet}
 use Rattle.group.specs.declared.Group.{Group}
 use Rattle.group.specs.declared.Outcome.{Outcome}

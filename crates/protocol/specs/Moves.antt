@@ -4,11 +4,11 @@ use mathlib.Core.Bool.{Bool, true, false, cond, _&&_}
 use lib.ListN.{set}
 use Rattle.marks.specs.Marks.{marked}
 use Rattle.marks.specs.Reach.{struck, connected}
-use Rattle.line.specs.declared.Place.{Place}
-use Rattle.line.specs.declared.Place.the-variants.{Cabinet as AtCabinet}
-use Rattle.line.specs.declared.Packet.{Packet}
-use Rattle.line.specs.declared.Packet.the-variants.{Resume, Recover, Fault}
-use Rattle.line.specs.Packet.{linkPlace}
+use Rattle.packet.specs.declared.Place.{Place}
+use Rattle.packet.specs.declared.Place.the-variants.{Cabinet as AtCabinet}
+use Rattle.packet.specs.declared.Packet.{Packet}
+use Rattle.packet.specs.declared.Packet.the-variants.{Resume, Recover, Fault}
+use Rattle.packet.specs.Packet.{linkPlace}
 use Rattle.line.specs.Line.{emptyLine}
 use Rattle.state.specs.declared.State.the-variants.{Failed}
 use Rattle.state.specs.declared.Version.{Version}

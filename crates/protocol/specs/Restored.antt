@@ -6,7 +6,7 @@ use mathlib.Core.Bool.{Bool, true, false, cond}
 use mathlib.Core.List.{List, [], _∷_}
 use mathlib.Core.Option.{Option, none, some}
 use lib.ListN.{getD}
-use Rattle.line.specs.declared.Payload.{Payload}
+use Rattle.packet.specs.declared.Payload.{Payload}
 use Rattle.state.specs.declared.Version.the-variants.{Known}
 use Rattle.image.specs.declared.Image.{Image}
 use Rattle.state.specs.State.{works}

@@ -3,7 +3,7 @@ use cabinet::Alarm;
 use cabinet::Cabinet;
 use group::Group;
 use group::Outcome;
-use line::Place;
+use packet::Place;
 use state::State;
 ghost use mathlib.Core.Path.{_≡_};
 ghost use Rattle.protocol.specs.Kinds.{fetchRefusal, fetchPiece, fetchStep, mayReport, restoredRefusal, reportRestored, endIfAll, restoredStep, lostPlace, lostCoordinator, waitOverRefusal, waitOverStep};

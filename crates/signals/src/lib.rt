@@ -2,8 +2,8 @@
 use cabinet::Cabinet;
 use group::Group;
 use group::Outcome;
-use line::Packet;
-use line::Place;
+use packet::Packet;
+use packet::Place;
 use state::State;
 ghost use mathlib.Core.Path.{_≡_};
 ghost use Rattle.protocol.specs.Moves.{adopt, hear};

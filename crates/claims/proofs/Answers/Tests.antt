@@ -10,10 +10,10 @@ use Rattle.marks.specs.Marks.{Marks, marked, lowest, coversTo, covers}
 use Rattle.marks.specs.Reach.{Rows, reached, connected}
 use Rattle.marks.specs.MarksLaws.{lowest-marked, lowest-le-marked}
 use Rattle.marks.specs.ReachLaws.{path-reached, connected-paths}
-use Rattle.line.specs.declared.Check.{Check}
-use Rattle.line.specs.declared.Place.{Place}
-use Rattle.line.specs.declared.Place.the-variants.{Cabinet as AtCabinet, Link as AtLink}
-use Rattle.line.specs.Packet.{sameCheck, samePlace}
+use Rattle.packet.specs.declared.Check.{Check}
+use Rattle.packet.specs.declared.Place.{Place}
+use Rattle.packet.specs.declared.Place.the-variants.{Cabinet as AtCabinet, Link as AtLink}
+use Rattle.packet.specs.Packet.{sameCheck, samePlace}
 use Rattle.state.specs.declared.State.{State}
 use Rattle.state.specs.declared.State.the-variants.{Failed, Normal, CheckpBegin, Checkpointing, Checkpointed, Error, Recovering, Recovered, Crashed}
 use Rattle.cabinet.specs.declared.Alarm.{Alarm}

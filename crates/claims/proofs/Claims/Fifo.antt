@@ -9,9 +9,9 @@ use lib.Dec.{eqb, ltb}
 use borrow.Author.Tests.{eqb-true, eqb-false}
 use native.Mathlib.Omega.{arith}
 use Rattle.marks.specs.Reach.{mark}
-use Rattle.line.specs.declared.Packet.the-variants.{Normal as NormalPacket}
+use Rattle.packet.specs.declared.Packet.the-variants.{Normal as NormalPacket}
 use Rattle.line.specs.declared.Cell.{Cell}
-use Rattle.line.specs.Packet.{isEmpty, isNormal}
+use Rattle.packet.specs.Packet.{isEmpty, isNormal}
 use Rattle.line.specs.Line.{emptyCell, oldest, packetAt}
 use Rattle.group.specs.declared.Group.{Group}
 use Rattle.group.specs.declared.Outcome.{Outcome}

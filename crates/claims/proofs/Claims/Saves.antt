@@ -10,8 +10,8 @@ use lib.ListN.{getD}
 use lib.Dec.{eqb}
 use borrow.Author.Tests.{eqb-true, eqb-false, ne-eqb}
 use native.Mathlib.Omega.{arith}
-use Rattle.line.specs.declared.Packet.the-variants.{Empty, Resume}
-use Rattle.line.specs.Packet.{isEmpty}
+use Rattle.packet.specs.declared.Packet.the-variants.{Empty, Resume}
+use Rattle.packet.specs.Packet.{isEmpty}
 use Rattle.line.specs.Line.{packetAt}
 use Rattle.state.specs.declared.State.the-variants.{Checkpointing, Checkpointed, Recovering}
 use Rattle.state.specs.declared.Version.{Version}

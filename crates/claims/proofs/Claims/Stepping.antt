@@ -7,7 +7,7 @@ use lib.Dec.{eqb, leb}
 use borrow.Author.Tests.{eqb-true, eqb-false, leb-true}
 use native.Mathlib.Omega.{arith}
 use Rattle.marks.specs.Reach.{mark}
-use Rattle.line.specs.Packet.{isEmpty}
+use Rattle.packet.specs.Packet.{isEmpty}
 use Rattle.line.specs.Line.{oldest}
 use Rattle.group.specs.declared.Group.{Group}
 use Rattle.group.specs.declared.Outcome.{Outcome}

@@ -8,10 +8,10 @@ use lib.Dec.{eqb, ltb}
 use borrow.Author.Tests.{eq-eqb, ne-eqb, lt-ltb}
 use native.Mathlib.Omega.{arith}
 use native.Mathlib.Decide.{ℕ-discrete, decLt}
-use Rattle.line.specs.declared.Check.{Check}
-use Rattle.line.specs.declared.Packet.{Packet}
-use Rattle.line.specs.declared.Place.{Place}
-use Rattle.line.specs.declared.Place.the-variants.{Cabinet as AtCabinet}
+use Rattle.packet.specs.declared.Check.{Check}
+use Rattle.packet.specs.declared.Packet.{Packet}
+use Rattle.packet.specs.declared.Place.{Place}
+use Rattle.packet.specs.declared.Place.the-variants.{Cabinet as AtCabinet}
 use Rattle.state.specs.declared.State.{State}
 use Rattle.state.specs.declared.State.the-variants.{Normal, Error, Failed, Crashed}
 use Rattle.state.specs.declared.Version.{Version}

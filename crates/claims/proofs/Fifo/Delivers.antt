@@ -10,12 +10,12 @@ use native.Mathlib.Omega.{arith}
 use native.Mathlib.Decide.{ℕ-discrete}
 use Rattle.marks.specs.Marks.{marked}
 use Rattle.marks.specs.Reach.{Rows, struck, connected}
-use Rattle.line.specs.declared.Payload.{Payload}
-use Rattle.line.specs.declared.Check.{Check}
-use Rattle.line.specs.declared.Place.{Place}
-use Rattle.line.specs.declared.Packet.{Packet}
-use Rattle.line.specs.declared.Packet.the-variants.{Empty, Normal as NormalPacket, Checkp, Resume, Recover, Fault, Invalid}
-use Rattle.line.specs.Packet.{isEmpty, sameCheck, startCheck, linkPlace}
+use Rattle.packet.specs.declared.Payload.{Payload}
+use Rattle.packet.specs.declared.Check.{Check}
+use Rattle.packet.specs.declared.Place.{Place}
+use Rattle.packet.specs.declared.Packet.{Packet}
+use Rattle.packet.specs.declared.Packet.the-variants.{Empty, Normal as NormalPacket, Checkp, Resume, Recover, Fault, Invalid}
+use Rattle.packet.specs.Packet.{isEmpty, sameCheck, startCheck, linkPlace}
 use Rattle.line.specs.Line.{oldest}
 use Rattle.state.specs.declared.State.{State}
 use Rattle.state.specs.declared.State.the-variants.{Normal, CheckpBegin, Checkpointed, Error, Recovered}

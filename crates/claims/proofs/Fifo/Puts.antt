@@ -7,10 +7,10 @@ use mathlib.Core.Bool.{Bool, true, false, cond, not, _&&_}
 use mathlib.Core.List.{List, [], _∷_, _++_, append-nil}
 use lib.Dec.{eqb}
 use Rattle.marks.specs.Marks.{covers}
-use Rattle.line.specs.declared.Check.{Check}
-use Rattle.line.specs.declared.Packet.{Packet}
-use Rattle.line.specs.declared.Packet.the-variants.{Checkp, Resume, Recover, Fault}
-use Rattle.line.specs.declared.Place.{Place}
+use Rattle.packet.specs.declared.Check.{Check}
+use Rattle.packet.specs.declared.Packet.{Packet}
+use Rattle.packet.specs.declared.Packet.the-variants.{Checkp, Resume, Recover, Fault}
+use Rattle.packet.specs.declared.Place.{Place}
 use Rattle.state.specs.declared.State.{State}
 use Rattle.state.specs.declared.State.the-variants.{Normal, CheckpBegin, Checkpointing, Checkpointed, Error}
 use Rattle.state.specs.declared.Version.{Version}

@@ -8,13 +8,13 @@ use lib.ListN.{getD}
 use native.Mathlib.Omega.{arith}
 use Rattle.crc.specs.Crc.{start, crcFrom, amountsOctets}
 use Rattle.crc.proofs.Laws.{from-append, amounts-append, one-differs}
-use Rattle.line.specs.declared.Check.{Check}
-use Rattle.line.specs.declared.Payload.{Payload}
-use Rattle.line.specs.declared.Packet.{Packet}
-use Rattle.line.specs.declared.Packet.the-variants.{Empty, Normal as NormalPacket, Checkp, Resume, Recover, Fault, Invalid}
-use Rattle.line.specs.Packet.{startCheck, stepCheck, isNormal, isEmpty}
+use Rattle.packet.specs.declared.Check.{Check}
+use Rattle.packet.specs.declared.Payload.{Payload}
+use Rattle.packet.specs.declared.Packet.{Packet}
+use Rattle.packet.specs.declared.Packet.the-variants.{Empty, Normal as NormalPacket, Checkp, Resume, Recover, Fault, Invalid}
+use Rattle.packet.specs.Packet.{startCheck, stepCheck, isNormal, isEmpty}
 use mathlib.Core.Logic.{_⊎_, inl, inr, ⊎-elim}
-use Rattle.line.specs.declared.Place.{Place}
+use Rattle.packet.specs.declared.Place.{Place}
 use Rattle.state.specs.declared.Version.{Version}
 use Rattle.state.specs.declared.Version.the-variants.{Known}
 use Rattle.claims.proofs.State.Fun.{never}

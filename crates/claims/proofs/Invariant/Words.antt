@@ -8,11 +8,11 @@ use lib.ListN.{length, List·getD-eq-default}
 use native.Mathlib.Omega.{arith}
 use Rattle.marks.specs.Marks.{Marks, marked, lowest}
 use Rattle.marks.specs.MarksLaws.{lowest-marked, lowest-le-marked}
-use Rattle.line.specs.declared.Packet.{Packet}
-use Rattle.line.specs.declared.Packet.the-variants.{Empty, Normal as NormalPacket, Checkp, Resume, Recover, Fault, Invalid}
-use Rattle.line.specs.declared.Place.{Place}
+use Rattle.packet.specs.declared.Packet.{Packet}
+use Rattle.packet.specs.declared.Packet.the-variants.{Empty, Normal as NormalPacket, Checkp, Resume, Recover, Fault, Invalid}
+use Rattle.packet.specs.declared.Place.{Place}
 use Rattle.line.specs.declared.Cell.{Cell}
-use Rattle.line.specs.Packet.{isNormal}
+use Rattle.packet.specs.Packet.{isNormal}
 use Rattle.line.specs.Line.{normalsIn}
 use Rattle.state.specs.declared.Version.{Version}
 use Rattle.state.specs.State.{works, inRecovery}

@@ -11,8 +11,8 @@ use borrow.Author.Tests.{ne-eqb}
 use native.Mathlib.Omega.{arith}
 use native.Mathlib.Decide.{decLt}
 use Rattle.marks.specs.Marks.{Marks, marked}
-use Rattle.line.specs.declared.Packet.{Packet}
-use Rattle.line.specs.declared.Packet.the-variants.{Resume, Empty}
+use Rattle.packet.specs.declared.Packet.{Packet}
+use Rattle.packet.specs.declared.Packet.the-variants.{Resume, Empty}
 use Rattle.line.specs.declared.Cell.{Cell}
 use Rattle.line.specs.Line.{emptyCell, oldest, rest}
 use Rattle.state.specs.declared.State.the-variants.{Normal, Checkpointed}

@@ -7,7 +7,7 @@ use lib.Dec.{eqb}
 use borrow.Author.Tests.{eq-eqb}
 use native.Mathlib.Omega.{arith}
 use native.Mathlib.Decide.{ℕ-discrete}
-use Rattle.line.specs.declared.Place.the-variants.{Cabinet as AtCabinet}
+use Rattle.packet.specs.declared.Place.the-variants.{Cabinet as AtCabinet}
 use Rattle.cabinet.specs.declared.Alarm.the-variants.{Fault as At}
 use Rattle.state.specs.State.{works, inRecovery, isUnknown}
 use Rattle.group.specs.declared.Group.{Group}

@@ -6,8 +6,8 @@ use mathlib.Core.Bool.{Bool, true, false, cond, not, false≢true}
 use mathlib.Core.List.{List, [], _∷_, _++_}
 use native.Mathlib.Omega.{arith}
 use native.Mathlib.Decide.{ℕ-discrete}
-use Rattle.line.specs.declared.Packet.{Packet}
-use Rattle.line.specs.declared.Packet.the-variants.{Resume}
+use Rattle.packet.specs.declared.Packet.{Packet}
+use Rattle.packet.specs.declared.Packet.the-variants.{Resume}
 use Rattle.state.specs.declared.State.the-variants.{Checkpointed}
 use Rattle.state.specs.declared.Version.the-variants.{Known}
 use Rattle.state.specs.State.{works}

@@ -9,11 +9,11 @@ use lib.ListN.{length, take, drop, take-append-drop}
 use lib.Seq.{drop-length}
 use native.Mathlib.Omega.{arith}
 use native.Mathlib.Decide.{ℕ-discrete}
-use Rattle.line.specs.declared.Check.{Check}
-use Rattle.line.specs.declared.Payload.{Payload}
-use Rattle.line.specs.declared.Packet.{Packet}
-use Rattle.line.specs.declared.Packet.the-variants.{Checkp}
-use Rattle.line.specs.Packet.{startCheck}
+use Rattle.packet.specs.declared.Check.{Check}
+use Rattle.packet.specs.declared.Payload.{Payload}
+use Rattle.packet.specs.declared.Packet.{Packet}
+use Rattle.packet.specs.declared.Packet.the-variants.{Checkp}
+use Rattle.packet.specs.Packet.{startCheck}
 use Rattle.state.specs.declared.State.{State}
 use Rattle.state.specs.declared.State.the-variants.{CheckpBegin, Recovered}
 use Rattle.image.specs.declared.Image.{Image}

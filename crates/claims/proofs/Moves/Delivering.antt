@@ -8,12 +8,12 @@ use lib.ListN.{getD}
 use native.Mathlib.Omega.{arith}
 use Rattle.marks.specs.Marks.{marked}
 use Rattle.marks.specs.Reach.{struck, connected}
-use Rattle.line.specs.declared.Payload.{Payload}
-use Rattle.line.specs.declared.Check.{Check}
-use Rattle.line.specs.declared.Place.{Place}
-use Rattle.line.specs.declared.Packet.{Packet}
-use Rattle.line.specs.declared.Packet.the-variants.{Empty, Normal as NormalPacket, Checkp, Resume, Recover, Fault, Invalid}
-use Rattle.line.specs.Packet.{isEmpty, isNormal, sameCheck, startCheck}
+use Rattle.packet.specs.declared.Payload.{Payload}
+use Rattle.packet.specs.declared.Check.{Check}
+use Rattle.packet.specs.declared.Place.{Place}
+use Rattle.packet.specs.declared.Packet.{Packet}
+use Rattle.packet.specs.declared.Packet.the-variants.{Empty, Normal as NormalPacket, Checkp, Resume, Recover, Fault, Invalid}
+use Rattle.packet.specs.Packet.{isEmpty, isNormal, sameCheck, startCheck}
 use Rattle.line.specs.Line.{oldest, rest}
 use Rattle.state.specs.declared.State.{State}
 use Rattle.state.specs.declared.State.the-variants.{Normal, CheckpBegin, Checkpointed, Recovered}

@@ -8,7 +8,7 @@ use mathlib.Core.List.{List}
 use lib.Dec.{ltb}
 use borrow.Author.Tests.{ltb-true, ltb-false}
 use native.Mathlib.Omega.{arith}
-use Rattle.line.specs.declared.Packet.{Packet}
+use Rattle.packet.specs.declared.Packet.{Packet}
 use Rattle.state.specs.declared.State.{State}
 use Rattle.state.specs.declared.State.the-variants.{Normal, CheckpBegin, Checkpointing, Error, Recovering, Recovered}
 use Rattle.state.specs.declared.Version.{Version}
@@ -16,7 +16,8 @@ use Rattle.state.specs.declared.Version.the-variants.{Known, Unknown}
 use Rattle.image.specs.declared.Image.{Image}
 use Rattle.state.specs.State.{isIn, works, inRestoring, isUnknown, bitOf}
 use Rattle.image.specs.Image.{withPiece}
-use Rattle.cabinet.specs.Cabinet.{withImage, withPieces, withRegisters, withState, startRegisters, fetched}
+use Rattle.registers.specs.Registers.{startRegisters}
+use Rattle.cabinet.specs.Cabinet.{withImage, withPieces, withRegisters, withState, fetched}
 use Rattle.group.specs.declared.Group.{Group}
 use Rattle.group.specs.Group.{cabinet, withCabinet, stateOf, slot}
 use Rattle.protocol.specs.History.{History, upd, goes, noteKnown, noteCuts}

@@ -5,7 +5,7 @@ use mathlib.Core.Path.{_≡_, refl, subst}
 use mathlib.Core.Logic.{inl, inr, ⊎-elim}
 use mathlib.Core.Bool.{Bool, true, false, not, _||_, true≢false}
 use mathlib.Core.List.{List}
-use Rattle.line.specs.declared.Packet.{Packet}
+use Rattle.packet.specs.declared.Packet.{Packet}
 use Rattle.state.specs.declared.State.the-variants.{CheckpBegin}
 use Rattle.image.specs.declared.Image.{Image}
 use Rattle.state.specs.State.{isIn, inRecovery, isUnknown}

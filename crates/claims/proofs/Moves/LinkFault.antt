@@ -11,13 +11,13 @@ use native.Mathlib.Decide.{ℕ-discrete, decLt}
 use Rattle.marks.specs.Marks.{marked}
 use Rattle.marks.specs.Reach.{Rows, mark, struck, connected}
 use Rattle.marks.specs.ReachLaws.{struck-there, struck-back, struck-other, length-struck}
-use Rattle.line.specs.declared.Place.{Place}
-use Rattle.line.specs.declared.Place.the-variants.{Link as AtLink}
-use Rattle.line.specs.declared.Check.{Check}
-use Rattle.line.specs.declared.Packet.{Packet}
-use Rattle.line.specs.declared.Packet.the-variants.{Checkp, Invalid}
+use Rattle.packet.specs.declared.Place.{Place}
+use Rattle.packet.specs.declared.Place.the-variants.{Link as AtLink}
+use Rattle.packet.specs.declared.Check.{Check}
+use Rattle.packet.specs.declared.Packet.{Packet}
+use Rattle.packet.specs.declared.Packet.the-variants.{Checkp, Invalid}
 use Rattle.line.specs.declared.Line.{Line}
-use Rattle.line.specs.Packet.{linkPlace, isEmpty}
+use Rattle.packet.specs.Packet.{linkPlace, isEmpty}
 use Rattle.line.specs.Line.{oldest, rest}
 use Rattle.state.specs.declared.State.{State}
 use Rattle.state.specs.declared.State.the-variants.{Failed, Normal, CheckpBegin, Checkpointing, Checkpointed, Error, Recovering, Recovered, Crashed}

@@ -7,7 +7,7 @@ use lib.Seq.{getD-set-other}
 use lib.Dec.{leb}
 use borrow.Author.Tests.{leb-true}
 use native.Mathlib.Omega.{arith}
-use Rattle.line.specs.declared.Packet.{Packet}
+use Rattle.packet.specs.declared.Packet.{Packet}
 use Rattle.state.specs.declared.State.the-variants.{Normal, Recovering, Recovered}
 use Rattle.image.specs.declared.Image.{Image}
 use Rattle.state.specs.State.{isIn}

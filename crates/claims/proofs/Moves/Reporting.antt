@@ -3,7 +3,7 @@ use Prim.Native.Nat.{ℕ, _<_}
 use mathlib.Core.Path.{_≡_, refl, sym, ap, _∙_, subst}
 use mathlib.Core.Bool.{Bool, true, false, false≢true}
 use mathlib.Core.List.{List}
-use Rattle.line.specs.declared.Packet.{Packet}
+use Rattle.packet.specs.declared.Packet.{Packet}
 use Rattle.state.specs.declared.State.the-variants.{CheckpBegin}
 use Rattle.image.specs.declared.Image.{Image}
 use Rattle.state.specs.State.{isIn, inSaving}

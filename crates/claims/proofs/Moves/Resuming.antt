@@ -8,9 +8,9 @@ use mathlib.Core.List.{List, _∷_}
 use lib.Dec.{eqb}
 use borrow.Author.Tests.{ne-eqb}
 use Rattle.marks.specs.Marks.{marked}
-use Rattle.line.specs.declared.Packet.{Packet}
-use Rattle.line.specs.declared.Packet.the-variants.{Resume}
-use Rattle.line.specs.Packet.{isNormal}
+use Rattle.packet.specs.declared.Packet.{Packet}
+use Rattle.packet.specs.declared.Packet.the-variants.{Resume}
+use Rattle.packet.specs.Packet.{isNormal}
 use Rattle.line.specs.Line.{oldest, rest}
 use Rattle.state.specs.declared.State.{State}
 use Rattle.state.specs.declared.State.the-variants.{Normal, Checkpointed, Recovered}

@@ -4,9 +4,9 @@ use Rattle.state.specs.State.{works}
 use Rattle.cabinet.specs.declared.Alarm.the-variants.{Quiet}
 use Rattle.state.specs.declared.State.the-variants.{Normal}
 use Rattle.state.specs.declared.Version.{Version}
-use Rattle.line.specs.declared.Packet.the-variants.{Resume}
-use Rattle.line.specs.declared.Packet.{Packet}
-use Rattle.line.specs.declared.Payload.{Payload}
+use Rattle.packet.specs.declared.Packet.the-variants.{Resume}
+use Rattle.packet.specs.declared.Packet.{Packet}
+use Rattle.packet.specs.declared.Payload.{Payload}
 use Rattle.protocol.specs.History.{upd}
 use lib.ListN.{drop}
 use mathlib.Core.Bool.{Bool, true, false, not, _&&_, true≢false, false≢true}

@@ -8,7 +8,7 @@ use borrow.Author.Tests.{eq-eqb}
 use native.Mathlib.Omega.{arith}
 use Rattle.marks.specs.Marks.{marked, covers}
 use Rattle.marks.specs.MarksLaws.{covers-has}
-use Rattle.line.specs.declared.Packet.the-variants.{Resume}
+use Rattle.packet.specs.declared.Packet.the-variants.{Resume}
 use Rattle.state.specs.declared.State.{State}
 use Rattle.state.specs.declared.State.the-variants.{Normal, Checkpointing, Checkpointed}
 use Rattle.state.specs.declared.Version.{Version}

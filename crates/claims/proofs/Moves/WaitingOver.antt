@@ -10,7 +10,7 @@ use native.Mathlib.Omega.{arith}
 use native.Mathlib.Decide.{ℕ-discrete}
 use Rattle.marks.specs.Marks.{covers}
 use Rattle.marks.specs.MarksLaws.{lowest-le-marked, covers-has}
-use Rattle.line.specs.declared.Place.the-variants.{Cabinet as AtCabinet, Link as AtLink}
+use Rattle.packet.specs.declared.Place.the-variants.{Cabinet as AtCabinet, Link as AtLink}
 use Rattle.state.specs.declared.State.the-variants.{Error}
 use Rattle.cabinet.specs.declared.Alarm.{Alarm}
 use Rattle.cabinet.specs.declared.Alarm.the-variants.{Quiet, Fault as At}

@@ -7,9 +7,9 @@ use mathlib.Core.Bool.{Bool, true, false, not, false≢true, true≢false}
 use mathlib.Core.List.{List, [], _∷_, nil≢cons}
 use lib.ListN.{getD}
 use native.Mathlib.Omega.{arith}
-use Rattle.line.specs.declared.Packet.{Packet}
-use Rattle.line.specs.declared.Packet.the-variants.{Empty, Resume}
-use Rattle.line.specs.Packet.{isEmpty}
+use Rattle.packet.specs.declared.Packet.{Packet}
+use Rattle.packet.specs.declared.Packet.the-variants.{Empty, Resume}
+use Rattle.packet.specs.Packet.{isEmpty}
 use Rattle.state.specs.declared.State.{State}
 use Rattle.state.specs.declared.State.the-variants.{Normal, CheckpBegin, Checkpointing, Checkpointed, Recovered}
 use Rattle.state.specs.declared.Version.{Version}

@@ -5,10 +5,10 @@ use mathlib.Core.Bool.{Bool, true, false, cond, false≢true}
 use mathlib.Core.List.{List, [], _∷_, _++_, nil≢cons}
 use lib.ListN.{length, getD, set, length-append}
 use native.Mathlib.Omega.{arith}
-use Rattle.line.specs.declared.Packet.{Packet}
-use Rattle.line.specs.declared.Packet.the-variants.{Empty, Normal as NormalPacket, Checkp, Resume, Recover, Fault, Invalid}
+use Rattle.packet.specs.declared.Packet.{Packet}
+use Rattle.packet.specs.declared.Packet.the-variants.{Empty, Normal as NormalPacket, Checkp, Resume, Recover, Fault, Invalid}
 use Rattle.line.specs.declared.Cell.{Cell}
-use Rattle.line.specs.Packet.{isEmpty}
+use Rattle.packet.specs.Packet.{isEmpty}
 use Rattle.line.specs.Line.{emptyCell, restCells, putCells}
 use Rattle.claims.proofs.State.Fun.{cond-elim}
 use Rattle.claims.proofs.State.View.{packetOf, content}

@@ -7,11 +7,11 @@ use lib.ListN.{getD}
 use lib.Dec.{eqb, ltb}
 use Rattle.marks.specs.Marks.{marked, covers}
 use Rattle.marks.specs.Reach.{struck, connected}
-use Rattle.line.specs.declared.Place.{Place}
-use Rattle.line.specs.declared.Place.the-variants.{Cabinet as AtCabinet}
-use Rattle.line.specs.declared.Packet.{Packet}
-use Rattle.line.specs.declared.Packet.the-variants.{Empty, Normal as NormalPacket, Checkp, Resume, Recover, Fault, Invalid}
-use Rattle.line.specs.Packet.{isNormal, sameCheck, startCheck, linkPlace, damaged}
+use Rattle.packet.specs.declared.Place.{Place}
+use Rattle.packet.specs.declared.Place.the-variants.{Cabinet as AtCabinet}
+use Rattle.packet.specs.declared.Packet.{Packet}
+use Rattle.packet.specs.declared.Packet.the-variants.{Empty, Normal as NormalPacket, Checkp, Resume, Recover, Fault, Invalid}
+use Rattle.packet.specs.Packet.{isNormal, sameCheck, startCheck, linkPlace, damaged}
 use Rattle.line.specs.Line.{oldest, rest, packetAt, replaced}
 use Rattle.state.specs.declared.State.the-variants.{Normal, CheckpBegin, Checkpointed, Error, Recovered}
 use Rattle.state.specs.declared.Version.{Version}

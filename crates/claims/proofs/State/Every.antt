@@ -10,15 +10,15 @@ use borrow.Author.Tests.{ltb-true, leb-true, eqb-true}
 use native.Mathlib.Omega.{arith}
 use Rattle.marks.specs.Marks.{Marks, marked, covers}
 use Rattle.marks.specs.Reach.{struck, connected}
-use Rattle.line.specs.declared.Payload.{Payload}
-use Rattle.line.specs.declared.Check.{Check}
-use Rattle.line.specs.declared.Place.{Place}
-use Rattle.line.specs.declared.Place.the-variants.{Cabinet as AtCabinet}
-use Rattle.line.specs.declared.Packet.{Packet}
-use Rattle.line.specs.declared.Packet.the-variants.{Empty, Normal as NormalPacket, Checkp, Resume, Recover, Fault, Invalid}
+use Rattle.packet.specs.declared.Payload.{Payload}
+use Rattle.packet.specs.declared.Check.{Check}
+use Rattle.packet.specs.declared.Place.{Place}
+use Rattle.packet.specs.declared.Place.the-variants.{Cabinet as AtCabinet}
+use Rattle.packet.specs.declared.Packet.{Packet}
+use Rattle.packet.specs.declared.Packet.the-variants.{Empty, Normal as NormalPacket, Checkp, Resume, Recover, Fault, Invalid}
 use Rattle.line.specs.declared.Cell.{Cell}
 use Rattle.line.specs.declared.Line.{Line}
-use Rattle.line.specs.Packet.{isNormal, damaged, linkPlace, sameCheck, startCheck}
+use Rattle.packet.specs.Packet.{isNormal, damaged, linkPlace, sameCheck, startCheck}
 use Rattle.line.specs.Line.{emptyCell, emptyLine, put, rest, oldest, normals, packetAt, replaced}
 use Rattle.state.specs.declared.State.{State}
 use Rattle.state.specs.declared.State.the-variants.{Failed, Normal, CheckpBegin, Checkpointing, Checkpointed, Error, Recovered, Crashed}

@@ -11,14 +11,15 @@ use borrow.Author.Tests.{eqb-true, eqb-false}
 use native.Mathlib.Omega.{arith}
 use native.Mathlib.Decide.{ℕ-discrete, decLt}
 use Rattle.marks.specs.Marks.{Marks, marked, noMarks}
-use Rattle.line.specs.declared.Check.{Check}
-use Rattle.line.specs.declared.Payload.{Payload}
-use Rattle.line.specs.declared.Place.{Place}
-use Rattle.line.specs.declared.Place.the-variants.{Cabinet as AtCabinet, Link as AtLink}
-use Rattle.line.specs.Packet.{startCheck, stepCheck}
+use Rattle.packet.specs.declared.Check.{Check}
+use Rattle.packet.specs.declared.Payload.{Payload}
+use Rattle.packet.specs.declared.Place.{Place}
+use Rattle.packet.specs.declared.Place.the-variants.{Cabinet as AtCabinet, Link as AtLink}
+use Rattle.packet.specs.Packet.{startCheck, stepCheck}
 use Rattle.state.specs.declared.Version.{Version}
 use Rattle.cabinet.specs.declared.Cabinet.{Cabinet}
-use Rattle.cabinet.specs.Cabinet.{inUse, sending, taking, hurtFrom, restartIf, restartTo, beginning, comparing, owing, savedFor, resuming, alarmed, hearing, restoredFor, fetched, withImage, withPieces, withRegisters, withState, startRegisters}
+use Rattle.registers.specs.Registers.{restartIf, restartTo, startRegisters}
+use Rattle.cabinet.specs.Cabinet.{inUse, sending, taking, hurtFrom, beginning, comparing, owing, savedFor, resuming, alarmed, hearing, restoredFor, fetched, withImage, withPieces, withRegisters, withState}
 use Rattle.image.specs.declared.Image.{Image}
 use Rattle.state.specs.declared.State.the-variants.{Recovered}
 use Rattle.protocol.specs.History.{upd}

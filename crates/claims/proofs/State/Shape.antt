@@ -9,19 +9,21 @@ use lib.Bits.{xor-lt}
 use lib.Dec.{eqb, ltb}
 use native.Mathlib.Omega.{arith}
 use Rattle.marks.specs.Marks.{Marks, marked}
-use Rattle.line.specs.declared.Check.{Check}
-use Rattle.line.specs.declared.Place.{Place}
-use Rattle.line.specs.declared.Place.the-variants.{Cabinet as AtCabinet, Link as AtLink}
-use Rattle.line.specs.declared.Packet.{Packet}
-use Rattle.line.specs.declared.Packet.the-variants.{Empty, Normal as NormalPacket, Checkp, Resume, Recover, Fault, Invalid}
+use Rattle.packet.specs.declared.Check.{Check}
+use Rattle.packet.specs.declared.Place.{Place}
+use Rattle.packet.specs.declared.Place.the-variants.{Cabinet as AtCabinet, Link as AtLink}
+use Rattle.packet.specs.declared.Packet.{Packet}
+use Rattle.packet.specs.declared.Packet.the-variants.{Empty, Normal as NormalPacket, Checkp, Resume, Recover, Fault, Invalid}
 use Rattle.line.specs.declared.Cell.{Cell}
 use Rattle.line.specs.declared.Line.{Line}
-use Rattle.line.specs.Packet.{isEmpty, isNormal, damaged, startCheck}
+use Rattle.packet.specs.Packet.{isEmpty, isNormal, damaged, startCheck}
 use Rattle.line.specs.Line.{emptyCell, emptyLine, put, putCells, restCells, normals, normalsIn, packetAt}
 use Rattle.image.specs.declared.Image.{Image}
 use Rattle.cabinet.specs.declared.Cabinet.{Cabinet}
 use Rattle.image.specs.Image.{booked, withBooked, withOctet, pieceTo}
-use Rattle.cabinet.specs.Cabinet.{inUse, sending, taking, restartIf, restartTo, struckAt, wrote, fetched, alarmed}
+use Rattle.registers.specs.Registers.{restartIf, restartTo}
+use Rattle.table.specs.Table.{struckAt}
+use Rattle.cabinet.specs.Cabinet.{inUse, sending, taking, wrote, fetched, alarmed}
 use Rattle.claims.proofs.State.Fun.{cond-elim}
 use Rattle.claims.proofs.State.Every.{Closed, getD-set, getD-repeated}
 use Rattle.claims.proofs.State.View.{content, packetOf}

@@ -10,10 +10,10 @@ use native.Mathlib.Omega.{arith}
 use native.Mathlib.Decide.{ℕ-discrete, decLt}
 use Rattle.marks.specs.Marks.{Marks, marked, both}
 use Rattle.marks.specs.MarksLaws.{marked-both}
-use Rattle.line.specs.declared.Packet.{Packet}
+use Rattle.packet.specs.declared.Packet.{Packet}
 use Rattle.line.specs.declared.Cell.{Cell}
 use Rattle.line.specs.declared.Line.{Line}
-use Rattle.line.specs.Packet.{isEmpty}
+use Rattle.packet.specs.Packet.{isEmpty}
 use Rattle.line.specs.Line.{emptyCell, emptyLine, put}
 use Rattle.image.specs.declared.Image.{Image}
 use Rattle.cabinet.specs.declared.Cabinet.{Cabinet}

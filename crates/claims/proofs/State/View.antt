@@ -6,9 +6,9 @@ use mathlib.Core.List.{List}
 use lib.ListN.{getD}
 use Rattle.marks.specs.Marks.{marked}
 use Rattle.marks.specs.Reach.{mark}
-use Rattle.line.specs.declared.Check.{Check}
-use Rattle.line.specs.declared.Packet.{Packet}
-use Rattle.line.specs.Packet.{startCheck}
+use Rattle.packet.specs.declared.Check.{Check}
+use Rattle.packet.specs.declared.Packet.{Packet}
+use Rattle.packet.specs.Packet.{startCheck}
 use Rattle.state.specs.declared.State.{State}
 use Rattle.state.specs.declared.Version.{Version}
 use Rattle.cabinet.specs.declared.Alarm.{Alarm}

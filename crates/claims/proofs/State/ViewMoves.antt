@@ -10,13 +10,13 @@ use borrow.Author.Tests.{lt-ltb, le-ltb, eq-eqb, ne-eqb}
 use native.Mathlib.Omega.{arith}
 use native.Mathlib.Decide.{decLt}
 use Rattle.marks.specs.Marks.{marked}
-use Rattle.line.specs.declared.Check.{Check}
-use Rattle.line.specs.declared.Payload.{Payload}
-use Rattle.line.specs.declared.Packet.{Packet}
-use Rattle.line.specs.declared.Packet.the-variants.{Normal as NormalPacket, Checkp, Resume, Recover, Fault}
-use Rattle.line.specs.declared.Place.{Place}
+use Rattle.packet.specs.declared.Check.{Check}
+use Rattle.packet.specs.declared.Payload.{Payload}
+use Rattle.packet.specs.declared.Packet.{Packet}
+use Rattle.packet.specs.declared.Packet.the-variants.{Normal as NormalPacket, Checkp, Resume, Recover, Fault}
+use Rattle.packet.specs.declared.Place.{Place}
 use Rattle.line.specs.declared.Cell.{Cell}
-use Rattle.line.specs.Packet.{isEmpty, startCheck, stepCheck}
+use Rattle.packet.specs.Packet.{isEmpty, startCheck, stepCheck}
 use Rattle.line.specs.declared.Line.{Line}
 use Rattle.line.specs.Line.{emptyCell, emptyLine, oldest, rest}
 use Rattle.state.specs.declared.Version.{Version}

@@ -4,10 +4,10 @@ use mathlib.Core.Path.{_≡_, ap}
 use native.Mathlib.Omega.{arith}
 use lib.ListN.{length}
 use Rattle.marks.proofs.Lists.{getD-in}
-use Rattle.line.specs.declared.Check.{Check}
+use Rattle.packet.specs.declared.Check.{Check}
 use Rattle.line.specs.declared.Cell.{Cell}
-use Rattle.line.specs.declared.Packet.the-variants.{Checkp}
-use Rattle.line.specs.Packet.{startCheck}
+use Rattle.packet.specs.declared.Packet.the-variants.{Checkp}
+use Rattle.packet.specs.Packet.{startCheck}
 use Rattle.outgoing.proofs.checkp_at.Statement.{statement}
 use Rattle.outgoing.proofs.checkp_at.Tie as tie
 

@@ -5,7 +5,7 @@ use mathlib.Core.List.{_++_}
 use Rattle.crc.specs.Crc.{crcBit, crcBits, crcOctet, crcFrom, crc, amountOctets}
 use Rattle.marks.specs.Marks.{lowest, covers, both}
 use Rattle.marks.specs.Reach.{struck, connected}
-use Rattle.line.specs.Packet.{isEmpty}
+use Rattle.packet.specs.Packet.{isEmpty}
 use Rattle.line.specs.Line.{oldest}
 use Rattle.outgoing.specs.Lines.{emptyLines, lineTo, withLineTo, putAll, putCheckps}
 use Rattle.group.specs.Group.{cabinet, withCabinet, outgoing, withOutgoing, line, withLine, blankSlots, slot, withSlots, withSlot, rowsOf, ofRows, withSound, some, working, recoveringOnes, unsure, isCrashed, crashAll}

@@ -11,4 +11,4 @@ beginning-spec = tie.close (tie.spec
     (λ c κs. search needs)
     (λ c κs. search needs)
     (λ c κs. search needs)
-    (λ c. simp (c .with-noted .ensures, c .before .nothing-noted .ensures, c .before .before .with-registers .ensures, c .before .before .before .with-state .ensures, c .before .before .before .before .restarted .ensures, c .before .before .before .before .before .in-use .ensures)))
+    (λ c. rw (c .with-noted .ensures, c .before .nothing-noted .ensures, c .before .before .with-registers .ensures, c .before .before .before .with-state .ensures, c .before .before .before .before .restart-sent .ensures, c .before .before .before .before .before .in-use .ensures)))

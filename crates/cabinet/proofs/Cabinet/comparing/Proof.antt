@@ -1,4 +1,4 @@
--- `comparing` restarts one register and sets two marks, one call after the other.
+-- `comparing` restarts one register and sets one mark, one call after the other.
 use borrow.Author.Needs.{needs}
 use Rattle.cabinet.proofs.Cabinet.comparing.Statement.{statement}
 use Rattle.cabinet.proofs.Cabinet.comparing.Tie as tie
@@ -9,6 +9,4 @@ comparing-spec = tie.close (tie.spec
     (λ c κs. search needs)
     (λ c κs. search needs)
     (λ c κs. search needs)
-    (λ c κs. search needs)
-    (λ c κs. search needs)
-    (λ c. simp (c .with-noted .ensures, c .before .with-registers .ensures, c .before .before .set-mark2 .ensures, c .before .before .before .before .before .set-mark .ensures, c .before .before .before .before .before .before .before .set-check .ensures, c .before .before .before .before .before .before .before .before .start .ensures)))
+    (λ c. rw (c .with-noted .ensures, c .before .with-registers .ensures, c .before .before .set-mark .ensures, c .before .before .before .before .before .restart-taken .ensures)))

@@ -7,4 +7,4 @@ pub hurt-from-spec : {M : Type 1} → statement M
 hurt-from-spec = tie.close (tie.spec
     (λ c κs. search needs)
     (λ c κs. search needs)
-    (λ c. rw (c .with-registers .ensures, c .before .set-mark .ensures)))
+    (λ c. rw (c .with-registers .ensures, c .before .mark-hurt .ensures)))

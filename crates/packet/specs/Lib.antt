@@ -1,0 +1,2 @@
+-- Packets: the definitions that the functions of this crate are promised equal to.
+pub mod Packet

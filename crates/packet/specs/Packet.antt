@@ -1,0 +1,66 @@
+-- Document 01, "Packets and the link check": what packets carry, the check registers, fault places, damage.
+use Prim.Native.Nat.{ℕ}
+use mathlib.Core.Bool.{Bool, true, false, cond, _&&_}
+use mathlib.Core.List.{List}
+use lib.Bits.{bitXor}
+use lib.Dec.{ltb, eqb}
+use Rattle.crc.specs.Crc.{start, crcFrom, amountOctets}
+use Rattle.packet.specs.declared.Payload.{Payload}
+use Rattle.packet.specs.declared.Check.{Check}
+use Rattle.packet.specs.declared.Place.{Place}
+use Rattle.packet.specs.declared.Place.the-variants.{Cabinet, Link}
+use Rattle.packet.specs.declared.Packet.{Packet}
+use Rattle.packet.specs.declared.Packet.the-variants.{Empty, Normal, Checkp, Resume, Recover, Fault, Invalid}
+
+-- "A normal packet is three octets: 0x00, then the amount."
+abbrev pub octetsOf : Payload → List ℕ
+octetsOf p = amountOctets (p .amount)
+
+-- a register at its start, and after the octets of one more normal packet
+abbrev pub startCheck : Check
+startCheck = record { crc = start }
+
+abbrev pub stepCheck : Check → Payload → Check
+stepCheck c p = record { crc = crcFrom (c .crc) (octetsOf p) }
+
+-- the comparison of a checkp with a register
+abbrev pub sameCheck : Check → Check → Bool
+sameCheck c d = eqb (c .crc) (d .crc)
+
+-- a link's place, "named lower number first"
+abbrev pub linkPlace : ℕ → ℕ → Place
+linkPlace a b = cond (ltb a b) (Link a b) (Link b a)
+
+abbrev pub samePlace : Place → Place → Bool
+samePlace (Cabinet a) (Cabinet b) = eqb a b
+samePlace (Cabinet a) (Link b c) = false
+samePlace (Link a b) (Cabinet c) = false
+samePlace (Link a b) (Link c d) = eqb a c && eqb b d
+
+abbrev pub isEmpty : Packet → Bool
+isEmpty Empty = true
+isEmpty (Normal p) = false
+isEmpty (Checkp c) = false
+isEmpty Resume = false
+isEmpty (Recover v) = false
+isEmpty (Fault p) = false
+isEmpty Invalid = false
+
+abbrev pub isNormal : Packet → Bool
+isNormal Empty = false
+isNormal (Normal p) = true
+isNormal (Checkp c) = false
+isNormal Resume = false
+isNormal (Recover v) = false
+isNormal (Fault p) = false
+isNormal Invalid = false
+
+-- damage: the pattern XORed on a normal amount; "A fail-safe packet hit by damage is invalid"
+abbrev pub damaged : Packet → ℕ → Packet
+damaged Empty q = Empty
+damaged (Normal p) q = Normal (record { amount = bitXor (p .amount) q })
+damaged (Checkp c) q = Invalid
+damaged Resume q = Invalid
+damaged (Recover v) q = Invalid
+damaged (Fault p) q = Invalid
+damaged Invalid q = Invalid

@@ -1,0 +1,138 @@
+// Packets, and what they and a check register hold, by value.
+// Cabinets are numbered 0 to 7 here: a cabinet's number in a file or a record, less one.
+ghost use mathlib.Core.Path.{_≡_};
+ghost use mathlib.Core.Bool.{_&&_};
+ghost use lib.Dec.{eqb};
+ghost use Rattle.packet.specs.Packet.{startCheck, stepCheck, sameCheck, linkPlace, samePlace, isEmpty, isNormal, damaged};
+
+// What a normal packet carries: the amount that changes hands.
+pub struct Payload {
+    pub amount: u16,
+}
+
+// What a check register and a checkp packet hold.
+pub struct Check {
+    pub crc: u16,
+}
+
+// Where a fault is: a cabinet, or a link named lower number first.
+pub enum Place {
+    Cabinet(u8),
+    Link(u8, u8),
+}
+
+// What stands in one place of a line: nothing, or a packet.
+pub enum Packet {
+    Empty,
+    Normal(Payload),
+    Checkp(Check),
+    Resume,
+    Recover(bool),
+    Fault(Place),
+    Invalid,
+}
+
+impl Check {
+    pub fn start() -> Check
+        ensures { λ r. ⌜ r ≡ startCheck ⌝ }
+    {
+        Check { crc: 0xFFFF }
+    }
+
+    // The register after the octets of one more normal packet.
+    pub fn step(self, p: Payload) -> Check
+        ensures { λ r. ⌜ r ≡ stepCheck self p ⌝ }
+    {
+        let high = (p.amount / 256) as u8;
+        let low = (p.amount % 256) as u8;
+        let first = crc::octet(self.crc, 0);
+        let second = crc::octet(first, high);
+        Check {
+            crc: crc::octet(second, low),
+        }
+    }
+
+    pub fn same(self, other: Check) -> bool
+        ensures { λ r. ⌜ r ≡ sameCheck self other ⌝ }
+    {
+        self.crc == other.crc
+    }
+}
+
+pub fn link_place(a: u8, b: u8) -> Place
+    ensures { λ r. ⌜ r ≡ linkPlace a b ⌝ }
+{
+    if a < b {
+        Place::Link(a, b)
+    } else {
+        Place::Link(b, a)
+    }
+}
+
+pub fn same_place(p: Place, q: Place) -> bool
+    ensures { λ r. ⌜ r ≡ samePlace p q ⌝ }
+{
+    match p {
+        Place::Cabinet(a) => match q {
+            Place::Cabinet(b) => a == b,
+            Place::Link(_, _) => false,
+        },
+        Place::Link(a, b) => match q {
+            Place::Cabinet(_) => false,
+            Place::Link(c, d) => both_equal(a, c, b, d),
+        },
+    }
+}
+
+fn both_equal(a: u8, b: u8, c: u8, d: u8) -> bool
+    ensures { λ r. ⌜ r ≡ (eqb a b && eqb c d) ⌝ }
+{
+    let first = a == b;
+    let second = c == d;
+    first && second
+}
+
+pub fn is_empty(p: Packet) -> bool
+    ensures { λ r. ⌜ r ≡ isEmpty p ⌝ }
+{
+    match p {
+        Packet::Empty => true,
+        Packet::Normal(_) => false,
+        Packet::Checkp(_) => false,
+        Packet::Resume => false,
+        Packet::Recover(_) => false,
+        Packet::Fault(_) => false,
+        Packet::Invalid => false,
+    }
+}
+
+pub fn is_normal(p: Packet) -> bool
+    ensures { λ r. ⌜ r ≡ isNormal p ⌝ }
+{
+    match p {
+        Packet::Empty => false,
+        Packet::Normal(_) => true,
+        Packet::Checkp(_) => false,
+        Packet::Resume => false,
+        Packet::Recover(_) => false,
+        Packet::Fault(_) => false,
+        Packet::Invalid => false,
+    }
+}
+
+// Damage by a pattern: on a normal amount it is XORed, a fail-safe packet becomes invalid.
+pub fn damaged(p: Packet, pattern: u16) -> Packet
+    ensures { λ r. ⌜ r ≡ damaged p pattern ⌝ }
+{
+    match p {
+        Packet::Empty => Packet::Empty,
+        Packet::Normal(carried) => Packet::Normal(Payload {
+            amount: carried.amount ^ pattern,
+        }),
+        Packet::Checkp(_) => Packet::Invalid,
+        Packet::Resume => Packet::Invalid,
+        Packet::Recover(_) => Packet::Invalid,
+        Packet::Fault(_) => Packet::Invalid,
+        Packet::Invalid => Packet::Invalid,
+    }
+}

@@ -1,0 +1,2 @@
+-- One cabinet's table: the definitions that the functions of this crate are promised equal to.
+pub mod Table
