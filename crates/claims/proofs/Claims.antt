@@ -5,3 +5,4 @@ pub mod Bounds
 pub mod Saves
 pub mod Fifo
 pub mod Examples
+pub mod Instances

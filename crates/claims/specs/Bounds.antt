@@ -55,11 +55,15 @@ LinesBounded = Always (λ g h. (a b : ℕ) → (length (packets g a b) ≤ 12) �
 
 -- ---- amounts
 
--- "A receiver adds an amount modulo 65,536; it is to be proved that this never wraps while no normal packet has been damaged since the
--- start or the end of the last recovery": b adds p, the oldest packet from a
+-- "no normal packet has been damaged since the start or the end of the last recovery"
+abbrev pub Undamaged : History → Type 0
+Undamaged h = h .hurt ≡ false
+
+-- b's booking has room for the amount of p
+abbrev pub HasRoom : Group → ℕ → Payload → Type 0
+HasRoom g b p = booked (cabinet g b .image) + p .amount < 65536
+
+-- "A receiver adds an amount modulo 65,536; it is to be proved that this never wraps while .. ": b adds p, the oldest packet from a
 abbrev pub NeverWraps : Type 0
 NeverWraps =
-    Running (λ g h.
-    h .hurt ≡ false
-    → (a b : ℕ) (p : Payload) → oldest (line g a b) ≡ NormalPacket p → takesFrom (cabinet g b) a ≡ true
-    → booked (cabinet g b .image) + p .amount < 65536)
+    Running (λ g h. Undamaged h → (a b : ℕ) (p : Payload) → oldest (line g a b) ≡ NormalPacket p → takesFrom (cabinet g b) a ≡ true → HasRoom g b p)

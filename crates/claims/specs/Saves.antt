@@ -76,11 +76,15 @@ ResumeOfNewest =
 
 -- ---- which save a slot belongs to: the one whose image of the cabinet it holds
 
+-- slot v of cabinet c belongs to the newest save
+abbrev pub OfNewest : Group → History → ℕ → Bool → Type 0
+OfNewest g h c v = (y : Cut) × (latest h .cut c ≡ some y) × (slot g c v ≡ y .image)
+
 -- every version that is known, of whichever working cabinet, names the newest save in the slots of every working cabinet
 abbrev pub VersionsNameNewest : Type 0
 VersionsNameNewest =
     Running (λ g h. (c d : ℕ) → works (stateOf g c) ≡ true → works (stateOf g d) ≡ true
-    → (v : Bool) → cabinet g d .phase .version ≡ Known v → (y : Cut) × (latest h .cut c ≡ some y) × (slot g c v ≡ y .image))
+    → (v : Bool) → cabinet g d .phase .version ≡ Known v → OfNewest g h c v)
 
 -- a version is known wherever a slot is written by it or read by it
 abbrev pub KnownWhereUsed : Type 0
@@ -91,8 +95,7 @@ KnownWhereUsed =
 -- so a piece that is fetched is one of the newest save's image
 abbrev pub FetchedOfNewest : Type 0
 FetchedOfNewest =
-    Running (λ g h. (a : ℕ) → fetchRefusal g a ≡ 0
-    → (y : Cut) × (latest h .cut a ≡ some y) × (slot g a (bitOf (cabinet g (cabinet g a .home) .phase .version)) ≡ y .image))
+    Running (λ g h. (a : ℕ) → fetchRefusal g a ≡ 0 → OfNewest g h a (bitOf (cabinet g (cabinet g a .home) .phase .version)))
 
 -- ---- which begin a cut belongs to
 

@@ -173,8 +173,8 @@ abbrev pub ring : List ℕ
 ring = fileOf 1 (100 ∷ 50 ∷ 20 ∷ []) (1 ∷ 2 ∷ 1 ∷ 3 ∷ 2 ∷ 3 ∷ [])
 
 -- from the bookings 100, 50 and 20 to 80, 75 and 15; 2 makes a note, and what 3 sends is under way when the save begins
-abbrev pub ringSaved : List (List ℕ)
-ringSaved =
+abbrev pub ringCommitted : List (List ℕ)
+ringCommitted =
     send 1 2 30 ∷ deliver 1 2 ∷ send 2 3 5 ∷ deliver 2 3 ∷ note 2 31 9 ∷ send 3 1 10
     -- "the coordinator enters checkp-begin and puts checkp on all lines in use"
     ∷ begin 1
@@ -187,10 +187,11 @@ ringSaved =
     -- "With piece 3 the cabinet enters checkpointed"
     ∷ writes 1 ++ writes 2 ++ writes 3
     -- "When the coordinator has this save's reports for every cabinet in its table it .. puts resume everywhere: the commit."
-    ++ saved 1 ∷ saved 2 ∷ saved 3
-    -- "A cabinet in checkpointed that receives resume .. puts resume on its other lines. Resume in any other state .. is dropped."
-    ∷ deliver 1 2 ∷ deliver 1 3 ∷ deliver 2 3 ∷ deliver 3 2
-    ∷ []
+    ++ saved 1 ∷ saved 2 ∷ saved 3 ∷ []
+
+-- "A cabinet in checkpointed that receives resume .. puts resume on its other lines. Resume in any other state .. is dropped."
+abbrev pub ringSaved : List (List ℕ)
+ringSaved = ringCommitted ++ deliver 1 2 ∷ deliver 1 3 ∷ deliver 2 3 ∷ deliver 3 2 ∷ []
 
 -- ---- 1: a recovery after a committed save
 
@@ -351,14 +352,15 @@ thirdLost =
     ∷ []
 
 -- a save of the three that are left with 66, 53 and 31
-abbrev pub threeSaved : List (List ℕ)
-threeSaved =
+abbrev pub threeCommitted : List (List ℕ)
+threeCommitted =
     send 1 2 11 ∷ deliver 1 2 ∷ send 2 4 3 ∷ deliver 2 4 ∷ send 4 1 2
     ∷ begin 1 ∷ deliver 4 1 ∷ deliver 1 2 ∷ deliver 1 4 ∷ deliver 2 1 ∷ deliver 4 1 ∷ deliver 2 4 ∷ deliver 4 2
     ∷ writes 1 ++ writes 2 ++ writes 4
-    ++ saved 1 ∷ saved 2 ∷ saved 4
-    ∷ deliver 1 2 ∷ deliver 1 4 ∷ deliver 2 4 ∷ deliver 4 2
-    ∷ []
+    ++ saved 1 ∷ saved 2 ∷ saved 4 ∷ []
+
+abbrev pub threeSaved : List (List ℕ)
+threeSaved = threeCommitted ++ deliver 1 2 ∷ deliver 1 4 ∷ deliver 2 4 ∷ deliver 4 2 ∷ []
 
 abbrev pub second-recovery : Example
 second-recovery = record {

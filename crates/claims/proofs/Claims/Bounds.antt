@@ -3,7 +3,7 @@ use Prim.Native.Nat.{ℕ, zero, suc, _+_, _<_, _≤_}
 use mathlib.Core.Path.{_≡_, refl, sym, ap, _∙_, subst}
 use mathlib.Core.Logic.{⊎-elim}
 use mathlib.Core.Bool.{Bool, true, false, not, _&&_, _||_, false≢true}
-use mathlib.Core.List.{List, [], _∷_, _++_, nil≢cons}
+use mathlib.Core.List.{List, [], _∷_, nil≢cons}
 use lib.ListN.{length}
 use native.Mathlib.Omega.{arith}
 use native.Mathlib.Decide.{ℕ-discrete}
@@ -27,10 +27,9 @@ use Rattle.claims.specs.Bounds.{LinesBounded, NeverWraps}
 use Rattle.claims.proofs.State.Fun.{never, is-true, sum, sum-add, sum-swap}
 use Rattle.claims.proofs.State.View.{View, packetOf, content, view}
 use Rattle.claims.proofs.State.ViewMoves.{sim-off}
-use Rattle.claims.proofs.Invariant.Facts.{Ghost, Pair, unaware, amount}
+use Rattle.claims.proofs.Invariant.Facts.{Ghost, Pair, unaware}
 use Rattle.claims.proofs.Invariant.Whole.{Inv, outOf, gotOf}
 use Rattle.claims.proofs.Invariant.Words.{un-of, un-works, live-line}
-use Rattle.claims.proofs.Invariant.Logs.{amount-snoc}
 use Rattle.claims.proofs.Moves.Taking.{taken-pair}
 use Rattle.claims.proofs.State.Runs.{every-run}
 use Rattle.claims.proofs.Claims.Demand.{Runs, every-list}
@@ -79,11 +78,6 @@ sum-more f g a (suc n) q l h e = elim (ℕ-discrete n a) [
   | no d ↦ omega (arith, sum-more f g a n q (omega arith) h e, h n)
 ]
 
-amount-start : (k r : List Payload) → amount k ≤ amount (k ++ r)
-unfolding amount
-amount-start [] r = omega arith
-amount-start (p ∷ k) r = omega (arith, amount-start k r)
-
 takes-calm : (s : State) (t : Bool) → isIn s Normal || (isIn s CheckpBegin && not t) ≡ true → (works s ≡ true) × (inRecovery s ≡ false)
 takes-calm Failed t e = absurd (false≢true e)
 takes-calm Normal t e = (refl, refl)
@@ -120,23 +114,20 @@ module _ (total : ℕ) (g : Group) (γ : Ghost) (i : Inv (g .n) total (view g) �
   lb : b < 8
   lb = below-eight b (un-works (γ .big) (v .own b) calm)
 
-  -- what was taken is a start of what was sent, on this line with the packet that stands first
-  taken-within : (c d : ℕ) → amount (γ .wire c d .taken) ≤ amount (γ .wire c d .sent)
-  taken-within c d =
-      let r = i .core .pairs c d .prefix clean in
-      omega (arith, ap amount (r .1), amount-start (γ .wire c d .taken) (r .0))
+  -- no more was taken than was sent, on this line with the packet that stands first
+  taken-within : (c d : ℕ) → γ .wire c d .got ≤ γ .wire c d .out
+  taken-within c d = i .core .pairs c d .noMore clean
 
-  with-first : amount (γ .wire a b .taken) + p .amount ≤ amount (γ .wire a b .sent)
+  with-first : γ .wire a b .got + p .amount ≤ γ .wire a b .out
   with-first =
       let n = i .core .nodes a in
-      let r = taken-pair _ _ _ _ _ _ _ _ _ left _ p here (n .placeKnown) (n .placed) calm (v .own b .image) .prefix clean in
-      omega (arith, ap amount (r .1), amount-start (γ .wire a b .taken ++ (p ∷ [])) (r .0), amount-snoc (γ .wire a b .taken) p)
+      taken-pair _ _ _ _ _ _ _ _ _ left _ p here (n .placeKnown) (n .placed) calm (v .own b .image) .noMore clean
 
   -- over all lines
   all-within : sum (λ c. gotOf γ c) 8 + p .amount ≤ sum (λ c. outOf γ c) 8
   all-within =
-      let taken : ℕ → ℕ → ℕ = λ c d. amount (γ .wire c d .taken) in
-      let sent : ℕ → ℕ → ℕ = λ c d. amount (γ .wire c d .sent) in
+      let taken : ℕ → ℕ → ℕ = λ c d. γ .wire c d .got in
+      let sent : ℕ → ℕ → ℕ = λ c d. γ .wire c d .out in
       let from-a = sum-more (taken a) (sent a) b 8 (p .amount) lb (taken-within a) with-first in
       let from-all =
       sum-more (λ c. sum (taken c) 8) (λ c. outOf γ c) a 8 (p .amount) la (λ c. sum-less (taken c) (sent c) 8 (taken-within c)) from-a in

@@ -74,7 +74,7 @@ module _ (total : ℕ) (g : Group) (h : History) (w : Runs total g h) where
       → (y : Cut) × (latest h .cut c ≡ some y) × (slot g c v ≡ y .image)
   names-newest c d wc wd v e =
       let y = cut-held (w .inv) (w .past) c wc in
-      (y .0, y .1, ap (slot g c) (w .inv .core .nodes d .known wd v e) ∙ w .inv .core .nodes c .slotTop wc ∙ sym (y .2))
+      (y .0, y .1, ap (slot g c) (w .inv .core .nodes d .known wd v e) ∙ w .inv .core .nodes c .slotTop (w .inv .core .nodes c .placed wc) ∙ sym (y .2))
 
   -- the home knows its version, and that names the newest save
   fetches-newest : (a : ℕ) → fetchRefusal g a ≡ 0

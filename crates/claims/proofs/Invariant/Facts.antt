@@ -67,6 +67,9 @@ pub record Wire : Type 0 where
   pub sent : List Payload
   pub taken : List Payload
   pub ver : ℕ
+  -- the amperes sent and taken since the images of `base` were
+  pub out : ℕ
+  pub got : ℕ
   -- the link was in use at the last recovery's end
   pub lk : Bool
 
@@ -199,6 +202,8 @@ pub record Stream (waiting hurt : Bool) (put took : Check) (w : Wire) (l : List 
   pub reads : took ≡ checkOf (drop (w .ver) (w .taken))
   pub writes : put ≡ cond waiting startCheck (checkOf (drop (w .ver) (w .sent)))
   pub carries : (v : Check) (k : List Packet) → l ≡ k ++ (Checkp v ∷ []) → v ≡ checkOf (drop (w .ver) (w .sent))
+  -- D8: the amperes that are not taken are on the way, unless a packet is hurt
+  pub onWay : hurt ≡ false → w .out ≡ w .got + amount (amountsIn l)
 
 -- G1: the line out of an aware cabinet: its fault and its recover, or what is left of them
 pub record Alarms (x : Version) (q : Place) (l : List Packet) : Type 0 where
@@ -217,10 +222,10 @@ pub record Pair (b : Big) (c d : ℕ) (o : Own) (m : Mind) (p : Own) (n : Mind) 
       → (s .cab ≡ (n .tab && not (hitsCabinet q d))) × (s .link ≡ (w .lk && not (hitsLink q c d)))
   -- D2
   pub closedJoined : linked m n w ≡ true → closed b p n t ≡ true → m .joined ≡ true
-  pub closedEqual : linked m n w ≡ true → closed b p n t ≡ true → b .alive ≡ true → w .sent ≡ w .taken
+  pub closedEqual : linked m n w ≡ true → closed b p n t ≡ true → b .alive ≡ true → (w .sent ≡ w .taken) × (w .out ≡ w .got)
   pub closedEmpty : linked m n w ≡ true → closed b p n t ≡ true → unaware b o ≡ true → l ≡ []
   -- D3
-  pub apart : linked m n w ≡ false → (w .sent ≡ []) × (w .taken ≡ [])
+  pub apart : linked m n w ≡ false → (w .sent ≡ []) × (w .taken ≡ []) × (w .out ≡ 0) × (w .got ≡ 0)
   -- F1, F2, F4
   pub owes : s .owed ≡ true → (n .wrote ≡ true) × (n .told ≡ false) × (unaware b o ≡ true)
   pub owesHome : s .owed ≡ true → p .home ≡ c
@@ -257,7 +262,7 @@ pub record Pair (b : Big) (c d : ℕ) (o : Own) (m : Mind) (p : Own) (n : Mind) 
   -- G8, and what damage has not touched
   pub sound : b .calm ≡ true → count isInvalid l ≡ 0
   pub unhurt : b .clean ≡ true → unaware b p ≡ true → t .hurt ≡ false
-  pub prefix : b .clean ≡ true → (r : List Payload) × (w .sent ≡ w .taken ++ r)
+  pub noMore : b .clean ≡ true → w .got ≤ w .out
   pub small : Amounts (w .sent) × (Amounts (w .taken) × Amounts (amountsIn l))
 
 -- ---- facts about one cabinet; z are its slots in the store
@@ -302,15 +307,15 @@ pub record Node (b : Big) (c : ℕ) (o : Own) (m : Mind) (z : Bool → Image) : 
   -- D5, D7
   pub cutImage : b .alive ≡ true → m .done ≡ true → unaware b o ≡ true → o .image ≡ m .cut
   pub gone : m .tab ≡ false → (m .base ≡ m .top) × (b .adopted ≡ false → m .prev ≡ m .top)
-  -- E1 to E3
-  pub slotTop : works (o .state) ≡ true → z (b .topv) ≡ m .top
-  pub slotPrev : b .adopted ≡ false → c ≢ b .chief → works (o .state) ≡ true → z (not (b .topv)) ≡ m .prev
+  -- E1 to E3: of failed cabinets too, until the recovery ends; the coordinator writes over the save before once it has its cut
+  pub slotTop : m .tab ≡ true → z (b .topv) ≡ m .top
+  pub slotPrev : b .adopted ≡ false → m .tab ≡ true → (c ≡ b .chief → m .done ≡ false) → z (not (b .topv)) ≡ m .prev
   pub slotCut : b .alive ≡ true → m .wrote ≡ true → z (not (b .topv)) ≡ m .cut
   pub slotPieces : b .alive ≡ true → unaware b o ≡ true → o .state ≡ Checkpointing → SameTo (8 * o .pieces) (z (not (b .topv))) (m .cut)
   -- images have their 32 octets
   pub sizes : Pictured (m .cut) × (Pictured (m .top) × Pictured (m .prev))
 
--- ---- what a cabinet has booked; out is the sum of what it sent since the last recovery's end, got that of what it took
+-- ---- what a cabinet has booked; out is the sum of what it sent since `base`, got that of what it took
 
 pub record Books (b : Big) (o : Own) (m : Mind) (out got : ℕ) : Type 0 where
   -- D4

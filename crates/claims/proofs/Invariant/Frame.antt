@@ -13,7 +13,7 @@ use Rattle.protocol.specs.History.{upd}
 use Rattle.state.specs.declared.State.{State}
 use Rattle.claims.proofs.State.Fun.{upd-elim, upd-same, upd-other, sum-cong, upd-id, kept, kept-at}
 use Rattle.claims.proofs.State.View.{View, Own, Side, used}
-use Rattle.claims.proofs.Invariant.Facts.{Big, Mind, Wire, Ghost, Pair, Node, Books, aware, unaware, amount}
+use Rattle.claims.proofs.Invariant.Facts.{Big, Mind, Wire, Ghost, Pair, Node, Books, aware, unaware}
 use Rattle.claims.proofs.Invariant.Whole.{PairAt, NodeAt, BooksAt, GroundOf, PlacesOf, MeetsOf, ChainOf, SumsOf, lkOf, outOf, gotOf, Inv}
 
 -- ---- the group and the ghost after a move at c; lines, logs and slots are given whole
@@ -60,7 +60,7 @@ module _ (v : View) (γ : Ghost) (b : Big) (c : ℕ) (o : Own) (m : Mind) (s : �
     | no d ↦ rw (upd-other (v .own) c o i d, upd-other (γ .mind) c m i d, slots i d) (aside i d)
   ]
 
-  -- where the logs of a cabinet stay, what it owes is said of the sums as they were
+  -- where what a cabinet sent and took stays, what it owes is said of the sums as they were
   pub move-books : ((i : ℕ) → outOf γ′ i ≡ outOf γ i) → ((i : ℕ) → gotOf γ′ i ≡ gotOf γ i)
       → ((i : ℕ) → i ≢ c → Books b (v .own i) (γ .mind i) (outOf γ i) (gotOf γ i)) → Books b o m (outOf γ c) (gotOf γ c) → (i : ℕ) → BooksAt v′ γ′ i
   move-books out got aside books i = rw (out i, got i) (elim (ℕ-discrete i c) [
@@ -68,12 +68,12 @@ module _ (v : View) (γ : Ghost) (b : Big) (c : ℕ) (o : Own) (m : Mind) (s : �
     | no d ↦ rw (upd-other (v .own) c o i d, upd-other (γ .mind) c m i d) (aside i d)
   ])
 
--- sums over the logs, where the logs stay
-pub out-kept : (γ δ : Ghost) (c : ℕ) → ((d : ℕ) → δ .wire c d .sent ≡ γ .wire c d .sent) → outOf δ c ≡ outOf γ c
-out-kept γ δ c e = sum-cong _ _ 8 (λ d l. ap amount (e d))
+-- sums over the lines, where what was sent and taken stays
+pub out-kept : (γ δ : Ghost) (c : ℕ) → ((d : ℕ) → δ .wire c d .out ≡ γ .wire c d .out) → outOf δ c ≡ outOf γ c
+out-kept γ δ c e = sum-cong _ _ 8 (λ d l. e d)
 
-pub got-kept : (γ δ : Ghost) (c : ℕ) → ((d : ℕ) → δ .wire d c .taken ≡ γ .wire d c .taken) → gotOf δ c ≡ gotOf γ c
-got-kept γ δ c e = sum-cong _ _ 8 (λ d l. ap amount (e d))
+pub got-kept : (γ δ : Ghost) (c : ℕ) → ((d : ℕ) → δ .wire d c .got ≡ γ .wire d c .got) → gotOf δ c ≡ gotOf γ c
+got-kept γ δ c e = sum-cong _ _ 8 (λ d l. e d)
 
 -- ---- facts about the whole group, where the functions that they read stay
 

@@ -51,7 +51,7 @@ abbrev m₀ : Bool → Image → Mind
 m₀ t x = record { tab = t; joined = false; done = false; wrote = false; told = false; ready = false; cut = x; base = x; top = x; prev = x }
 
 abbrev w₀ : Bool → Wire
-w₀ t = record { sent = []; taken = []; ver = 0; lk = t }
+w₀ t = record { sent = []; taken = []; ver = 0; out = 0; got = 0; lk = t }
 
 -- a cabinet at the start: in normal with version 0, or no cabinet at all
 record Ready (tab : Bool) (o : Own) : Type 0 where
@@ -88,7 +88,7 @@ module _ (tab : Bool) (o : Own) (r : Ready tab o) where
 module _ (c d : ℕ) (o p : Own) (x y : Image) (s t : Side) (to td lk : Bool) (ro : Ready to o) (rp : Ready td p) (cs : Clear s) (ct : Clear t)
     (tables : to ≡ true → (s .cab ≡ td) × (s .link ≡ lk)) where
   start-stream : Stream false (t .hurt) (s .put) (t .took) (w₀ lk) []
-  unfolding amountsIn
+  unfolding amountsIn amount
   start-stream = record {
     equal = refl;
     within = omega arith;
@@ -97,6 +97,7 @@ module _ (c d : ℕ) (o p : Own) (x y : Image) (s t : Side) (to td lk : Bool) (r
     reads = ct .took ∙ sym check-none;
     writes = cs .put ∙ sym check-none;
     carries = λ v k e. absurd (no-checkp-end [] v k (count-none isCheckp) e);
+    onWay = λ e. refl;
   }
 
   p-not : (s : State) → isIn Normal s ≡ false → isIn Failed s ≡ false → isIn (p .state) s ≡ true → ⊥
@@ -120,9 +121,9 @@ module _ (c d : ℕ) (o p : Own) (x y : Image) (s t : Side) (to td lk : Bool) (r
     table = λ u. tables (sym (working-tab to o ro) ∙ un-works b₀ o u);
     struck = λ a. absurd (false≢true a);
     closedJoined = λ k e. absurd (p-open e);
-    closedEqual = λ k e a. refl;
+    closedEqual = λ k e a. (refl, refl);
     closedEmpty = λ k e u. refl;
-    apart = λ e. (refl, refl);
+    apart = λ e. (refl, refl, refl, refl);
     owes = λ e. absurd (never e (cs .owed));
     owesHome = λ e. absurd (never e (cs .owed));
     reported = λ i e. absurd (o-saves e);
@@ -146,7 +147,7 @@ module _ (c d : ℕ) (o p : Own) (x y : Image) (s t : Side) (to td lk : Bool) (r
     room = λ u. omega arith;
     sound = λ e. refl;
     unhurt = λ e u. ct .hurt;
-    prefix = λ e. ([], refl);
+    noMore = λ e. omega arith;
     small = (tt, (tt, tt));
   }
 
@@ -189,7 +190,7 @@ module _ (c : ℕ) (o : Own) (x : Image) (t : Bool) (z : Bool → Image) (r : Re
     waits = λ e. absurd (true≢false e);
     cutImage = λ a e. absurd (false≢true e);
     gone = λ e. (refl, λ f. refl);
-    slotTop = λ w. slot (sym (working-tab t o r) ∙ w);
+    slotTop = slot;
     slotPrev = λ e. absurd (true≢false e);
     slotCut = λ a e. absurd (false≢true e);
     slotPieces = λ a u e. not-in Checkpointing refl refl refl e;
@@ -262,11 +263,9 @@ module _ (f : List ℕ) (g : Group) (st : Starts f g) (fit : Fit g) where
   nodes₀ c = start-node c (view g .own c) (cabinet g c .image) (tab₀ c) (slot g c) (ready₀ c) (λ e. st .slot-zero c (below c e)) (fit .cabs c .image)
 
   nothing-out : (c : ℕ) → outOf γ₀ c ≡ 0
-  unfolding amount
   nothing-out c = sum-zero (λ d. 0) 8 (λ j l. refl)
 
   nothing-got : (c : ℕ) → gotOf γ₀ c ≡ 0
-  unfolding amount
   nothing-got c = sum-zero (λ d. 0) 8 (λ j l. refl)
 
   books₀ : (c : ℕ) → BooksAt (view g) γ₀ c

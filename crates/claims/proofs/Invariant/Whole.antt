@@ -13,7 +13,7 @@ use Rattle.state.specs.State.{works, isUnknown}
 use Rattle.image.specs.Image.{booked}
 use Rattle.claims.proofs.State.Fun.{sum}
 use Rattle.claims.proofs.State.View.{View, used}
-use Rattle.claims.proofs.Invariant.Facts.{Big, Ghost, Pair, Node, Books, aware, unaware, amount}
+use Rattle.claims.proofs.Invariant.Facts.{Big, Ghost, Pair, Node, Books, aware, unaware}
 
 -- ---- who is there, which links stand, and that all are reached (A3, A4, A8)
 
@@ -96,10 +96,10 @@ module _ (γ : Ghost) where
   lkOf c d = γ .wire c d .lk
 
   abbrev pub outOf : ℕ → ℕ
-  outOf c = sum (λ d. amount (γ .wire c d .sent)) 8
+  outOf c = sum (λ d. γ .wire c d .out) 8
 
   abbrev pub gotOf : ℕ → ℕ
-  gotOf c = sum (λ d. amount (γ .wire d c .taken)) 8
+  gotOf c = sum (λ d. γ .wire d c .got) 8
 
 -- ---- the invariant
 

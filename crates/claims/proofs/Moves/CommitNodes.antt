@@ -59,10 +59,10 @@ module _ (b : Big) (c : ℕ) (o : Own) (m : Mind) (z : Bool → Image) (h : Node
     not-restoring : {A : Type 0} (s : State) → isIn Error s ≡ false → aware b o ≡ true → o .state ≡ s → A
     not-restoring s d e f = absurd (other-state (in-state (o .state) Error .0 (aware-error e)) d f)
 
-    new-top : works (o .state) ≡ true → z (not (b .topv)) ≡ cond (m .tab) (m .cut) (m .top)
-    new-top e = h .slotCut lives (now-through e .2) ∙ sym (ap (λ (t : Bool). cond t (m .cut) (m .top)) (h .placed e))
+    new-top : m .tab ≡ true → z (not (b .topv)) ≡ cond (m .tab) (m .cut) (m .top)
+    new-top e = h .slotCut lives (through e .2) ∙ sym (ap (λ (t : Bool). cond t (m .cut) (m .top)) e)
 
-    old-top : works (o .state) ≡ true → z (not (not (b .topv))) ≡ m .top
+    old-top : m .tab ≡ true → z (not (not (b .topv))) ≡ m .top
     old-top e = ap z (not-not (b .topv)) ∙ h .slotTop e
 
     kept-gone : m .tab ≡ false → (m .base ≡ cond (m .tab) (m .cut) (m .top)) × (m .top ≡ cond (m .tab) (m .cut) (m .top))
@@ -114,7 +114,7 @@ module _ (b : Big) (c : ℕ) (o : Own) (m : Mind) (z : Bool → Image) (h : Node
         cutImage = λ a e. absurd (false≢true e);
         gone = λ e. (kept-gone e .0, λ f. kept-gone e .1);
         slotTop = new-top;
-        slotPrev = λ e n w. old-top w;
+        slotPrev = λ e t d. old-top t;
         slotCut = λ a e. absurd (false≢true e);
         slotPieces = λ a u e. absurd (other-state (now-saved u) refl e);
         sizes = new-sizes;
@@ -161,8 +161,8 @@ module _ (b : Big) (c : ℕ) (o : Own) (m : Mind) (z : Bool → Image) (h : Node
         waits = λ e n. absurd (n chief);
         cutImage = λ a e. absurd (false≢true e);
         gone = λ e. (kept-gone e .0, λ f. kept-gone e .1);
-        slotTop = λ e. new-top (un-works b o un);
-        slotPrev = λ e n. absurd (n chief);
+        slotTop = new-top;
+        slotPrev = λ e t d. old-top t;
         slotCut = λ a e. absurd (false≢true e);
         slotPieces = λ a u e. absurd (other-state refl refl e);
         sizes = new-sizes;

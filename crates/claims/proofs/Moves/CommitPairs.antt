@@ -129,6 +129,6 @@ module _ (b : Big) (c d : ℕ) (o : Own) (m : Mind) (p : Own) (n : Mind) (s t : 
     room = λ u. omega (arith, ap (count isSafe) (line-empty u), count-none isSafe);
     sound = h .sound;
     unhurt = h .unhurt;
-    prefix = h .prefix;
+    noMore = h .noMore;
     small = h .small;
   }

@@ -17,7 +17,7 @@ use Rattle.claims.proofs.State.Fun.{never, is-false, and-true, upd-same
 use Rattle.claims.proofs.State.View.{View, Own, Side, used}
 use Rattle.claims.proofs.State.Methods.{sCleared}
 use Rattle.claims.proofs.State.ViewMoves.{vPut, vBroadcast, vResumed}
-use Rattle.claims.proofs.Invariant.Facts.{Big, Mind, Ghost, Pair, aware, unaware, linked, amount}
+use Rattle.claims.proofs.Invariant.Facts.{Big, Mind, Ghost, Pair, aware, unaware, linked}
 use Rattle.claims.proofs.Invariant.Whole.{Inv, Place-of, PairAt, ChainOf, SumsOf, PlacesOf, workOf, alarmOf, tabOf, lkOf, outOf, gotOf}
 use Rattle.claims.proofs.Invariant.Logs.{resumedBy}
 use Rattle.claims.proofs.Invariant.Words.{un-works, un-not-aware, used-linked}
@@ -63,14 +63,14 @@ module _ (n total : ℕ) (v : View) (γ : Ghost) (i : Inv n total v γ) (un : un
       (t, wrote-state _ _ _ _ _ (i .core .nodes c) u (all c t .0))
 
   -- all that was sent was taken
-  pub equal : (c d : ℕ) → γ .wire c d .sent ≡ γ .wire c d .taken
+  pub equal : (c d : ℕ) → (γ .wire c d .sent ≡ γ .wire c d .taken) × (γ .wire c d .out ≡ γ .wire c d .got)
   equal c d = go (linked (γ .mind c) (γ .mind d) (γ .wire c d)) refl
     where
-      go : (t : Bool) → linked (γ .mind c) (γ .mind d) (γ .wire c d) ≡ t → γ .wire c d .sent ≡ γ .wire c d .taken
+      go : (t : Bool) → linked (γ .mind c) (γ .mind d) (γ .wire c d) ≡ t → (γ .wire c d .sent ≡ γ .wire c d .taken) × (γ .wire c d .out ≡ γ .wire c d .got)
       go true e =
           let tab = and-true {s = γ .mind c .tab} (and-true {s = γ .wire c d .lk} e .1) .1 in
           i .core .pairs c d .closedEqual e (rw (through d tab .1)) lives
-      go false e = let a = i .core .pairs c d .apart e in a .0 ∙ sym (a .1)
+      go false e = let a = i .core .pairs c d .apart e in (a .0 ∙ sym (a .1), a .2 ∙ sym (a .3))
 
   -- ---- pairs
 
@@ -130,15 +130,14 @@ module _ (n total : ℕ) (v : View) (γ : Ghost) (i : Inv n total v γ) (un : un
 
   out-got : sum (λ c. outOf γ c) 8 ≡ sum (λ c. gotOf γ c) 8
   out-got =
-      sum-cong (λ c. outOf γ c) (λ c. sum (λ d. amount (γ .wire c d .taken)) 8) 8 (λ c l. sum-cong _ _ 8 (λ d q. ap amount (equal c d)))
-      ∙ sum-swap (λ c d. amount (γ .wire c d .taken)) 8 8
+      sum-cong (λ c. outOf γ c) (λ c. sum (λ d. γ .wire c d .got) 8) 8 (λ c l. sum-cong _ _ 8 (λ d q. equal c d .1))
+      ∙ sum-swap (λ c d. γ .wire c d .got) 8 8
 
   -- a cabinet that is not in use sent nothing and took nothing
   idle : (c : ℕ) → γ .mind c .tab ≡ false → (outOf γ c ≡ 0) × (gotOf γ c ≡ 0)
-  unfolding amount
   idle c t = (
-    sum-zero _ 8 (λ d l. ap amount (i .core .pairs c d .apart (off-from d) .0)),
-    sum-zero _ 8 (λ d l. ap amount (i .core .pairs d c .apart (off-to d) .1)),
+    sum-zero _ 8 (λ d l. i .core .pairs c d .apart (off-from d) .2),
+    sum-zero _ 8 (λ d l. i .core .pairs d c .apart (off-to d) .3),
   )
     where
       off-from : (d : ℕ) → linked (γ .mind c) (γ .mind d) (γ .wire c d) ≡ false

@@ -23,7 +23,7 @@ use Rattle.claims.proofs.State.Fun.{never, is-true, is-false, and-true,
 use Rattle.claims.proofs.State.View.{View, Own, Side, used, setLine}
 use Rattle.claims.proofs.State.Methods.{sCompared}
 use Rattle.claims.proofs.State.ViewMoves.{vCompare}
-use Rattle.claims.proofs.Invariant.Facts.{Big, Mind, Wire, Ghost, Pair, Stream, Node, aware, unaware, linked, closed, amountsIn, count, checkpLast, checkOf, Amounts, Differ, same, isCheckp}
+use Rattle.claims.proofs.Invariant.Facts.{Big, Mind, Wire, Ghost, Pair, Stream, Node, aware, unaware, linked, closed, amountsIn, count, checkpLast, checkOf, Amounts, Differ, same, isCheckp, amount}
 use Rattle.claims.proofs.Invariant.Whole.{Inv}
 use Rattle.claims.proofs.Invariant.Logs.{equal-checks, check-none, differ-none, only-alarms, no-checkp-end, count-none}
 use Rattle.claims.proofs.Invariant.Words.{un-or-aware, un-not-aware, linked-used, live-line}
@@ -89,16 +89,21 @@ module _ (b : Big) (c d : ℕ) (o : Own) (m : Mind) (p : Own) (n : Mind) (s t : 
 
     -- an equal one: what was sent is what was taken
     module _ (equal : x ≡ t .took) (begins : p .state ≡ CheckpBegin) (joined : n .joined ≡ true) where
-      after : drop (w .ver) (w .sent) ≡ drop (w .ver) (w .taken)
-      after =
+      unhurt-equal : (t .hurt ≡ false) × (drop (w .ver) (w .sent) ≡ drop (w .ver) (w .taken))
+      unhurt-equal =
           equal-checks (t .hurt) _ _ differing (amounts-drop (w .ver) (w .sent) (h .small .0)) (amounts-drop (w .ver) (w .taken) (h .small .1 .0))
-          (sym sent-value ∙ (equal ∙ stream .reads)) .1
+          (sym sent-value ∙ (equal ∙ stream .reads))
 
       pub equal-logs : w .sent ≡ w .taken
       equal-logs =
           sym (take-append-drop (w .ver) (w .sent))
           ∙ (ap (λ (r : List Payload). r ++ drop (w .ver) (w .sent)) (stream .equal)
-          ∙ (ap (λ (r : List Payload). take (w .ver) (w .taken) ++ r) after ∙ take-append-drop (w .ver) (w .taken)))
+          ∙ (ap (λ (r : List Payload). take (w .ver) (w .taken) ++ r) (unhurt-equal .1) ∙ take-append-drop (w .ver) (w .taken)))
+
+      -- and nothing is on the way
+      pub equal-sums : w .out ≡ w .got
+      unfolding amountsIn amount
+      equal-sums = omega (arith, stream .onWay (unhurt-equal .0), ap amount (ap amountsIn checkp-end))
 
       not-come : t .come ≡ false
       not-come = is-false (t .come) (λ e. never (comes e) checkp-open)
@@ -112,21 +117,22 @@ module _ (b : Big) (c d : ℕ) (o : Own) (m : Mind) (p : Own) (n : Mind) (s t : 
 -- ---- an equal comparison covers all that was sent
 
 abbrev pub wCovered : Wire → Wire
-wCovered w = record { sent = w .sent; taken = w .taken; ver = length (w .sent); lk = w .lk }
+wCovered w = record { sent = w .sent; taken = w .taken; ver = length (w .sent); out = w .out; got = w .got; lk = w .lk }
 
 abbrev pub gCompare : Ghost → ℕ → ℕ → Ghost
 gCompare γ a b = record { big = γ .big; mind = γ .mind; wire = upd (γ .wire) a (upd (γ .wire a) b (wCovered (γ .wire a b))) }
 
-covered-stream : (w : Wire) → w .sent ≡ w .taken → Stream false false startCheck startCheck (wCovered w) []
-unfolding amountsIn
-covered-stream w e = record {
+covered-stream : (w : Wire) → w .sent ≡ w .taken → w .out ≡ w .got → Stream false false startCheck startCheck (wCovered w) []
+unfolding amountsIn amount
+covered-stream w e f = record {
   equal = ap (take (length (w .sent))) e;
   within = omega (arith, ap length e);
   withinSent = omega arith;
   differ = rw (drop-length, ended) same;
   reads = sym (ap checkOf ended ∙ check-none);
   writes = sym (ap checkOf (drop-length (w .sent)) ∙ check-none);
-  carries = λ v k f. absurd (no-checkp-end [] v k (count-none isCheckp) f);
+  carries = λ v k x. absurd (no-checkp-end [] v k (count-none isCheckp) x);
+  onWay = λ x. omega arith;
 }
   where
     ended : drop (length (w .sent)) (w .taken) ≡ []
@@ -138,13 +144,13 @@ module _ (b : Big) (c d : ℕ) (o : Own) (m : Mind) (p : Own) (n : Mind) (s t : 
   un : unaware b o ≡ true
   un = checkp-un _ _ _ _ _ _ _ _ _ _ _ _ h z node
 
-  all-equal : w .sent ≡ w .taken
-  all-equal = equal-logs _ _ _ _ _ _ _ _ _ _ _ _ h z node up equal begins joined
+  all-equal : (w .sent ≡ w .taken) × (w .out ≡ w .got)
+  all-equal = (equal-logs _ _ _ _ _ _ _ _ _ _ _ _ h z node up equal begins joined, equal-sums _ _ _ _ _ _ _ _ _ _ _ _ h z node up equal begins joined)
 
   covered : Stream (m .joined && not (n .joined && true)) false (s .put) startCheck (wCovered w) []
   covered =
       rw (checkp-joined _ _ _ _ _ _ _ _ _ _ _ _ h z node, joined, restarted _ _ _ _ _ _ _ _ _ _ _ _ h z node up equal begins joined)
-      (covered-stream w all-equal)
+      (covered-stream w (all-equal .0) (all-equal .1))
 
   not-aware : {A : Type 0} → aware b o ≡ true → A
   not-aware e = absurd (un-not-aware b o un e)
@@ -181,7 +187,7 @@ module _ (b : Big) (c d : ℕ) (o : Own) (m : Mind) (p : Own) (n : Mind) (s t : 
     room = λ u. omega arith;
     sound = λ e. refl;
     unhurt = λ e u. refl;
-    prefix = h .prefix;
+    noMore = h .noMore;
     small = (h .small .0, (h .small .1 .0, tt));
   }
 
@@ -280,11 +286,11 @@ module _ (n total : ℕ) (v : View) (γ : Ghost) (i : Inv n total v γ) (a b : �
     link-kept : (c d : ℕ) → wire′ c d .lk ≡ γ .wire c d .lk
     link-kept = kept-pair (λ (y : Wire). y .lk) (γ .wire) a b (wCovered (γ .wire a b)) refl
 
-    sent-kept : (c d : ℕ) → wire′ c d .sent ≡ γ .wire c d .sent
-    sent-kept = kept-pair (λ (y : Wire). y .sent) (γ .wire) a b (wCovered (γ .wire a b)) refl
+    out-stays : (c d : ℕ) → wire′ c d .out ≡ γ .wire c d .out
+    out-stays = kept-pair (λ (y : Wire). y .out) (γ .wire) a b (wCovered (γ .wire a b)) refl
 
-    taken-kept : (c d : ℕ) → wire′ c d .taken ≡ γ .wire c d .taken
-    taken-kept = kept-pair (λ (y : Wire). y .taken) (γ .wire) a b (wCovered (γ .wire a b)) refl
+    got-stays : (c d : ℕ) → wire′ c d .got ≡ γ .wire c d .got
+    got-stays = kept-pair (λ (y : Wire). y .got) (γ .wire) a b (wCovered (γ .wire a b)) refl
 
     used-kept : (d : ℕ) → used (s′ d) ≡ used (v .side b d)
     used-kept = kept-at used (v .side b) a (sCompared (v .side b a)) refl
@@ -295,8 +301,8 @@ module _ (n total : ℕ) (v : View) (γ : Ghost) (i : Inv n total v γ) (a b : �
         (move-pairs v γ (γ .big) b (v .own b) (γ .mind b) s′ lines′ (v .slots) wire′ (λ c d x y. line-past c d y) (λ c d x y. wire-past c d y)
         (λ c d x y. i .core .pairs c d) (λ j x. from-b j) self (λ c x. to-b c))
         (move-nodes v γ (γ .big) b (v .own b) (γ .mind b) s′ lines′ (v .slots) wire′ (λ c x. refl) (λ c x. i .core .nodes c) (i .core .nodes b))
-        (move-books v γ (γ .big) b (v .own b) (γ .mind b) s′ lines′ (v .slots) wire′ (λ c. out-kept γ δ c (sent-kept c))
-        (λ c. got-kept γ δ c (λ d. taken-kept d c)) (λ c x. i .core .books c) (i .core .books b))
+        (move-books v γ (γ .big) b (v .own b) (γ .mind b) s′ lines′ (v .slots) wire′ (λ c. out-kept γ δ c (out-stays c))
+        (λ c. got-kept γ δ c (λ d. got-stays d c)) (λ c x. i .core .books c) (i .core .books b))
 
     -- an equal comparison in checkp-begin
     pub compare-inv : Inv n total v′ (gCompare γ a b)

@@ -1,7 +1,7 @@
 -- The cut: with the checkps of all neighbours in use a cabinet goes from checkp-begin to checkpointing. Its image is that of the save.
 use Prim.Native.Nat.{ℕ}
 use mathlib.Core.Path.{_≡_, refl, sym, ap, _∙_}
-use mathlib.Core.Bool.{Bool, true, false, not, _&&_, false≢true}
+use mathlib.Core.Bool.{Bool, true, false, not, _&&_, false≢true, true≢false}
 use mathlib.Core.List.{List}
 use lib.Dec.{eqb}
 use borrow.Author.Tests.{eqb-true, eqb-false, eq-eqb}
@@ -90,7 +90,7 @@ module _ (b : Big) (c d : ℕ) (o : Own) (m : Mind) (p : Own) (n : Mind) (s t : 
     room = λ u. h .room un;
     sound = h .sound;
     unhurt = h .unhurt;
-    prefix = h .prefix;
+    noMore = h .noMore;
     small = h .small;
   }
 
@@ -137,7 +137,7 @@ module _ (b : Big) (c d : ℕ) (o : Own) (m : Mind) (p : Own) (n : Mind) (s t : 
     room = h .room;
     sound = h .sound;
     unhurt = λ e u. h .unhurt e un;
-    prefix = h .prefix;
+    noMore = h .noMore;
     small = h .small;
   }
 
@@ -195,8 +195,8 @@ module _ (b : Big) (c : ℕ) (o : Own) (m : Mind) (z : Bool → Image) (h : Node
     waits = λ e d f. absurd (never (h .inBegin un begins .0) (h .waits e d (un-works b o un) .0));
     cutImage = λ a e u. refl;
     gone = h .gone;
-    slotTop = λ e. h .slotTop (un-works b o un);
-    slotPrev = λ a d e. h .slotPrev a d (un-works b o un);
+    slotTop = h .slotTop;
+    slotPrev = λ a e d. h .slotPrev a e (λ q. absurd (true≢false (d q)));
     slotCut = λ a e. absurd (never e unwritten);
     slotPieces = λ a u e i l. absurd (omega (arith, no-pieces));
     sizes = (whole, h .sizes .1);

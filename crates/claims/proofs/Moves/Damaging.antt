@@ -1,6 +1,6 @@
 -- Kind 11, damage: a packet on a line is hurt while nobody recovers. A fail-safe packet becomes invalid; a normal one has another amount,
 -- and the receiver's hurt mark says so.
-use Prim.Native.Nat.{ℕ, zero, suc, _+_, _<_}
+use Prim.Native.Nat.{ℕ, zero, suc, _+_, _<_, _≤_}
 use mathlib.Core.Path.{_≡_, refl, sym, ap, _∙_, subst}
 use mathlib.Core.Logic.{_≢_, ⊎-elim}
 use mathlib.Core.Bool.{Bool, true, false, cond, not, _&&_, _||_, false≢true, true≢false}
@@ -35,7 +35,7 @@ use Rattle.claims.proofs.State.Shape.{Shaped, Lined, Pictured, shaped}
 use Rattle.claims.proofs.State.Sim.{Fit, view-line}
 use Rattle.claims.proofs.State.Methods.{sRegisters}
 use Rattle.claims.proofs.State.ViewMoves.{vHurt, sim-hurt}
-use Rattle.claims.proofs.Invariant.Facts.{Big, Mind, Wire, Ghost, Pair, Node, Books, Stream, aware, unaware, linked, amountOf, amountsIn, count, isFault, isCheckp, isSafe, isInvalid, checkpLast, resumes, resumeFirst, Amounts, Differ, here, later}
+use Rattle.claims.proofs.Invariant.Facts.{Big, Mind, Wire, Ghost, Pair, Node, Books, Stream, aware, unaware, linked, amountOf, amountsIn, count, isFault, isCheckp, isSafe, isInvalid, checkpLast, resumes, resumeFirst, Amounts, Differ, here, later, amount}
 use Rattle.claims.proofs.Invariant.Whole.{Inv, PairAt}
 use Rattle.claims.proofs.Invariant.Past.{Past, Kept, no-cuts, aware-not-normal, past-same}
 use Rattle.claims.proofs.Invariant.Logs.{differ-none, head-eq, tail-eq}
@@ -229,7 +229,7 @@ module _ (b : Big) (x : Bool) (still : x ≡ true → b .clean ≡ true) where
   stained c d o m p n s t l w h =
       let so : false ≡ true → count isInvalid l ≡ 0 = λ e. absurd (false≢true e) in
       let un : x ≡ true → unaware b p ≡ true → t .hurt ≡ false = λ e. h .unhurt (still e) in
-      let pr : x ≡ true → (r : List Payload) × (w .sent ≡ w .taken ++ r) = λ e. h .prefix (still e) in
+      let nm : x ≡ true → w .got ≤ w .out = λ e. h .noMore (still e) in
       search
 
   pub stained-node : (c : ℕ) (o : Own) (m : Mind) (z : Bool → Image) → inRecovery (o .state) ≡ false → Node b c o m z → Node (bHurt b x) c o m z
@@ -244,6 +244,10 @@ module _ (b : Big) (x : Bool) (still : x ≡ true → b .clean ≡ true) where
 still-clean : (t c : Bool) → cond t false c ≡ true → (t ≡ false) × (c ≡ true)
 still-clean true c e = absurd (false≢true e)
 still-clean false c e = (refl, e)
+
+unhurt-both : (x y : Bool) → cond x true y ≡ false → (x ≡ false) × (y ≡ false)
+unhurt-both true y e = absurd (true≢false e)
+unhurt-both false y e = (refl, e)
 
 -- ---- the pair whose line is hit
 
@@ -291,6 +295,7 @@ module _ (b : Big) (c d : ℕ) (o : Own) (m : Mind) (p : Own) (n : Mind) (s t : 
         reads = f .reads;
         writes = f .writes;
         carries = λ v r e. let y = ended l k new v r no-checkp e in f .carries v (y .0) (y .1);
+        onWay = λ e. let y = unhurt-both normal (t .hurt) e in omega (arith, f .onWay (y .1), ap amount (amounts-hit l k q (y .0)));
       }
 
   unhurt-still : (x : Bool) → x ≡ false → t .hurt ≡ false → cond x true (t .hurt) ≡ false
@@ -330,7 +335,7 @@ module _ (b : Big) (c d : ℕ) (o : Own) (m : Mind) (p : Own) (n : Mind) (s t : 
     room = λ u. rw (count-same isSafe l k new (damaged-safe (getD l k Empty) q)) (h .room u);
     sound = λ e. absurd (false≢true e);
     unhurt = λ e u. let f = still-clean normal (b .clean) e in unhurt-still normal (f .0) (h .unhurt (f .1) u);
-    prefix = λ e. h .prefix (still-clean normal (b .clean) e .1);
+    noMore = λ e. h .noMore (still-clean normal (b .clean) e .1);
     small = (h .small .0, (h .small .1 .0, small-hit l k q lq (h .small .1 .1)));
   }
 

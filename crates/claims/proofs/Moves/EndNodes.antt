@@ -77,7 +77,7 @@ module _ (b : Big) (k c : ℕ) (o : Own) (m : Mind) (z : Bool → Image) (h : No
         waits = λ e. absurd (true≢false e);
         cutImage = λ a e. absurd (false≢true e);
         gone = λ e. (refl, λ f. absurd (true≢false f));
-        slotTop = h .slotTop;
+        slotTop = λ e. h .slotTop (h .placed e);
         slotPrev = λ e. absurd (true≢false e);
         slotCut = λ a e. absurd (false≢true e);
         slotPieces = λ a u e. absurd (not-in Checkpointing refl (wo u) e);
@@ -123,7 +123,7 @@ module _ (b : Big) (k c : ℕ) (o : Own) (m : Mind) (z : Bool → Image) (h : No
     waits = λ e. absurd (true≢false e);
     cutImage = λ a e. absurd (false≢true e);
     gone = λ e. (refl, λ f. absurd (true≢false f));
-    slotTop = λ x. h .slotTop w;
+    slotTop = λ x. h .slotTop (h .placed w);
     slotPrev = λ e. absurd (true≢false e);
     slotCut = λ a e. absurd (false≢true e);
     slotPieces = λ a u e. clash Checkpointing refl e refl;

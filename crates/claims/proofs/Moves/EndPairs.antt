@@ -18,7 +18,7 @@ use Rattle.state.specs.State.{isIn, works, inSaving}
 use Rattle.claims.proofs.State.Fun.{never, and-true, and-intro}
 use Rattle.claims.proofs.State.View.{Own, Side, used}
 use Rattle.claims.proofs.State.Methods.{hitsCabinet, hitsLink}
-use Rattle.claims.proofs.Invariant.Facts.{Big, Mind, Wire, Pair, Stream, Alarms, aware, unaware, linked, behind, closed, amountsIn, count, isFault, Amounts, same}
+use Rattle.claims.proofs.Invariant.Facts.{Big, Mind, Wire, Pair, Stream, Alarms, aware, unaware, linked, behind, closed, amountsIn, count, isFault, Amounts, same, amount}
 use Rattle.claims.proofs.Invariant.Logs.{check-none, Short, Bare, short-bare, no-checkp-end}
 use Rattle.claims.proofs.Invariant.Words.{un-works, un-not-aware}
 
@@ -42,7 +42,7 @@ mEnd m t = record {
 }
 
 abbrev pub wEnd : Bool → Wire
-wEnd t = record { sent = []; taken = []; ver = 0; lk = t }
+wEnd t = record { sent = []; taken = []; ver = 0; out = 0; got = 0; lk = t }
 
 -- ---- what is left on a line: at most a recover
 
@@ -124,6 +124,7 @@ module _ (b : Big) (k : ℕ) (q : Place) (c d : ℕ) (o : Own) (m : Mind) (p : O
       p-state CheckpBegin refl (and-true {s = unaware b′ p} (f .1) .0) (f .0)
 
   streams : unaware b′ o ≡ true → unaware b′ p ≡ true → Stream false (t .hurt) (s .put) (t .took) (wEnd sound) l
+  unfolding amount
   streams u v =
       let wo = o-works u in
       let f = h .fresh (co .knows wo) (rw (co .recovered wo)) in
@@ -136,6 +137,7 @@ module _ (b : Big) (k : ℕ) (q : Place) (c d : ℕ) (o : Own) (m : Mind) (p : O
         reads = e .1 ∙ sym check-none;
         writes = f .0 ∙ sym check-none;
         carries = λ x j y. absurd (no-checkp-end l x j (bare .checkps) y);
+        onWay = λ x. omega (arith, ap amount (bare .none));
       }
 
   owed-none : s .owed ≡ true → ⊥
@@ -151,7 +153,7 @@ module _ (b : Big) (k : ℕ) (q : Place) (c d : ℕ) (o : Own) (m : Mind) (p : O
     closedJoined = λ j e. absurd (open-yet e);
     closedEqual = λ j e a. absurd (open-yet e);
     closedEmpty = λ j e u. absurd (open-yet e);
-    apart = λ e. (refl, refl);
+    apart = λ e. (refl, refl, refl, refl);
     owes = λ e. absurd (owed-none e);
     owesHome = h .owesHome;
     reported = λ i e u. absurd (o-saving u e);
@@ -175,7 +177,7 @@ module _ (b : Big) (k : ℕ) (q : Place) (c d : ℕ) (o : Own) (m : Mind) (p : O
     room = λ u. omega (arith, bare .safe);
     sound = λ e. bare .invalids;
     unhurt = λ e u. fresh-back (p-works u) .2;
-    prefix = λ e. ([], refl);
+    noMore = λ e. omega arith;
     small = (tt, (tt, small-line));
   }
     where

@@ -24,7 +24,7 @@ use Rattle.claims.proofs.State.Fun.{never, is-false, and-true, and-intr
 use Rattle.claims.proofs.State.View.{View, Own, Side, used}
 use Rattle.claims.proofs.State.Methods.{sCleared, hitsCabinet, hitsLink}
 use Rattle.claims.proofs.Answers.Tests.{fault-for}
-use Rattle.claims.proofs.Invariant.Facts.{Big, Mind, Ghost, Pair, Books, unaware, amount}
+use Rattle.claims.proofs.Invariant.Facts.{Big, Mind, Ghost, Pair, Books, unaware}
 use Rattle.claims.proofs.Invariant.Whole.{Ground, Place-of, failed, faulty, Places, Inv, PairAt, NodeAt, BooksAt, workOf, awareOf, alarmOf, outOf, gotOf, GroundOf, PlacesOf, MeetsOf, ChainOf, SumsOf}
 use Rattle.claims.proofs.Invariant.Logs.{resumedBy}
 use Rattle.claims.proofs.Invariant.Words.{un-works, aware-works, used-linked}
@@ -245,11 +245,9 @@ module _ (n total : ℕ) (v : View) (γ : Ghost) (i : Inv n total v γ) (k : ℕ
       (ended-chief b k k (v .own k) (γ .mind k) (v .slots k) (i .core .nodes k) (all-aware k) (all-recovered k) wk) c)
 
   nothing-out : (c : ℕ) → outOf γ′ c ≡ 0
-  unfolding amount
   nothing-out c = sum-zero (λ d. 0) 8 (λ j l. refl)
 
   nothing-got : (c : ℕ) → gotOf γ′ c ≡ 0
-  unfolding amount
   nothing-got c = sum-zero (λ d. 0) 8 (λ j l. refl)
 
   ended-book : (c : ℕ) → Books (bEnd b k) (upd (v .own) k o′ c) (γ′ .mind c) 0 0

@@ -83,7 +83,7 @@ module _ (b : Big) (c d : ℕ) (o : Own) (m : Mind) (p : Own) (n : Mind) (s t : 
         room = no;
         sound = λ e. erred-sound (o .version) q (used s′);
         unhurt = h .unhurt;
-        prefix = h .prefix;
+        noMore = h .noMore;
         small = (h .small .0, (h .small .1 .0, erred-small (o .version) q (used s′)));
       }
     where
@@ -135,7 +135,7 @@ module _ (b : Big) (c d : ℕ) (o : Own) (m : Mind) (p : Own) (n : Mind) (s t : 
         room = h .room;
         sound = h .sound;
         unhurt = λ e. no;
-        prefix = h .prefix;
+        noMore = h .noMore;
         small = h .small;
       }
     where
@@ -219,8 +219,8 @@ module _ (b : Big) (c : ℕ) (o : Own) (m : Mind) (z : Bool → Image) (h : Node
         waits = λ a n e. (h .waits a n w .0, no);
         cutImage = λ a d. no;
         gone = h .gone;
-        slotTop = λ e. h .slotTop w;
-        slotPrev = λ a n e. h .slotPrev a n w;
+        slotTop = h .slotTop;
+        slotPrev = h .slotPrev;
         slotCut = h .slotCut;
         slotPieces = λ a. no;
         sizes = h .sizes;

@@ -71,7 +71,7 @@ module _ (b : Big) (c d : ℕ) (o : Own) (m : Mind) (p : Own) (n : Mind) (s t : 
     room = λ u. omega arith;
     sound = λ e. refl;
     unhurt = h .unhurt;
-    prefix = h .prefix;
+    noMore = h .noMore;
     small = (h .small .0, (h .small .1 .0, search));
   }
 
@@ -107,7 +107,7 @@ module _ (b : Big) (c d : ℕ) (o : Own) (m : Mind) (p : Own) (n : Mind) (s t : 
     room = λ u. omega arith;
     sound = λ e. refl;
     unhurt = λ e u. absurd (false≢true u);
-    prefix = h .prefix;
+    noMore = h .noMore;
     small = (h .small .0, (h .small .1 .0, search));
   }
 
@@ -150,8 +150,8 @@ module _ (b : Big) (c : ℕ) (o : Own) (m : Mind) (z : Bool → Image) (h : Node
     waits = λ e d f. absurd (false≢true f);
     cutImage = λ e d u. absurd (false≢true u);
     gone = h .gone;
-    slotTop = λ e. absurd (false≢true e);
-    slotPrev = λ e d f. absurd (false≢true f);
+    slotTop = h .slotTop;
+    slotPrev = h .slotPrev;
     slotCut = h .slotCut;
     slotPieces = λ e u. absurd (false≢true u);
     sizes = h .sizes;
@@ -335,6 +335,15 @@ module _ (n total : ℕ) (v : View) (γ : Ghost) (i : Core n total v γ) (none :
           let y = i .nodes c .waits fresh nc (x .1) in
           (nc, y .0, ap (λ (o : Own). o .state) (other-own v a c (x .0)) ∙ y .1 (un-of (γ .big) (v .own c) (x .1) (none c)))
 
+      -- nor has the coordinator its cut in a new one: it would work alone, and be a store
+      uncut : γ .big .adopted ≡ false → γ .mind (γ .big .chief) .done ≡ false
+      uncut fresh =
+          let k = γ .big .chief in
+          let home = v .own k .home in
+          let stores = i .ground .homeStores k (i .ground .within k (i .ground .chiefIn)) in
+          is-false _ (λ e. never (ap (λ (c : ℕ). v .own c .store)
+          (chief ∙ sym (i .chain .alone fresh e home (i .ground .storeWorks home stores))) ∙ stores) no-store)
+
       pub failed-undone : γ .big .adopted ≡ false → Core n total (vFailed v a) (gUndo γ)
       failed-undone fresh = record {
         pairs = λ c d. undone-pair _ _ _ _ _ _ _ _ _ _ _ (failed-pairs c d) (waiting fresh c) (waiting fresh d)
@@ -342,7 +351,7 @@ module _ (n total : ℕ) (v : View) (γ : Ghost) (i : Core n total v γ) (none :
             (λ e. i .nodes d .joinedTab (i .nodes d .doneJoined (i .nodes d .wroteDone e)));
         nodes = λ c. undone-node _ _ _ _ _ (failed-nodes c) (waiting fresh c)
             (λ e. un-of (γ .big) (vFailed v a .own c) e (none-recovers v a none c)) fresh
-            (λ q. ap (λ (k : ℕ). γ .mind k .tab) q ∙ i .ground .chiefIn);
+            (λ q. ap (λ (k : ℕ). γ .mind k .tab) q ∙ i .ground .chiefIn) (λ q. ap (λ (k : ℕ). γ .mind k .done) q ∙ uncut fresh);
         books = λ c. undone-books _ _ _ _ _ (failed-books c);
         ground = failed-ground reach false fallen;
         chain = record {

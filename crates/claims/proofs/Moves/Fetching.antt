@@ -179,7 +179,7 @@ module _ (b : Big) (c d : ℕ) (o : Own) (m : Mind) (p : Own) (n : Mind) (s t : 
       room = calm-no;
       sound = h .sound;
       unhurt = h .unhurt;
-      prefix = h .prefix;
+      noMore = h .noMore;
       small = h .small;
     }
 
@@ -225,7 +225,7 @@ module _ (b : Big) (c d : ℕ) (o : Own) (m : Mind) (p : Own) (n : Mind) (s t : 
       room = h .room;
       sound = h .sound;
       unhurt = λ e. calm-none;
-      prefix = h .prefix;
+      noMore = h .noMore;
       small = h .small;
     }
 
@@ -274,8 +274,8 @@ module _ (b : Big) (c : ℕ) (o : Own) (m : Mind) (z : Bool → Image) (h : Node
         waits = no-first;
         cutImage = λ a e. none-calm;
         gone = h .gone;
-        slotTop = λ e. h .slotTop at-work;
-        slotPrev = no-first;
+        slotTop = h .slotTop;
+        slotPrev = λ e. no-first e;
         slotCut = h .slotCut;
         slotPieces = λ a. none-calm;
         sizes = h .sizes;
@@ -375,7 +375,7 @@ module _ (total : ℕ) (g : Group) (h : History) (γ : Ghost) (w : Fit g) (i : I
   x = withPiece k from (cabinet g a .image)
 
   top : from ≡ γ .mind a .top
-  top = ap (slot g a) home-version ∙ i .core .nodes a .slotTop (aware-works (γ .big) (v .own a) aw)
+  top = ap (slot g a) home-version ∙ i .core .nodes a .slotTop (i .core .nodes a .placed (aware-works (γ .big) (v .own a) aw))
 
   few : k < 4
   few = i .core .nodes a .inRecovering aw state .0

@@ -104,7 +104,7 @@ flip-pair b c d o m p n s t l w h ro rp =
       room = λ u. h .room (un u);
       sound = h .sound;
       unhurt = λ e u. h .unhurt e (up u);
-      prefix = h .prefix;
+      noMore = h .noMore;
       small = h .small;
     }
 

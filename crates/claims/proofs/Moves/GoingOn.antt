@@ -93,7 +93,7 @@ module _ (b : Big) (c d : ℕ) (o : Own) (m : Mind) (p : Own) (n : Mind) (s t : 
     room = no;
     sound = λ e. goes-count isInvalid x l (used s) refl ∙ h .sound e;
     unhurt = h .unhurt;
-    prefix = h .prefix;
+    noMore = h .noMore;
     small = (h .small .0, (h .small .1 .0, rw (goes-amounts x l (used s)) (h .small .1 .1)));
   }
     where
@@ -136,7 +136,7 @@ module _ (b : Big) (c d : ℕ) (o : Own) (m : Mind) (p : Own) (n : Mind) (s t : 
     room = h .room;
     sound = h .sound;
     unhurt = λ e. no;
-    prefix = h .prefix;
+    noMore = h .noMore;
     small = h .small;
   }
     where
@@ -187,8 +187,8 @@ module _ (b : Big) (c : ℕ) (o : Own) (m : Mind) (z : Bool → Image) (h : Node
         waits = λ a n e. (h .waits a n w .0, no);
         cutImage = λ a d. no;
         gone = h .gone;
-        slotTop = λ e. h .slotTop w;
-        slotPrev = λ a n e. h .slotPrev a n w;
+        slotTop = h .slotTop;
+        slotPrev = h .slotPrev;
         slotCut = h .slotCut;
         slotPieces = λ a. no;
         sizes = h .sizes;

@@ -178,6 +178,7 @@ module _ (b : Big) (c d : ℕ) (o : Own) (m : Mind) (p : Own) (n : Mind) (s t : 
         reads = f .reads;
         writes = rw (us, not-come up k);
         carries = λ v j e. same-last (s .put) v l j (rw us at e) ∙ (rw apart at (f .writes));
+        onWay = λ e. rw same-amounts (f .onWay e);
       }
 
   pub join-from : Pair b c d (oBegun o) (mJoined m) p n (sBegun s) t l′ w
@@ -211,7 +212,7 @@ module _ (b : Big) (c d : ℕ) (o : Own) (m : Mind) (p : Own) (n : Mind) (s t : 
     room = λ u. omega (arith, line-count isSafe 1 (omega arith), rw apart at (h .room un));
     sound = λ e. none-more isInvalid refl (h .sound e);
     unhurt = h .unhurt;
-    prefix = h .prefix;
+    noMore = h .noMore;
     small = (h .small .0, (h .small .1 .0, rw same-amounts (h .small .1 .1)));
   }
     where
@@ -258,7 +259,7 @@ module _ (b : Big) (c d : ℕ) (o : Own) (m : Mind) (p : Own) (n : Mind) (s t : 
     room = h .room;
     sound = h .sound;
     unhurt = λ e u. h .unhurt e un;
-    prefix = h .prefix;
+    noMore = h .noMore;
     small = h .small;
   }
 
@@ -328,8 +329,8 @@ module _ (b : Big) (c : ℕ) (o : Own) (m : Mind) (z : Bool → Image) (h : Node
     waits = λ e d. ⊎-elim (λ x. absurd (d (x .0))) (λ x. absurd (never (x .2) e)) joins;
     cutImage = λ a e. absurd (never e node-begun);
     gone = h .gone;
-    slotTop = λ e. h .slotTop (un-works b o un);
-    slotPrev = λ a d e. h .slotPrev a d (un-works b o un);
+    slotTop = h .slotTop;
+    slotPrev = h .slotPrev;
     slotCut = h .slotCut;
     slotPieces = λ a u e. not-state Checkpointing refl e;
     sizes = h .sizes;

@@ -18,7 +18,7 @@ use Rattle.claims.proofs.State.Fun.{never, and-true, and-intro, upd-sam
 use Rattle.claims.proofs.State.View.{View, Own, Side, used}
 use Rattle.claims.proofs.State.Methods.{sCleared}
 use Rattle.claims.proofs.State.ViewMoves.{oPhase, oPieces, vPut, vBroadcast, vResumed}
-use Rattle.claims.proofs.Invariant.Facts.{Big, Mind, Wire, Pair, Stream, aware, unaware, linked, behind, closed, amountsIn, resumeFirst, Amounts, Differ}
+use Rattle.claims.proofs.Invariant.Facts.{Big, Mind, Wire, Pair, Stream, aware, unaware, linked, behind, closed, amountsIn, resumeFirst, Amounts, Differ, amount}
 use Rattle.claims.proofs.Invariant.Logs.{no-checkp-end, Short, Bare, resumedBy, short-bare, short-first}
 use Rattle.claims.proofs.Invariant.Words.{un-of, un-not-aware, un-works}
 use Rattle.claims.proofs.Invariant.Frame.{moved}
@@ -79,6 +79,7 @@ module _ (b : Big) (c d : ℕ) (o : Own) (m : Mind) (p : Own) (n : Mind) (s t : 
         reads = f .reads;
         writes = f .writes;
         carries = λ v k e. absurd (no-checkp-end _ v k (bare .checkps) e);
+        onWay = λ e. omega (arith, f .onWay e, ap amount (before ∙ sym (bare .none)));
       }
 
   pub roused-from : Pair b c d (oResumed o x) m p n (sCleared s) t (resumedBy r l) w
@@ -112,7 +113,7 @@ module _ (b : Big) (c d : ℕ) (o : Own) (m : Mind) (p : Own) (n : Mind) (s t : 
     room = λ u. omega (arith, bare .safe);
     sound = λ e. bare .invalids;
     unhurt = h .unhurt;
-    prefix = h .prefix;
+    noMore = h .noMore;
     small = (h .small .0, (h .small .1 .0, subst Amounts (before ∙ sym (bare .none)) (h .small .1 .1)));
   }
 
@@ -168,7 +169,7 @@ module _ (b : Big) (c d : ℕ) (o : Own) (m : Mind) (p : Own) (n : Mind) (s t : 
     room = h .room;
     sound = h .sound;
     unhurt = λ e u. h .unhurt e up;
-    prefix = h .prefix;
+    noMore = h .noMore;
     small = h .small;
   }
 

@@ -113,7 +113,7 @@ module _ (n total : ℕ) (v : View) (γ : Ghost) (h : History) (i : Inv n total 
     noCut = λ a e. absurd (false≢true e);
     known = refl;
     tops = held;
-    balanced = λ c d. took c d ∙ sym (equal n total v γ i un all c d) ∙ sym (gave c d);
+    balanced = λ c d. took c d ∙ sym (equal n total v γ i un all c d .0) ∙ sym (gave c d);
     present = p .present;
     gone = λ c l e. p .gone c l e ∙ ap some (sym (top-out c e));
     beyond = λ c l. ap booked (top-out c (is-false (γ .mind c .tab) (λ e. omega (arith, i .core .ground .within c e)))) ∙ p .beyond c l;

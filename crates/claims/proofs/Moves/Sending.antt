@@ -46,7 +46,7 @@ use Rattle.claims.proofs.Moves.Noting.{image-from, image-to, image-node
 -- ---- the logs of one pair replaced
 
 abbrev pub wSent : Wire → Payload → Wire
-wSent w q = record { sent = w .sent ++ (q ∷ []); taken = w .taken; ver = w .ver; lk = w .lk }
+wSent w q = record { sent = w .sent ++ (q ∷ []); taken = w .taken; ver = w .ver; out = w .out + q .amount; got = w .got; lk = w .lk }
 
 abbrev pub wires : Ghost → ℕ → ℕ → Wire → ℕ → ℕ → Wire
 wires γ a b w = upd (γ .wire) a (upd (γ .wire a) b w)
@@ -107,6 +107,7 @@ module _ (b : Big) (c d : ℕ) (o : Own) (m : Mind) (p : Own) (n : Mind) (s t : 
         reads = f .reads;
         writes = rw (longer, check-snoc, early) (ap (λ (k : Check). stepCheck k q) (rw early at (f .writes)));
         carries = λ v k e. absurd (no-checkp-end more v k no-checkps e);
+        onWay = λ e. omega (arith, f .onWay e, ap amount (amounts-snoc l q), amount-snoc (amountsIn l) q);
       }
 
   pub sent-pair : Pair b c d (oImage o x) m p n s′ t more (wSent w q)
@@ -140,7 +141,7 @@ module _ (b : Big) (c d : ℕ) (o : Own) (m : Mind) (p : Own) (n : Mind) (s t : 
     room = λ u. omega (arith, count-snoc isSafe l (NormalPacket q), h .room u);
     sound = λ e. count-snoc isInvalid l (NormalPacket q) ∙ ap (λ (k : ℕ). k + 0) (h .sound e);
     unhurt = h .unhurt;
-    prefix = λ e. let f = h .prefix e in (f .0 ++ (q ∷ []), ap (λ (r : List Payload). r ++ (q ∷ [])) (f .1) ∙ append-assoc (w .taken) (f .0) (q ∷ []));
+    noMore = λ e. omega (arith, h .noMore e);
     small = (small-snoc (w .sent) q (h .small .0) small, (h .small .1 .0, rw (amounts-snoc l q) (small-snoc (amountsIn l) q (h .small .1 .1) small)));
   }
 
@@ -241,17 +242,17 @@ module _ (n total : ℕ) (v : View) (γ : Ghost) (i : Inv n total v γ) (a b : �
   -- what the sender has sent grows by the amount
   out-more : outOf γ′ a ≡ outOf γ a + q .amount
   out-more =
-      let f : ℕ → ℕ = λ d. amount (γ .wire a d .sent) in
-      let g : ℕ → ℕ = λ d. amount (w′ a d .sent) in
-      let here : g b ≡ f b + q .amount = ap (λ (w : Wire). amount (w .sent)) (pair-same (γ .wire) a b wire′) ∙ amount-snoc (γ .wire a b .sent) q in
-      let all : sum g 8 + f b ≡ sum f 8 + g b = sum-at f g b 8 lb (λ d n. ap (λ (w : Wire). amount (w .sent)) (pair-other (γ .wire) a b wire′ a d (λ y z. n z))) in
+      let f : ℕ → ℕ = λ d. γ .wire a d .out in
+      let g : ℕ → ℕ = λ d. w′ a d .out in
+      let here : g b ≡ f b + q .amount = ap (λ (w : Wire). w .out) (pair-same (γ .wire) a b wire′) in
+      let all : sum g 8 + f b ≡ sum f 8 + g b = sum-at f g b 8 lb (λ d n. ap (λ (w : Wire). w .out) (pair-other (γ .wire) a b wire′ a d (λ y z. n z))) in
       omega arith
 
   out-other : (c : ℕ) → c ≢ a → outOf γ′ c ≡ outOf γ c
-  out-other c n = sum-cong _ _ 8 (λ d l. ap (λ (w : Wire). amount (w .sent)) (pair-other (γ .wire) a b wire′ c d (λ y z. n y)))
+  out-other c n = sum-cong _ _ 8 (λ d l. ap (λ (w : Wire). w .out) (pair-other (γ .wire) a b wire′ c d (λ y z. n y)))
 
   got-same : (c : ℕ) → gotOf γ′ c ≡ gotOf γ c
-  got-same c = sum-cong _ _ 8 (λ d l. ap amount (wire-kept (λ (w : Wire). w .taken) γ a b wire′ refl d c))
+  got-same c = sum-cong _ _ 8 (λ d l. wire-kept (λ (w : Wire). w .got) γ a b wire′ refl d c)
 
   books′ : (c : ℕ) → BooksAt v′ γ′ c
   books′ c = rw (got-same c) (elim (ℕ-discrete c a) [

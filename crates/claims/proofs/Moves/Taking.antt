@@ -4,7 +4,7 @@ use mathlib.Core.Path.{_≡_, refl, sym, ap, _∙_, subst}
 use mathlib.Core.Logic.{_≢_, _⊎_, inl, inr, ⊎-elim}
 use mathlib.Core.Bool.{Bool, true, false, not, _&&_, _||_, false≢true, true≢false}
 use mathlib.Core.List.{List, [], _∷_, _++_, append-assoc, nil≢cons}
-use lib.ListN.{drop, length-append, take-append-drop}
+use lib.ListN.{length-append}
 use lib.Seq.{drop-append-le, take-append-le}
 use native.Mathlib.Omega.{arith}
 use native.Mathlib.Decide.{ℕ-discrete}
@@ -37,14 +37,14 @@ use Rattle.claims.proofs.State.ViewMoves.{oImage, vTake, sim-take, sim-
 use Rattle.claims.proofs.Invariant.Facts.{Big, Mind, Wire, Ghost, Pair, Node, Books, Stream, SameTo, aware, unaware, linked, behind, closed, amountsIn, count, isInvalid, checkpLast, resumeFirst, Amounts, amount}
 use Rattle.claims.proofs.Invariant.Whole.{Inv, PairAt, BooksAt, outOf, gotOf}
 use Rattle.claims.proofs.Invariant.Past.{Past, Kept, no-cuts, aware-not-normal}
-use Rattle.claims.proofs.Invariant.Logs.{check-snoc, differ-none, count-rest, amount-snoc, small-snoc, only-alarms}
+use Rattle.claims.proofs.Invariant.Logs.{check-snoc, count-rest, small-snoc, only-alarms}
 use Rattle.claims.proofs.Invariant.Words.{un-of, un-works, un-not-aware, un-or-aware, linked-used, live-line}
 use Rattle.claims.proofs.Invariant.Frame.{moved, minded, move-pairs, move-nodes, same-mind, quiet-inv}
 use Rattle.claims.proofs.Moves.Noting.{image-from, image-to}
 use Rattle.claims.proofs.Moves.Sending.{wires, gWire, wire-kept, booked-with}
 
 abbrev pub wTaken : Wire → Payload → Wire
-wTaken w q = record { sent = w .sent; taken = w .taken ++ (q ∷ []); ver = w .ver; lk = w .lk }
+wTaken w q = record { sent = w .sent; taken = w .taken ++ (q ∷ []); ver = w .ver; out = w .out; got = w .got + q .amount; lk = w .lk }
 
 -- ---- where a normal packet stands first on a line
 
@@ -92,7 +92,7 @@ module _ (b : Big) (c d : ℕ) (o : Own) (m : Mind) (p : Own) (n : Mind) (s t : 
     small-taken = h .small .1 .1
 
     streams : Stream (m .joined && not (n .joined && t .come)) (t .hurt) (s .put) (t′ .took) (wTaken w q) k
-    unfolding amountsIn
+    unfolding amountsIn amount
     streams =
         let f = h .stream sender-linked sender-calm up in
         let more = drop-append-le (w .ver) (w .taken) (q ∷ []) (f .within) in
@@ -104,16 +104,8 @@ module _ (b : Big) (c d : ℕ) (o : Own) (m : Mind) (p : Own) (n : Mind) (s t : 
           reads = rw (more, check-snoc) (ap (λ (r : Check). stepCheck r q) (f .reads));
           writes = f .writes;
           carries = λ v j e. f .carries v (NormalPacket q ∷ j) (ap (λ (r : List Packet). NormalPacket q ∷ r) e);
+          onWay = λ e. omega (arith, f .onWay e);
         }
-
-    -- where nothing is hurt, what is taken and what is on the way is what was sent
-    whole : b .clean ≡ true → w .sent ≡ (w .taken ++ (q ∷ [])) ++ amountsIn k
-    unfolding amountsIn
-    whole e =
-        let f = h .stream sender-linked sender-calm up in
-        let d : drop (w .ver) (w .sent) ≡ drop (w .ver) (w .taken) ++ (q ∷ amountsIn k) = differ-none (rw (h .unhurt e up) at (f .differ)) in
-        sym (take-append-drop (w .ver) (w .sent)) ∙ rw (f .equal, d, ← append-assoc)
-        (ap (λ (r : List Payload). r ++ (q ∷ amountsIn k)) (take-append-drop (w .ver) (w .taken)) ∙ sym (append-assoc (w .taken) (q ∷ []) (amountsIn k)))
 
     pub taken-pair : Pair b c d o m (oImage p x) n s t′ k (wTaken w q)
     unfolding count checkpLast
@@ -147,7 +139,7 @@ module _ (b : Big) (c d : ℕ) (o : Own) (m : Mind) (p : Own) (n : Mind) (s t : 
       room = λ u. omega (arith, h .room u);
       sound = λ e. count-rest isInvalid (NormalPacket q) k (h .sound e);
       unhurt = h .unhurt;
-      prefix = λ e. (amountsIn k, whole e);
+      noMore = λ e. omega (arith, streams .onWay (h .unhurt e up));
       small = (h .small .0, (small-snoc (w .taken) q (h .small .1 .0) (small-taken .0), small-taken .1));
     }
 
@@ -285,18 +277,18 @@ module _ (n total : ℕ) (v : View) (γ : Ghost) (i : Inv n total v γ) (a b : �
     -- what the receiver has taken grows by the amount
     got-more : gotOf γ′ b ≡ gotOf γ b + q .amount
     got-more =
-        let f : ℕ → ℕ = λ c. amount (γ .wire c b .taken) in
-        let g : ℕ → ℕ = λ c. amount (w′ c b .taken) in
-        let at : g a ≡ f a + q .amount = ap (λ (w : Wire). amount (w .taken)) (pair-same (γ .wire) a b wire′) ∙ amount-snoc (γ .wire a b .taken) q in
+        let f : ℕ → ℕ = λ c. γ .wire c b .got in
+        let g : ℕ → ℕ = λ c. w′ c b .got in
+        let at : g a ≡ f a + q .amount = ap (λ (w : Wire). w .got) (pair-same (γ .wire) a b wire′) in
         let all : sum g 8 + f a ≡ sum f 8 + g a =
-        sum-at f g a 8 la (λ c n. ap (λ (w : Wire). amount (w .taken)) (pair-other (γ .wire) a b wire′ c b (λ y z. n y))) in
+        sum-at f g a 8 la (λ c n. ap (λ (w : Wire). w .got) (pair-other (γ .wire) a b wire′ c b (λ y z. n y))) in
         omega arith
 
     got-other : (c : ℕ) → c ≢ b → gotOf γ′ c ≡ gotOf γ c
-    got-other c n = sum-cong _ _ 8 (λ d l. ap (λ (w : Wire). amount (w .taken)) (pair-other (γ .wire) a b wire′ d c (λ y z. n z)))
+    got-other c n = sum-cong _ _ 8 (λ d l. ap (λ (w : Wire). w .got) (pair-other (γ .wire) a b wire′ d c (λ y z. n z)))
 
     out-same : (c : ℕ) → outOf γ′ c ≡ outOf γ c
-    out-same c = sum-cong _ _ 8 (λ d l. ap amount (wire-kept (λ (w : Wire). w .sent) γ a b wire′ refl c d))
+    out-same c = sum-cong _ _ 8 (λ d l. wire-kept (λ (w : Wire). w .out) γ a b wire′ refl c d)
 
     books′ : (c : ℕ) → BooksAt v′ γ′ c
     books′ c = rw (out-same c) (elim (ℕ-discrete c b) [

@@ -70,7 +70,7 @@ gUndo γ = record { big = bUndo (γ .big); mind = λ c. mUndo (γ .mind c); wire
 pub lost-pair : (b : Big) (c d : ℕ) (o : Own) (m : Mind) (p : Own) (n : Mind) (s t : Side) (l : List Packet) (w : Wire)
     → Pair b c d o m p n s t l w → Pair (bLost b) c d o m p n s t l w
 lost-pair b c d o m p n s t l w h =
-    let e : linked m n w ≡ true → closed b p n t ≡ true → false ≡ true → w .sent ≡ w .taken = λ k f a. absurd (false≢true a) in
+    let e : linked m n w ≡ true → closed b p n t ≡ true → false ≡ true → (w .sent ≡ w .taken) × (w .out ≡ w .got) = λ k f a. absurd (false≢true a) in
     search
 
 pub lost-node : (b : Big) (c : ℕ) (o : Own) (m : Mind) (z : Bool → Image) → Node b c o m z → Node (bLost b) c o m z
@@ -157,12 +157,12 @@ module _ (b : Big) (c d : ℕ) (o : Own) (m : Mind) (p : Own) (n : Mind) (s t : 
     room = λ u. rw (none-put u) (omega arith);
     sound = h .sound;
     unhurt = h .unhurt;
-    prefix = h .prefix;
+    noMore = h .noMore;
     small = h .small;
   }
 
 module _ (b : Big) (c : ℕ) (o : Own) (m : Mind) (z : Bool → Image) (h : Node b c o m z) (here : Waiting c (b .chief) o m)
-    (calm : works (o .state) ≡ true → unaware b o ≡ true) (not-yet : b .adopted ≡ false) (chief : c ≡ b .chief → m .tab ≡ true) where
+    (calm : works (o .state) ≡ true → unaware b o ≡ true) (not-yet : b .adopted ≡ false) (chief : c ≡ b .chief → m .tab ≡ true) (uncut : c ≡ b .chief → m .done ≡ false) where
   not-in : (s : State) → isIn Checkpointed s ≡ false → unaware b o ≡ true → o .state ≡ s → ⊥
   not-in s f u e = other-state (here (un-works b o u) .2) f e
 
@@ -203,7 +203,7 @@ module _ (b : Big) (c : ℕ) (o : Own) (m : Mind) (z : Bool → Image) (h : Node
     waits = λ e. absurd (true≢false e);
     cutImage = λ a. absurd (false≢true a);
     gone = λ e. let x = h .gone e in (x .0 ∙ sym (x .1 not-yet), λ a. absurd (true≢false a));
-    slotTop = λ e. h .slotPrev not-yet (here e .0) e;
+    slotTop = λ e. h .slotPrev not-yet e uncut;
     slotPrev = λ e. absurd (true≢false e);
     slotCut = λ a. absurd (false≢true a);
     slotPieces = λ a. absurd (false≢true a);

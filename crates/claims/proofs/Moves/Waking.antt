@@ -69,7 +69,7 @@ adopted-node b c o m z h =
     = λ e. absurd (true≢false e) in
     let go : m .tab ≡ false → (m .base ≡ m .top) × (bAdopted b .adopted ≡ false → m .prev ≡ m .top)
     = λ e. (h .gone e .0, λ f. absurd (true≢false f)) in
-    let sp : bAdopted b .adopted ≡ false → c ≢ b .chief → works (o .state) ≡ true → z (not (b .topv)) ≡ m .prev = λ e. absurd (true≢false e) in
+    let sp : bAdopted b .adopted ≡ false → m .tab ≡ true → (c ≡ b .chief → m .done ≡ false) → z (not (b .topv)) ≡ m .prev = λ e. absurd (true≢false e) in
     search
 
 pub adopted-books : (b : Big) (o : Own) (m : Mind) (out got : ℕ) → Books b o m out got → Books (bAdopted b) o m out got
@@ -133,7 +133,7 @@ module _ (b : Big) (c : ℕ) (o : Own) (m : Mind) (z : Bool → Image) (h : Node
     waits = λ e. absurd (true≢false e);
     cutImage = λ a e. absurd (never e undone);
     gone = λ e. (h .gone e .0, λ f. absurd (true≢false f));
-    slotTop = λ e. h .slotTop was-working;
+    slotTop = h .slotTop;
     slotPrev = λ e. absurd (true≢false e);
     slotCut = h .slotCut;
     slotPieces = λ a u. not-normal Checkpointing refl;

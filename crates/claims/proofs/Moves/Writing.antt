@@ -111,7 +111,7 @@ module _ (b : Big) (c d : ℕ) (o : Own) (m : Mind) (p : Own) (n : Mind) (s t : 
         room = λ u. h .room un;
         sound = h .sound;
         unhurt = h .unhurt;
-        prefix = h .prefix;
+        noMore = h .noMore;
         small = h .small;
       }
 
@@ -149,7 +149,7 @@ module _ (b : Big) (c d : ℕ) (o : Own) (m : Mind) (p : Own) (n : Mind) (s t : 
         room = h .room;
         sound = h .sound;
         unhurt = λ e u. h .unhurt e un;
-        prefix = h .prefix;
+        noMore = h .noMore;
         small = h .small;
       }
 
@@ -170,14 +170,18 @@ module _ (b : Big) (c : ℕ) (o : Own) (m : Mind) (z y : Bool → Image) (h : No
   not-waiting : {A : Type 0} → b .adopted ≡ false → c ≢ b .chief → A
   not-waiting e n = absurd (never is-joined (h .waits e n (un-works b o un) .0))
 
+  -- nor does the coordinator, which has its cut
+  not-before : {A : Type 0} → b .adopted ≡ false → (c ≡ b .chief → m .done ≡ false) → A
+  not-before e d = not-waiting e (λ q. never (has .0) (d q))
+
   pub part-node : o .pieces < 3 → (b .alive ≡ true → SameTo (8 * (o .pieces + 1)) (y (not (b .topv))) (m .cut)) → Node b c (oPieces o (o .pieces + 1)) m y
   part-node few more =
       let ib : unaware b o ≡ true → o .state ≡ CheckpBegin → (m .joined ≡ true) × (m .done ≡ false) × (o .pieces + 1 ≡ 0) = λ u e. absurd (other-state at refl e) in
       let ic : unaware b o ≡ true → o .state ≡ Checkpointing → (m .done ≡ true) × (m .wrote ≡ false) × (o .pieces + 1 < 4) = λ u e. (has .0, has .1, omega arith) in
       let ie : aware b o ≡ true → o .state ≡ Error → o .pieces + 1 ≡ 0 = not-aware in
       let ir : aware b o ≡ true → o .state ≡ Recovering → (o .pieces + 1 < 4) × SameTo (8 * (o .pieces + 1)) (o .image) (m .top) = not-aware in
-      let st : works (o .state) ≡ true → y (b .topv) ≡ m .top = λ e. keeps ∙ h .slotTop e in
-      let sp : b .adopted ≡ false → c ≢ b .chief → works (o .state) ≡ true → y (not (b .topv)) ≡ m .prev = λ e n. not-waiting e n in
+      let st : m .tab ≡ true → y (b .topv) ≡ m .top = λ e. keeps ∙ h .slotTop e in
+      let sp : b .adopted ≡ false → m .tab ≡ true → (c ≡ b .chief → m .done ≡ false) → y (not (b .topv)) ≡ m .prev = λ e t d. not-before e d in
       let sc : b .alive ≡ true → m .wrote ≡ true → y (not (b .topv)) ≡ m .cut = λ e f. absurd (never f (has .1)) in
       let sl : b .alive ≡ true → unaware b o ≡ true → o .state ≡ Checkpointing → SameTo (8 * (o .pieces + 1)) (y (not (b .topv))) (m .cut) = λ e f k. more e in
       search
@@ -233,8 +237,8 @@ module _ (b : Big) (c : ℕ) (o : Own) (m : Mind) (z y : Bool → Image) (h : No
       waits = λ e n. not-waiting e n;
       cutImage = λ a e u. h .cutImage a e un;
       gone = h .gone;
-      slotTop = λ e. keeps ∙ h .slotTop (un-works b o un);
-      slotPrev = λ e n. not-waiting e n;
+      slotTop = λ e. keeps ∙ h .slotTop e;
+      slotPrev = λ e t d. not-before e d;
       slotCut = λ a e. all a;
       slotPieces = λ a u e. absurd (other-state refl refl e);
       sizes = h .sizes;
