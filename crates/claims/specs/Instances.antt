@@ -2,8 +2,8 @@
 use mathlib.Core.Path.{_≡_}
 use mathlib.Core.Bool.{false}
 use mathlib.Core.List.{[], _∷_, _++_}
-use Rattle.line.specs.declared.Payload.{Payload}
-use Rattle.line.specs.declared.Packet.the-variants.{Normal as NormalPacket, Resume}
+use Rattle.packet.specs.declared.Payload.{Payload}
+use Rattle.packet.specs.declared.Packet.the-variants.{Normal as NormalPacket, Resume}
 use Rattle.line.specs.Line.{oldest}
 use Rattle.group.specs.Group.{line}
 use Rattle.protocol.specs.declared.Step.the-variants.{Deliver}
