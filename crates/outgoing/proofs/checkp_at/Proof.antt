@@ -5,7 +5,6 @@ use native.Mathlib.Omega.{arith}
 use lib.ListN.{length}
 use Rattle.marks.proofs.Lists.{getD-in}
 use Rattle.packet.specs.declared.Check.{Check}
-use Rattle.line.specs.declared.Cell.{Cell}
 use Rattle.packet.specs.declared.Packet.the-variants.{Checkp}
 use Rattle.packet.specs.Packet.{startCheck}
 use Rattle.outgoing.proofs.checkp_at.Statement.{statement}
