@@ -1,4 +1,4 @@
--- What the claims come to in runs of their own, by computation: each instance fails if the claim is changed to one that does not hold.
+-- What the claims come to in runs of their own, by computation.
 use mathlib.Core.Path.{_≡_}
 use mathlib.Core.Bool.{false}
 use mathlib.Core.List.{[], _∷_, _++_}
