@@ -13,7 +13,7 @@ use Rattle.protocol.specs.History.{World, advance}
 use Rattle.protocol.specs.Examples.{damage, ring, ringCommitted, fourCabinets, fourSaved, thirdLost, threeCommitted}
 use Rattle.claims.specs.Bounds.{packets, Undamaged, HasRoom}
 use Rattle.claims.specs.Fifo.{lineAfter}
-use Rattle.claims.specs.Saves.{savedTo, OfNewest}
+use Rattle.claims.specs.Saves.{savedTotal, OfNewest}
 
 -- ---- additions: with a damaged packet one would wrap, so that the premise of `NeverWraps` is wanted
 
@@ -47,4 +47,4 @@ OtherSlotIsOlder = OfNewest (resumed .group) (resumed .history) 1 false → ⊥
 
 -- 3 was lost before the second save, which has no cut of it: its 50 amperes count
 abbrev pub LostOnesCount : Type 0
-LostOnesCount = savedTo 4 (worldAfter fourCabinets (fourSaved ++ thirdLost ++ threeCommitted) .history) ≡ 200
+LostOnesCount = savedTotal 4 (worldAfter fourCabinets (fourSaved ++ thirdLost ++ threeCommitted) .history) ≡ 200

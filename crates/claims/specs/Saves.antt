@@ -1,7 +1,7 @@
 -- What the history takes for granted of saves, and what a reader would ask of them, as claims about every run: which save a resume and a
 -- slot belong to, that a cut belongs to a begin since the last recovery's end, that a version is known where it is used, and what a
 -- committed save holds.
-use Prim.Native.Nat.{ℕ, zero, suc, _+_, _-_, _<_}
+use Prim.Native.Nat.{ℕ, _-_, _<_}
 use mathlib.Core.Path.{_≡_}
 use mathlib.Core.Bool.{Bool, true, false}
 use mathlib.Core.List.{List, _∷_}
@@ -15,7 +15,7 @@ use Rattle.image.specs.declared.Image.{Image}
 use Rattle.state.specs.State.{works, isUnknown, bitOf}
 use Rattle.cabinet.specs.Cabinet.{inUse, coordinator}
 use Rattle.group.specs.declared.Group.{Group}
-use Rattle.group.specs.Group.{cabinet, stateOf, line, slot}
+use Rattle.group.specs.Group.{cabinet, stateOf, line, slot, sum}
 use Rattle.load.specs.Load.{load, cabinetCount, feederTotal}
 use Rattle.protocol.specs.declared.Step.the-variants.{Saved}
 use Rattle.protocol.specs.declared.Decoded.the-variants.{Taken}
@@ -45,16 +45,15 @@ abbrev pub savedImage : Option Image → Option Image → Option Image
 savedImage none m = m
 savedImage (some x) m = some x
 
-abbrev pub savedTo : ℕ → History → ℕ
-savedTo zero h = 0
-savedTo (suc n) h = savedTo n h + amperes (savedImage (h .lost n) (imageIn (latest h .cut n)))
+abbrev pub savedTotal : ℕ → History → ℕ
+savedTotal n h = sum (λ c. amperes (savedImage (h .lost c) (imageIn (latest h .cut c)))) n
 
 -- at its cuts what each had taken from each other one is what that one had sent it, all, in order and undamaged; every cabinet has an
 -- image in it or was lost with one; and these add up to the feeder's total
 abbrev pub CommitsWhole : Type 0
 CommitsWhole =
     EveryCommit (λ n total g h.
-    Balanced (latest h) × ((c : ℕ) → c < n → (m : Image) × (savedImage (h .lost c) (imageIn (latest h .cut c)) ≡ some m)) × (savedTo n h ≡ total))
+    Balanced (latest h) × ((c : ℕ) → c < n → (m : Image) × (savedImage (h .lost c) (imageIn (latest h .cut c)) ≡ some m)) × (savedTotal n h ≡ total))
 
 -- ---- which save a resume belongs to: the one last committed when it was put
 

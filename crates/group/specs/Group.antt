@@ -1,6 +1,6 @@
 -- The whole group: one accessor and one store function for each component, and what is asked of all cabinets at once.
 -- Those marked `unfoldable` stay shut unless unfolded, so that a caller's goal names them and does not spell them out.
-use Prim.Native.Nat.{ℕ, zero}
+use Prim.Native.Nat.{ℕ, zero, suc, _+_}
 use mathlib.Core.Bool.{Bool, cond, _&&_}
 use mathlib.Core.List.{List, [], _∷_}
 use lib.ListN.{getD, set}
@@ -127,6 +127,12 @@ unsure g = those (λ c. isIn (c .phase .state) Error && isUnknown (c .phase .ver
 
 unfoldable pub isCrashed : Group → Bool
 isCrashed g = some (those (λ c. isIn (c .phase .state) Crashed) g)
+
+-- ---- a number of each of the first n cabinets, added up
+
+unfoldable pub sum : (ℕ → ℕ) → ℕ → ℕ
+sum f zero = 0
+sum f (suc n) = f n + sum f n
 
 -- ---- answers
 

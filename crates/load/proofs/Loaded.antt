@@ -23,9 +23,9 @@ use Rattle.group.specs.declared.Slots.{Slots}
 use Rattle.group.specs.declared.Group.{Group}
 use Rattle.group.specs.declared.Outcome.{Outcome}
 use Rattle.outgoing.specs.Lines.{emptyLines, lineTo}
-use Rattle.group.specs.Group.{cabinet, outgoing, line, blankSlots, slot, rowsOf, ofRows, working, answering}
-use Rattle.load.specs.Load.{cabinetCount, linkCount, homeOf, storeMark, bookingOf, cabinetRight, cabinetsRight, rowsIn, present, bookings, loadRefusal, imageOf, startingCabinet, cabinetOf, cabinetsOf, slotsOf, storeOf, groupOf, noGroup, loadWith, load}
-use Rattle.load.specs.Starts.{bookedTo, Starts}
+use Rattle.group.specs.Group.{cabinet, outgoing, line, blankSlots, slot, rowsOf, ofRows, working, answering, sum}
+use Rattle.load.specs.Load.{cabinetCount, linkCount, homeOf, storeMark, bookingOf, cabinetRight, cabinetsRight, rowsIn, present, loadRefusal, imageOf, startingCabinet, cabinetOf, cabinetsOf, slotsOf, storeOf, groupOf, noGroup, loadWith, load}
+use Rattle.load.specs.Starts.{Starts}
 use Rattle.load.proofs.Lists.{eight, made, read-back, repeated, chosen, other}
 use Rattle.marks.proofs.Lists.{getD-in}
 use Rattle.load.proofs.Passed.{Passed, passed}
@@ -167,9 +167,10 @@ module _ (f : List ℕ) (rows : Rows) where
 
     -- ---- the bookings
 
-    booked-to : (m : ℕ) → m ≤ cabinetCount f → bookedTo m g ≡ bookings m f
+    booked-to : (m : ℕ) → m ≤ cabinetCount f → sum (λ i. booked (cabinet g i .image)) m ≡ sum (λ i. bookingOf f i) m
+    unfolding sum
     booked-to zero h = refl
-    booked-to (suc m) h = plus (booked-to m (omega arith)) (ap (λ (c : Cabinet). booked (c .image)) (here m (omega arith)) ∙ image-booked f m)
+    booked-to (suc m) h = plus (ap (λ (c : Cabinet). booked (c .image)) (here m (omega arith)) ∙ image-booked f m) (booked-to m (omega arith))
 
   -- ---- the lines
 

@@ -18,7 +18,7 @@ use Rattle.image.specs.Image.{blankImage}
 use Rattle.registers.specs.Registers.{startRegisters}
 use Rattle.cabinet.specs.Cabinet.{nothingNoted, absent}
 use Rattle.outgoing.specs.Lines.{emptyLines}
-use Rattle.group.specs.Group.{noRow, blankSlots, ofRows, answering}
+use Rattle.group.specs.Group.{noRow, blankSlots, ofRows, sum, answering}
 
 -- ---- the fields
 
@@ -108,13 +108,9 @@ present f =
     ltb 0 (cabinetCount f) ∷ ltb 1 (cabinetCount f) ∷ ltb 2 (cabinetCount f) ∷ ltb 3 (cabinetCount f) ∷ ltb 4 (cabinetCount f)
     ∷ ltb 5 (cabinetCount f) ∷ ltb 6 (cabinetCount f) ∷ ltb 7 (cabinetCount f) ∷ []
 
-abbrev pub bookings : ℕ → List ℕ → ℕ
-bookings zero f = 0
-bookings (suc n) f = bookings n f + bookingOf f n
-
 -- "The feeder's total is the sum of the bookings in the file."
 abbrev pub feederTotal : List ℕ → ℕ
-feederTotal f = bookings (cabinetCount f) f
+feederTotal f = sum (λ i. bookingOf f i) (cabinetCount f)
 
 abbrev pub refuse : Bool → ℕ → ℕ → ℕ
 refuse true k next = next

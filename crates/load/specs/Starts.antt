@@ -1,5 +1,5 @@
 -- What holds of the group, lines and store that a file is loaded to.
-use Prim.Native.Nat.{ℕ, zero, suc, _+_, _≤_, _<_}
+use Prim.Native.Nat.{ℕ, _≤_, _<_}
 use mathlib.Core.Path.{_≡_}
 use mathlib.Core.Bool.{Bool, true, false}
 use mathlib.Core.List.{List}
@@ -16,13 +16,8 @@ use Rattle.registers.specs.Registers.{startRegisters}
 use Rattle.cabinet.specs.Cabinet.{nothingNoted, absent}
 use Rattle.group.specs.declared.Group.{Group}
 use Rattle.outgoing.specs.Lines.{emptyLines}
-use Rattle.group.specs.Group.{cabinet, outgoing, line, slot, rowsOf, working}
+use Rattle.group.specs.Group.{cabinet, outgoing, line, slot, rowsOf, working, sum}
 use Rattle.load.specs.Load.{cabinetCount, rowsIn, present, feederTotal, imageOf, startingCabinet}
-
--- the bookings of the first n cabinets, added up
-abbrev pub bookedTo : ℕ → Group → ℕ
-bookedTo zero g = 0
-bookedTo (suc n) g = bookedTo n g + booked (cabinet g n .image)
 
 pub record Starts (f : List ℕ) (g : Group) : Type 0 where
   -- the number of cabinets is the file's, 2 to 8
@@ -73,7 +68,7 @@ pub record Starts (f : List ℕ) (g : Group) : Type 0 where
   pub none-to-past : (i j : ℕ) → g .n ≤ j → mark (rowsOf (g .links)) i j ≡ false
   pub joined : connected (rowsOf (g .sound)) (working g) ≡ true
   -- the bookings add up to the feeder's total
-  pub total : bookedTo (g .n) g ≡ feederTotal f
+  pub total : sum (λ i. booked (cabinet g i .image)) (g .n) ≡ feederTotal f
   pub total-most : feederTotal f ≤ 65535
   -- every octet of every image is one
   pub image-octets : (i k : ℕ) → getD (cabinet g i .image .octets) k 0 < 256

@@ -6,7 +6,8 @@ ghost use Prim.Native.Nat.{_-_, _<_, _≤_};
 ghost use lib.ListN.{getD, set};
 ghost use lib.Dec.{leb};
 ghost use Rattle.marks.specs.Reach.{connected};
-ghost use Rattle.load.specs.Load.{number, cabinetCount, linkCount, linkTable, totalLength, homeOf, storeMark, bookingOf, lowerOf, higherOf, orderOf, offsetsRight, cabinetRight, cabinetsRight, linkRight, risesTo, linksRight, linked, withLink, linkRows, rowsIn, present, bookings, feederTotal, loadRefusal};
+ghost use Rattle.load.specs.Load.{number, cabinetCount, linkCount, linkTable, totalLength, homeOf, storeMark, bookingOf, lowerOf, higherOf, orderOf, offsetsRight, cabinetRight, cabinetsRight, linkRight, risesTo, linksRight, linked, withLink, linkRows, rowsIn, present, feederTotal, loadRefusal};
+ghost use Rattle.group.specs.Group.{sum};
 
 // One less, and 0 at 0.
 pub fn less_one(x: usize) -> usize
@@ -251,7 +252,7 @@ pub fn present(file: &[u8]) -> [bool; 8]
 // The sum of the first n bookings.
 fn bookings(file: &[u8], n: usize) -> usize
     requires { ⌜ n ≤ 65536 ⌝ }
-    ensures { λ r. ⌜ r ≡ bookings n (now (file .entry)) ⌝ }
+    ensures { λ r. ⌜ r ≡ sum (λ i. bookingOf (now (file .entry)) i) n ⌝ }
 {
     let mut total = 0;
     let mut i = 0;

@@ -1,6 +1,6 @@
 -- Demand 3: what holds whenever a coordinator ends a recovery. `h` is the history with that last step noted, `g` the group as it leaves
 -- it, `n` the number of cabinets and `total` the sum of the bookings in the file.
-use Prim.Native.Nat.{ℕ, zero, suc, _+_, _<_}
+use Prim.Native.Nat.{ℕ, _<_}
 use mathlib.Core.Path.{_≡_}
 use mathlib.Core.Bool.{Bool, true, false, cond}
 use mathlib.Core.List.{List, [], _∷_}
@@ -12,7 +12,7 @@ use Rattle.image.specs.declared.Image.{Image}
 use Rattle.state.specs.State.{works}
 use Rattle.image.specs.Image.{booked}
 use Rattle.group.specs.declared.Group.{Group}
-use Rattle.group.specs.Group.{cabinet, stateOf}
+use Rattle.group.specs.Group.{cabinet, stateOf, sum}
 use Rattle.load.specs.Load.{load, cabinetCount, feederTotal}
 use Rattle.protocol.specs.History.{Cut, Save, History, World, advance, run, opening, ends, latest, imageIn}
 
@@ -37,11 +37,6 @@ abbrev pub amperes : Option Image → ℕ
 amperes none = 0
 amperes (some m) = booked m
 
--- the bookings of the first n cabinets, failed ones included
-abbrev pub countedTo : ℕ → History → Group → ℕ
-countedTo zero h g = 0
-countedTo (suc n) h g = countedTo n h g + amperes (counted h g n)
-
 pub record Restored (n total : ℕ) (h : History) (g : Group) : Type 0 where
   -- all working cabinets have one known version
   pub version : Bool
@@ -51,7 +46,7 @@ pub record Restored (n total : ℕ) (h : History) (g : Group) : Type 0 where
   pub balanced : Balanced (latest h)
   -- every failed cabinet has an image, and the bookings, failed cabinets' included, add up to the feeder's total
   pub lost : (c : ℕ) → c < n → works (stateOf g c) ≡ false → (m : Image) × (h .lost c ≡ some m)
-  pub adds : countedTo n h g ≡ total
+  pub adds : sum (λ c. amperes (counted h g c)) n ≡ total
 
 -- ---- the claim
 

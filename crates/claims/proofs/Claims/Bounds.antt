@@ -18,13 +18,13 @@ use Rattle.state.specs.declared.State.the-variants.{Failed, Normal, CheckpBegin
 use Rattle.state.specs.State.{isIn, works, inRecovery}
 use Rattle.image.specs.Image.{booked}
 use Rattle.group.specs.declared.Group.{Group}
-use Rattle.group.specs.Group.{cabinet, stateOf, line, isCrashed}
+use Rattle.group.specs.Group.{cabinet, stateOf, line, isCrashed, sum}
 use Rattle.load.specs.Load.{load, feederTotal}
 use Rattle.protocol.specs.Receive.{takesFrom}
 use Rattle.protocol.specs.History.{run, opening}
 use Rattle.protocol.specs.Restored.{Octets, Records}
 use Rattle.claims.specs.Bounds.{LinesBounded, NeverWraps}
-use Rattle.claims.proofs.State.Fun.{never, is-true, sum, sum-add, sum-swap}
+use Rattle.claims.proofs.State.Fun.{never, is-true, sum-add, sum-swap}
 use Rattle.claims.proofs.State.View.{View, packetOf, content, view}
 use Rattle.claims.proofs.State.ViewMoves.{sim-off}
 use Rattle.claims.proofs.Invariant.Facts.{Ghost, Pair, unaware}

@@ -1,6 +1,6 @@
 -- What is claimed of saves in every run: which save a resume and a slot belong to, which begin a cut belongs to, where a version is known,
 -- and what a committed save holds.
-use Prim.Native.Nat.{ℕ, zero, suc, _-_, _<_, _≤_}
+use Prim.Native.Nat.{ℕ, _-_, _<_}
 use mathlib.Core.Path.{_≡_, refl, sym, ap, _∙_, subst}
 use mathlib.Core.Logic.{inl, ⊎-elim}
 use mathlib.Core.Bool.{Bool, true, false, not, _&&_, true≢false}
@@ -9,7 +9,6 @@ use mathlib.Core.Option.{Option, some}
 use lib.ListN.{getD}
 use lib.Dec.{eqb}
 use borrow.Author.Tests.{eqb-true, eqb-false, ne-eqb}
-use native.Mathlib.Omega.{arith}
 use Rattle.packet.specs.declared.Packet.the-variants.{Empty, Resume}
 use Rattle.packet.specs.Packet.{isEmpty}
 use Rattle.line.specs.Line.{packetAt}
@@ -22,7 +21,7 @@ use Rattle.image.specs.Image.{booked}
 use Rattle.cabinet.specs.Cabinet.{coordinator}
 use Rattle.group.specs.declared.Group.{Group}
 use Rattle.group.specs.declared.Outcome.{Outcome}
-use Rattle.group.specs.Group.{cabinet, stateOf, line, slot, isCrashed, taken}
+use Rattle.group.specs.Group.{cabinet, stateOf, line, slot, isCrashed, taken, sum}
 use Rattle.load.specs.Load.{load, feederTotal}
 use Rattle.load.proofs.Loaded.{starts}
 use Rattle.protocol.specs.declared.Step.the-variants.{Saved}
@@ -31,8 +30,8 @@ use Rattle.protocol.specs.Kinds.{need, orRefuse, writeRefusal, fetchRefusal, sa
 use Rattle.protocol.specs.Entry.{step, stepDecoded, entryRefusal, isCabinet}
 use Rattle.protocol.specs.History.{Cut, Save, History, advance, opening, commits, latest, newest, imageIn}
 use Rattle.protocol.specs.Restored.{Octets, Records, worldAfter, Balanced, amperes}
-use Rattle.claims.specs.Saves.{Commits, savedImage, savedTo, CommitsWhole, CommitsBetweenResumes, TakesResume, ResumeOfNewest, VersionsNameNewest, KnownWhereUsed, FetchedOfNewest, CutsSinceBegin}
-use Rattle.claims.proofs.State.Fun.{never, is-true, and-true, and-intro, not-true-false, cond-elim, sum}
+use Rattle.claims.specs.Saves.{Commits, savedImage, savedTotal, CommitsWhole, CommitsBetweenResumes, TakesResume, ResumeOfNewest, VersionsNameNewest, KnownWhereUsed, FetchedOfNewest, CutsSinceBegin}
+use Rattle.claims.proofs.State.Fun.{never, is-true, and-true, and-intro, not-true-false, cond-elim, sum-cong}
 use Rattle.claims.proofs.State.Every.{passed}
 use Rattle.claims.proofs.State.Counting.{step-n}
 use Rattle.claims.proofs.State.View.{view}
@@ -129,16 +128,14 @@ module _ (total : ℕ) (g : Group) (h : History) (w : Runs total g h) where
       ⊎-elim (λ e. ap (λ (m : Option Image). savedImage m (imageIn (latest h .cut c))) e)
       (λ e. ap (λ (m : Option Image). savedImage m (imageIn (latest h .cut c))) (e .0) ∙ ap imageIn (e .1 .1) ∙ ap some (e .1 .2)) (w .past .tops c l)
 
-  saved-sum : (n : ℕ) → n ≤ g .n → savedTo n h ≡ sum (λ c. booked (γ .mind c .top)) n
-  unfolding sum
-  saved-sum zero l = refl
-  saved-sum (suc n) l = omega (arith, saved-sum n (omega arith), ap amperes (held-image n (omega arith)))
+  saved-sum : savedTotal (g .n) h ≡ sum (λ c. booked (γ .mind c .top)) (g .n)
+  saved-sum = sum-cong _ _ (g .n) (λ c l. ap amperes (held-image c l))
 
   abbrev Whole : ℕ → Type 0
-  Whole n = Balanced (latest h) × ((c : ℕ) → c < n → (m : Image) × (savedImage (h .lost c) (imageIn (latest h .cut c)) ≡ some m)) × (savedTo n h ≡ total)
+  Whole n = Balanced (latest h) × ((c : ℕ) → c < n → (m : Image) × (savedImage (h .lost c) (imageIn (latest h .cut c)) ≡ some m)) × (savedTotal n h ≡ total)
 
   whole-save : Whole (g .n)
-  whole-save = (w .past .balanced, (λ c l. (γ .mind c .top, held-image c l)), saved-sum (g .n) (omega arith) ∙ tops-add (w .inv) (w .past))
+  whole-save = (w .past .balanced, (λ c l. (γ .mind c .top, held-image c l)), saved-sum ∙ tops-add (w .inv) (w .past))
 
 pub known-where-used : KnownWhereUsed
 known-where-used f of e rs o c a = let w = running f of e rs o c in (writes-known _ _ _ w a, fetches-known _ _ _ w a)

@@ -1,5 +1,5 @@
 -- The invariant holds of every group as it is loaded.
-use Prim.Native.Nat.{ℕ, zero, suc, _<_, _≤_}
+use Prim.Native.Nat.{ℕ, _<_, _≤_}
 use mathlib.Core.Path.{_≡_, refl, sym, ap, _∙_, subst}
 use mathlib.Core.Logic.{inl, inr, ⊎-elim}
 use mathlib.Core.Bool.{Bool, true, false, cond, not, _&&_, _||_, true≢false, false≢true}
@@ -24,13 +24,13 @@ use Rattle.state.specs.State.{isIn, works, inSaving, isUnknown}
 use Rattle.image.specs.Image.{booked}
 use Rattle.cabinet.specs.Cabinet.{absent}
 use Rattle.group.specs.declared.Group.{Group}
-use Rattle.group.specs.Group.{cabinet, slot, rowsOf}
+use Rattle.group.specs.Group.{cabinet, slot, rowsOf, sum}
 use Rattle.load.specs.Load.{present, feederTotal}
-use Rattle.load.specs.Starts.{Starts, bookedTo}
+use Rattle.load.specs.Starts.{Starts}
 use Rattle.protocol.specs.History.{Cut, atStart, startCut}
 use Rattle.protocol.specs.Restored.{sentIn, takenIn}
 use Rattle.marks.proofs.Lists.{getD-in}
-use Rattle.claims.proofs.State.Fun.{never, and-true, cond-elim, sum, sum-zero, sum-tail}
+use Rattle.claims.proofs.State.Fun.{never, and-true, cond-elim, sum-zero, sum-tail}
 use Rattle.claims.proofs.State.View.{Own, Side, view, content}
 use Rattle.claims.proofs.State.Shape.{Pictured}
 use Rattle.claims.proofs.State.Sim.{Fit}
@@ -323,13 +323,8 @@ module _ (f : List ℕ) (g : Group) (st : Starts f g) (fit : Fit g) where
   image-past : (c : ℕ) → g .n ≤ c → booked (cabinet g c .image) ≡ 0
   image-past c l = ap (λ (x : Cabinet). booked (x .image)) (st .past c l)
 
-  booked-sum : (n : ℕ) → bookedTo n g ≡ sum (λ c. booked (cabinet g c .image)) n
-  unfolding sum
-  booked-sum zero = refl
-  booked-sum (suc n) = omega (arith, booked-sum n)
-
   total₀ : sum (λ c. booked (cabinet g c .image)) 8 ≡ feederTotal f
-  total₀ = sum-tail (λ c. booked (cabinet g c .image)) (g .n) 8 (st .most) image-past ∙ sym (booked-sum (g .n)) ∙ st .total
+  total₀ = sum-tail (λ c. booked (cabinet g c .image)) (g .n) 8 (st .most) image-past ∙ st .total
 
   pub starts-inv : Inv (g .n) (feederTotal f) (view g) γ₀
   starts-inv = record {

@@ -12,11 +12,11 @@ use Rattle.image.specs.declared.Image.{Image}
 use Rattle.state.specs.State.{isIn, works, inRecovery, inSaving}
 use Rattle.image.specs.Image.{booked}
 use Rattle.group.specs.declared.Group.{Group}
-use Rattle.group.specs.Group.{stateOf}
+use Rattle.group.specs.Group.{stateOf, sum}
 use Rattle.protocol.specs.declared.Step.{Step}
 use Rattle.protocol.specs.History.{Cut, Save, History, upd, latest, newest, withCuts, observe, noteCuts, cutIn}
 use Rattle.protocol.specs.Restored.{Balanced, Restored}
-use Rattle.claims.proofs.State.Fun.{never, is-false, and-true, or-left, or-right, upd-elim, kept-at, sum, sum-tail}
+use Rattle.claims.proofs.State.Fun.{never, is-false, and-true, or-left, or-right, upd-elim, kept-at, sum-tail}
 use Rattle.claims.proofs.State.View.{View, Own, view}
 use Rattle.claims.proofs.Invariant.States.{apart}
 use Rattle.claims.proofs.Invariant.Facts.{Big, Ghost, aware}

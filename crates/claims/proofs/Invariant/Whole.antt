@@ -11,7 +11,7 @@ use Rattle.cabinet.specs.declared.Alarm.the-variants.{Fault as At}
 use Rattle.image.specs.declared.Image.{Image}
 use Rattle.state.specs.State.{works, isUnknown}
 use Rattle.image.specs.Image.{booked}
-use Rattle.claims.proofs.State.Fun.{sum}
+use Rattle.group.specs.Group.{sum}
 use Rattle.claims.proofs.State.View.{View, used}
 use Rattle.claims.proofs.Invariant.Facts.{Big, Ghost, Pair, Node, Books, aware, unaware}
 

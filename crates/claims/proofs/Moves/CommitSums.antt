@@ -3,7 +3,7 @@
 use Prim.Native.Nat.{ℕ, zero, suc, _+_, _*_, _<_}
 use mathlib.Core.Path.{_≡_, refl}
 use native.Mathlib.Omega.{arith}
-use Rattle.claims.proofs.State.Fun.{sum}
+use Rattle.group.specs.Group.{sum}
 
 -- equations that hold up to multiples of 65,536, added up
 pub sum-books : (x out base got : ℕ → ℕ) (n : ℕ) → ((c : ℕ) → c < n → (k : ℕ) × (x c + out c + 65536 * k ≡ base c + got c))

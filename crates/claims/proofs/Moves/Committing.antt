@@ -13,7 +13,8 @@ use Rattle.state.specs.declared.Version.the-variants.{Known}
 use Rattle.state.specs.State.{works}
 use Rattle.image.specs.Image.{booked}
 use Rattle.protocol.specs.History.{upd}
-use Rattle.claims.proofs.State.Fun.{never, is-false, and-true, upd-same, upd-other, sum, sum-cong, sum-zero, kept-at, sum-swap}
+use Rattle.group.specs.Group.{sum}
+use Rattle.claims.proofs.State.Fun.{never, is-false, and-true, upd-same, upd-other, sum-cong, sum-zero, kept-at, sum-swap}
 use Rattle.claims.proofs.State.View.{View, Own, Side, used}
 use Rattle.claims.proofs.State.Methods.{sCleared}
 use Rattle.claims.proofs.State.ViewMoves.{vPut, vBroadcast, vResumed}

@@ -1,5 +1,5 @@
 -- Kind 8, restored: the report alone keeps the invariant, and where it ends the recovery demand 3 holds.
-use Prim.Native.Nat.{ℕ, zero, suc, _<_, _≤_}
+use Prim.Native.Nat.{ℕ, _<_, _≤_}
 use mathlib.Core.Path.{_≡_, refl, sym, ap, _∙_, subst}
 use mathlib.Core.Logic.{_≢_, _⊎_, inl, inr, ⊎-elim}
 use mathlib.Core.Bool.{Bool, true, false, cond, not, _&&_, true≢false, false≢true}
@@ -22,8 +22,8 @@ use Rattle.group.specs.Group.{cabinet, stateOf}
 use Rattle.protocol.specs.Moves.{endRecovery}
 use Rattle.protocol.specs.Kinds.{mayReport, restoredRefusal, reportRestored, endIfAll}
 use Rattle.protocol.specs.History.{Cut, History, latest, imageIn, lostNow, noteEnd, noteCuts, ends, goes}
-use Rattle.protocol.specs.Restored.{Restored, counted, countedTo, amperes}
-use Rattle.claims.proofs.State.Fun.{never, is-false, and-true, and-intro, cond-elim, upd-elim, upd-same, upd-other, sum, kept-at}
+use Rattle.protocol.specs.Restored.{Restored, counted, amperes}
+use Rattle.claims.proofs.State.Fun.{never, is-false, and-true, and-intro, cond-elim, upd-elim, upd-same, upd-other, sum-cong, kept-at}
 use Rattle.claims.proofs.State.Every.{passed, with-cabinet}
 use Rattle.claims.proofs.State.View.{View, Own, Side, view, used}
 use Rattle.claims.proofs.State.Shape.{Shaped, Lined, Pictured, shaped}
@@ -290,11 +290,6 @@ module _ (total : ℕ) (g : Group) (h : History) (γ : Ghost) (w : Fit g) (i : I
             ap (λ (t : Bool). amperes (cond t (imageIn (latest h .cut c)) (h2 .lost c))) (work2 c ∙ v)
             ∙ ap amperes (lost-now c (γ1 .mind c .top) (past1 .tops c l) (work2 c ∙ v))
 
-    counted-sum : (m : ℕ) → m ≤ g .n → countedTo m h2 g2 ≡ sum (λ c. booked (γ1 .mind c .top)) m
-    unfolding sum
-    counted-sum zero l = refl
-    counted-sum (suc m) l = omega (arith, counted-sum m (omega arith), counts m (omega arith))
-
     demand-three : Restored (g .n) total h2 g2
     demand-three = record {
       version = γ .big .topv;
@@ -305,7 +300,7 @@ module _ (total : ℕ) (g : Group) (h : History) (γ : Ghost) (w : Fit g) (i : I
           (y .0, y .1, image-top c u ∙ sym (y .2));
       balanced = past1 .balanced;
       lost = λ c l v. (γ1 .mind c .top, lost-now c (γ1 .mind c .top) (past1 .tops c l) v);
-      adds = counted-sum (g .n) (omega arith) ∙ tops-add inv1 past1;
+      adds = sum-cong _ _ (g .n) (λ c l. counts c l) ∙ tops-add inv1 past1;
     }
 
     pub ended-next : Next total g γ g2 (noteCuts (noteEnd (ends g g2 a) h g2) g g2)

@@ -24,10 +24,10 @@ use Rattle.state.specs.State.{isIn, works}
 use Rattle.image.specs.Image.{booked, withBooked}
 use Rattle.cabinet.specs.Cabinet.{inUse}
 use Rattle.group.specs.declared.Group.{Group}
-use Rattle.group.specs.Group.{cabinet, stateOf, line}
+use Rattle.group.specs.Group.{cabinet, stateOf, line, sum}
 use Rattle.protocol.specs.Kinds.{need, sendRefusal, sent}
 use Rattle.protocol.specs.History.{History, upd, logged, withSent, noteCuts}
-use Rattle.claims.proofs.State.Fun.{never, and-true, and-intro, upd-same, upd-other, upd-elim, sum, sum-cong, sum-at, kept-at, upd-pair, pair-same, pair-other}
+use Rattle.claims.proofs.State.Fun.{never, and-true, and-intro, upd-same, upd-other, upd-elim, sum-cong, sum-at, kept-at, upd-pair, pair-same, pair-other}
 use Rattle.claims.proofs.State.Every.{passed}
 use Rattle.claims.proofs.State.View.{View, Own, Side, used, view}
 use Rattle.claims.proofs.State.Shape.{Pictured}

@@ -24,10 +24,10 @@ use Rattle.state.specs.State.{isIn, works, inRecovery}
 use Rattle.image.specs.Image.{booked, withBooked}
 use Rattle.cabinet.specs.Cabinet.{taking}
 use Rattle.group.specs.declared.Group.{Group}
-use Rattle.group.specs.Group.{cabinet, withCabinet, stateOf, line, withLine}
+use Rattle.group.specs.Group.{cabinet, withCabinet, stateOf, line, withLine, sum}
 use Rattle.protocol.specs.Receive.{takesFrom}
 use Rattle.protocol.specs.History.{History, upd, logged, withTaken, noteCuts}
-use Rattle.claims.proofs.State.Fun.{never, and-true, and-intro, is-false, upd-same, upd-other, upd-elim, sum, sum-cong, sum-at, or-right, kept-at, pair-same, pair-other}
+use Rattle.claims.proofs.State.Fun.{never, and-true, and-intro, is-false, upd-same, upd-other, upd-elim, sum-cong, sum-at, or-right, kept-at, pair-same, pair-other}
 use Rattle.claims.proofs.State.Every.{with-line}
 use Rattle.claims.proofs.State.View.{View, Own, Side, used, content, view}
 use Rattle.claims.proofs.State.Shape.{Shaped, Lined, Pictured, shaped}

@@ -8,6 +8,7 @@ use borrow.Author.Tests.{eqb-true, eqb-false, eq-eqb, ne-eqb}
 use native.Mathlib.Omega.{arith}
 use native.Mathlib.Decide.{ℕ-discrete, decLt}
 use Rattle.protocol.specs.History.{upd}
+use Rattle.group.specs.Group.{sum}
 
 pub never : {t : Bool} → t ≡ true → t ≡ false → ⊥
 never e f = true≢false (sym e ∙ f)
@@ -134,10 +135,6 @@ kept-pair {A} {B} f g a b x e i j =
     (λ q. kept-at f (g a) b x e j ∙ ap (λ (y : ℕ). f (g y j)) (sym q)) (λ d. refl)
 
 -- ---- sums over the first n numbers
-
-unfoldable pub sum : (ℕ → ℕ) → ℕ → ℕ
-sum f zero = 0
-sum f (suc n) = f n + sum f n
 
 pub sum-cong : (f g : ℕ → ℕ) (n : ℕ) → ((i : ℕ) → i < n → f i ≡ g i) → sum f n ≡ sum g n
 unfolding sum

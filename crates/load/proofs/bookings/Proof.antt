@@ -4,22 +4,24 @@ use Prim.Native.Nat.{_≤_, _-_, _*_}
 use mathlib.Core.Path.{_≡_, _∙_}
 use native.Mathlib.Omega.{arith}
 use native.Mathlib.Numerals.{add-one}
-use Rattle.load.specs.Load.{bookings}
+use Rattle.group.specs.Group.{sum}
+use Rattle.load.specs.Load.{bookingOf}
 use Rattle.load.proofs.bookings.Statement.{statement}
 use Rattle.load.proofs.bookings.Tie as tie
 
 abbrev Inv-loop : tie.InvT-loop
-Inv-loop file n total₀ i₀ total i = (i ≤ n) × ((total ≤ 65535 * i) × (total ≡ bookings i file))
+Inv-loop file n total₀ i₀ total i = (i ≤ n) × ((total ≤ 65535 * i) × (total ≡ sum (λ k. bookingOf file k) i))
 
 abbrev μ-loop : tie.MeasureT-loop
 μ-loop file n total₀ i₀ total i = n - i
 
 pub bookings-spec : {M : Type 1} → statement M
+unfolding sum
 bookings-spec = tie.close (tie.spec Inv-loop μ-loop
     (λ c. search needs)
     (λ c κs. search needs)
     (λ c. search needs)
     (λ c. search needs)
     (λ c. search needs)
-    (λ c. (search needs, (search needs, rw (add-one (c .before .before .loop .i), ← c .before .before .loop .inv .1 .1, ← c .booking-of .ensures .0))))
+    (λ c. (search needs, (search needs, rw (add-one (c .before .before .loop .i), ← c .booking-of .ensures .0) (omega (arith, c .before .before .loop .inv .1 .1)))))
     (λ c. let e : c .before .loop .i ≡ c .before .before .before .args .n = omega arith in c .before .loop .inv .1 .1 ∙ rw e))
