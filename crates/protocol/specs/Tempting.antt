@@ -22,7 +22,7 @@ answered r = answersFrom (load (r .file) .group) (r .records)
 abbrev pub AsWritten : Run → Type 0
 AsWritten r = answered r ≡ r .answers
 
--- every record is taken but the last, which gets another answer
+-- every record before the last is taken
 abbrev pub lastOf : List ℕ → List (List ℕ) → List ℕ → ℕ → Run
 lastOf file before last answer =
     record { file = file; records = before ++ last ∷ []; answers = replicate (length before) 0 ++ answer ∷ [] }
@@ -93,6 +93,15 @@ oldResume =
     ∷ deliver 1 2 ∷ deliver 2 3 ∷ fail 4
     ∷ fetches 3 ++ deliver 1 3 ∷ [])
     (send 3 2 5) 14
+
+-- ---- "Over a link struck at b it is dropped."
+
+-- 3 finds the link to 2 faulty, and then 2 that to 4, of which it tells 3 too: 2 does not know that their link is struck at 3, where
+-- another place would crash the group
+abbrev pub struckAtReceiver : Run
+struckAtReceiver =
+    lastOf (fileOf 4 (10 ∷ 20 ∷ 30 ∷ 40 ∷ []) (1 ∷ 2 ∷ 1 ∷ 3 ∷ 1 ∷ 4 ∷ 2 ∷ 3 ∷ 2 ∷ 4 ∷ 3 ∷ 4 ∷ []))
+    (begin 1 ∷ deliver 1 2 ∷ deliver 1 4 ∷ damage 2 3 0 1 ∷ damage 4 2 0 1 ∷ deliver 2 3 ∷ deliver 4 2 ∷ []) (deliver 2 3) 0
 
 -- ---- "A failing cabinet's lines are emptied both ways"
 
@@ -205,6 +214,6 @@ inOrder = record {
 abbrev pub AllAsWritten : Type 0
 AllAsWritten =
     AsWritten hole × AsWritten holeLate × AsWritten wait × AsWritten homeInDoubt × AsWritten heard × AsWritten heardOneWay
-    × AsWritten oldResume × AsWritten emptied × AsWritten failedBefore × AsWritten beginAgain × AsWritten hurtTwice × AsWritten fullLine × AsWritten noteLow × AsWritten noteHigh × AsWritten noteWide × AsWritten homeRecovers × AsWritten otherFailed × AsWritten linkFirst × AsWritten storeFails
+    × AsWritten oldResume × AsWritten struckAtReceiver × AsWritten emptied × AsWritten failedBefore × AsWritten beginAgain × AsWritten hurtTwice × AsWritten fullLine × AsWritten noteLow × AsWritten noteHigh × AsWritten noteWide × AsWritten homeRecovers × AsWritten otherFailed × AsWritten linkFirst × AsWritten storeFails
     × AsWritten failsInRecovery × AsWritten damageInRecovery × AsWritten placesMeet × AsWritten failParts × AsWritten linkParts
     × AsWritten faultyLinkParts × AsWritten inOrder

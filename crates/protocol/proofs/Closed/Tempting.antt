@@ -19,7 +19,7 @@ use Rattle.protocol.specs.Tempting.{linkParts, answered, AllAsWritten}
 -- every record of every run gets the answer that the paper gives
 pub runs-answered : AllAsWritten
 unfolding crcBit crcBits crcOctet crcFrom lowest covers both struck connected emptyLines lineTo withLineTo putAll putCheckps cabinet withCabinet outgoing withOutgoing line withLine blankSlots slot withSlots withSlot rowsOf ofRows withSound some working recoveringOnes unsure isCrashed crashAll sum load broadcast join cutIfAll takeCheckp resumeWith commit adopt recoverWith raise enterError hear findLinkFault markFailed alarmTo endRecovery receiveNormal receiveCheckp receiveResume receiveRecover receiveFault receiveInvalid sent sendStep noteStep beginStep delivered deliverStep writePiece writeStep reportSaved commitIfAll savedStep fetchPiece fetchStep reportRestored endIfAll restoredStep waitOverStep failStep hurt damageStep step answersFrom answered
-runs-answered = (refl, refl, refl, refl, refl, refl, refl, refl, refl, refl, refl, refl, refl, refl, refl, refl, refl, refl, refl, refl, refl, refl, refl, refl, refl, refl)
+runs-answered = (refl, refl, refl, refl, refl, refl, refl, refl, refl, refl, refl, refl, refl, refl, refl, refl, refl, refl, refl, refl, refl, refl, refl, refl, refl, refl, refl)
 
 -- what `hurtTwice` asks for would not be seen by a comparison
 pub same-value : crc (amountOctets 30 ++ amountOctets 20) ≡ crc (amountOctets 31 ++ amountOctets 13093)
