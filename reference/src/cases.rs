@@ -1,6 +1,8 @@
 //! Random cases from a seed: a group file, sound or damaged, and a steps file. The model runs
 //! along while steps are made, so that most of them are steps that would be taken.
 
+pub mod plans;
+
 use crate::model::{self, Crash, Event, Group, Number, Packet, State, CRASHED};
 
 pub type Record = [u8; 6];
@@ -8,6 +10,7 @@ pub type Record = [u8; 6];
 #[derive(Clone, PartialEq, Eq, Debug)]
 pub struct Case {
     pub group: Vec<u8>,
+    /// The steps file, or the plan file of a case with a plan.
     pub steps: Vec<u8>,
 }
 
@@ -379,11 +382,7 @@ fn record(kind: u8, a: Number, b: Number, p: u8, q: u16) -> Record {
 
 fn make_steps(dice: &mut Dice, group_file: &[u8], wishes: Wishes, length: usize) -> Vec<u8> {
     let mut steps = match model::load(group_file) {
-        Ok(group) => {
-            let temper = Temper::drawn(dice, &group, wishes.damage);
-            let last_event = Event::Nothing;
-            Run { dice, group, wishes, temper, last_event, reports_first: 0 }.make(length)
-        }
+        Ok(group) => Run::new(dice, group, wishes).make(length),
         Err(_) => (0..6 * length).map(|_| dice.below(10) as u8).collect(),
     };
     if dice.per_thousand(100) {
@@ -410,6 +409,11 @@ struct Run<'a> {
 }
 
 impl Run<'_> {
+    fn new(dice: &mut Dice, group: Group, wishes: Wishes) -> Run<'_> {
+        let temper = Temper::drawn(dice, &group, wishes.damage);
+        Run { dice, group, wishes, temper, last_event: Event::Nothing, reports_first: 0 }
+    }
+
     fn make(&mut self, length: usize) -> Vec<u8> {
         let mut steps = Vec::new();
         let mut left = length;

@@ -1,8 +1,9 @@
-//! Runs a program over made cases and compares what it prints with the model's listing. Each
-//! case stands in a fresh temporary folder, the program's working directory.
+//! Runs a program over made cases of one form and compares what it prints with the model's
+//! text. Each case stands in a fresh temporary folder, the program's working directory.
 
-use crate::cases::{case_seed, make_case, Case, Wishes};
-use crate::listing::{counted_listing, listing, Tally};
+use crate::cases::{case_seed, Case, Wishes};
+use crate::form::Form;
+use crate::listing::Tally;
 use crate::shrink::shrink;
 use std::path::{Path, PathBuf};
 use std::process::{Command, Stdio};
@@ -32,17 +33,36 @@ struct Board {
     result: Mutex<io::Result<Comparison>>,
 }
 
-pub fn compare(program: &Path, seed: u64, cases: u64, wishes: Wishes) -> io::Result<Comparison> {
+/// Which cases are made: their form, their seed and what is wished of them.
+#[derive(Clone, Copy)]
+pub struct Row {
+    pub form: Form,
+    pub seed: u64,
+    pub cases: u64,
+    pub wishes: Wishes,
+}
+
+impl Row {
+    pub fn case(&self, index: u64) -> Case {
+        self.form.make_case(case_seed(self.seed, index), self.wishes)
+    }
+
+    pub fn counted_text(&self, case: &Case) -> (String, Tally) {
+        self.form.counted_text(case, self.wishes.highest_kind)
+    }
+}
+
+pub fn compare(program: &Path, row: Row) -> io::Result<Comparison> {
     let program = whole_path(program);
     let empty = Comparison { difference: None, tally: Tally::default() };
     let board = Board {
         next: AtomicU64::new(0),
-        lowest_difference: AtomicU64::new(cases),
+        lowest_difference: AtomicU64::new(row.cases),
         result: Mutex::new(Ok(empty)),
     };
     std::thread::scope(|scope| {
         for _ in 0..WORKERS {
-            scope.spawn(|| board.note(work(&board, &program, seed, wishes)));
+            scope.spawn(|| board.note(work(&board, &program, row)));
         }
     });
     board.result.into_inner().expect("no worker panicked")
@@ -54,17 +74,17 @@ fn whole_path(program: &Path) -> PathBuf {
 }
 
 /// Compares cases until none is left below the lowest difference found.
-fn work(board: &Board, program: &Path, seed: u64, wishes: Wishes) -> io::Result<Comparison> {
+fn work(board: &Board, program: &Path, row: Row) -> io::Result<Comparison> {
     let mut tally = Tally::default();
     loop {
         let index = board.next.fetch_add(1, Ordering::SeqCst);
         if index >= board.lowest_difference.load(Ordering::SeqCst) {
             return Ok(Comparison { difference: None, tally });
         }
-        let case = make_case(case_seed(seed, index), wishes);
-        let (expected, counts) = counted_listing(&case.group, &case.steps, wishes.highest_kind);
+        let case = row.case(index);
+        let (expected, counts) = row.counted_text(&case);
         tally.add(&counts);
-        if run_program(program, &case, index % 2 == 1)? != expected.as_bytes() {
+        if run_program(program, row.form, &case, index % 2 == 1)? != expected.as_bytes() {
             board.lowest_difference.fetch_min(index, Ordering::SeqCst);
             let difference = Some(Difference { index, case });
             return Ok(Comparison { difference, tally });
@@ -92,12 +112,17 @@ impl Comparison {
 }
 
 /// What the program prints for a case. An empty file may be left out of the folder.
-pub fn run_program(program: &Path, case: &Case, leave_out_empty: bool) -> io::Result<Vec<u8>> {
+pub fn run_program(
+    program: &Path,
+    form: Form,
+    case: &Case,
+    leave_out_empty: bool,
+) -> io::Result<Vec<u8>> {
     let number = FOLDERS_MADE.fetch_add(1, Ordering::SeqCst);
     let name = format!("reference-{}-{number}", std::process::id());
     let folder = std::env::temp_dir().join(name);
     fs::create_dir(&folder)?;
-    for (file, octets) in [("group.dat", &case.group), ("steps.dat", &case.steps)] {
+    for (file, octets) in [("group.dat", &case.group), (form.records_file(), &case.steps)] {
         if !(octets.is_empty() && leave_out_empty) {
             fs::write(folder.join(file), octets)?;
         }
@@ -112,22 +137,20 @@ pub fn run_program(program: &Path, case: &Case, leave_out_empty: bool) -> io::Re
 }
 
 /// The shortest case that still differs, told in words.
-pub fn shrunk_report(
-    program: &Path,
-    difference: &Difference,
-    highest_kind: u8,
-) -> io::Result<String> {
+pub fn shrunk_report(program: &Path, difference: &Difference, row: Row) -> io::Result<String> {
     let program = whole_path(program);
-    let model = |case: &Case| listing(&case.group, &case.steps, highest_kind).into_bytes();
-    let short = shrink(&difference.case, |case| {
-        run_program(&program, case, false).is_ok_and(|printed| printed != model(case))
+    let form = row.form;
+    let model = |case: &Case| form.text(case, row.wishes.highest_kind).into_bytes();
+    let short = shrink(&difference.case, form.record_length(), |case| {
+        run_program(&program, form, case, false).is_ok_and(|printed| printed != model(case))
     });
-    let printed = run_program(&program, &short, false)?;
+    let printed = run_program(&program, form, &short, false)?;
     Ok(format!(
-        "case {} differs\ngroup.dat: {}\nsteps.dat: {}\n{}",
+        "case {} differs\ngroup.dat: {}\n{}: {}\n{}",
         difference.index,
         hex(&short.group),
-        short.steps.chunks(6).map(hex).collect::<Vec<_>>().join(" "),
+        form.records_file(),
+        short.steps.chunks(form.record_length()).map(hex).collect::<Vec<_>>().join(" "),
         first_difference(&model(&short), &printed),
     ))
 }

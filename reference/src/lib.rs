@@ -2,6 +2,10 @@
 
 pub mod cases;
 pub mod compare;
+pub mod evening;
+pub mod form;
 pub mod listing;
 pub mod model;
+pub mod ops;
+pub mod points;
 pub mod shrink;

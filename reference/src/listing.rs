@@ -1,11 +1,12 @@
 //! The listing: the text a program prints for a group file and a steps file, and counts of
 //! what happened on the way.
 
+use crate::evening::Sight;
 use crate::model::{self, Crash, Event, Group, State, Version, RECORD_LENGTH, TAKEN};
 use std::collections::BTreeMap;
 use std::fmt::{Debug, Write};
 
-const RECORDS_READ: usize = 10_000;
+pub(crate) const RECORDS_READ: usize = 10_000;
 
 /// Counts over one or many listings.
 #[derive(Clone, Default, PartialEq, Eq, Debug)]
@@ -20,10 +21,29 @@ pub struct Tally {
     pub saves_passed_over: u64,
     pub link_faults: u64,
     pub crashes: BTreeMap<Crash, u64>,
+    pub point_answers: BTreeMap<u8, u64>,
+    pub return_answers: BTreeMap<u8, u64>,
+    pub sights: BTreeMap<Sight, u64>,
 }
 
 impl Tally {
-    fn count_step(&mut self, record: &[u8], outcome: model::Outcome) {
+    pub(crate) fn of_one_case() -> Tally {
+        Tally { cases: 1, ..Tally::default() }
+    }
+
+    pub(crate) fn of_refused_load(refusal: u8) -> Tally {
+        let mut tally = Tally::of_one_case();
+        tally.loads_refused.insert(refusal, 1);
+        tally
+    }
+
+    pub(crate) fn count_sights(&mut self, sights: Vec<Sight>) {
+        for sight in sights {
+            *self.sights.entry(sight).or_default() += 1;
+        }
+    }
+
+    pub(crate) fn count_step(&mut self, record: &[u8], outcome: model::Outcome) {
         self.steps += 1;
         *self.answers.entry(outcome.answer).or_default() += 1;
         if outcome.answer == TAKEN {
@@ -52,6 +72,9 @@ impl Tally {
         add_counts(&mut self.answers, &other.answers);
         add_counts(&mut self.kinds_taken, &other.kinds_taken);
         add_counts(&mut self.crashes, &other.crashes);
+        add_counts(&mut self.point_answers, &other.point_answers);
+        add_counts(&mut self.return_answers, &other.return_answers);
+        add_counts(&mut self.sights, &other.sights);
     }
 
     pub fn report(&self) -> String {
@@ -65,6 +88,17 @@ impl Tally {
         let _ = writeln!(text, "link faults found: {}", self.link_faults);
         let crashes: u64 = self.crashes.values().sum();
         let _ = writeln!(text, "crashes: {crashes} ({})", counts_text(&self.crashes));
+        text
+    }
+
+    /// What points and returns add to the report.
+    pub fn plan_report(&self) -> String {
+        let mut text = format!("points by answer: {}\n", counts_text(&self.point_answers));
+        let _ = writeln!(text, "returns by answer: {}", counts_text(&self.return_answers));
+        for sight in Sight::ALL {
+            let count = self.sights.get(&sight).copied().unwrap_or_default();
+            let _ = writeln!(text, "{sight:?}: {count}");
+        }
         text
     }
 }
@@ -82,14 +116,11 @@ fn counts_text<K: Debug>(counts: &BTreeMap<K, u64>) -> String {
 
 /// The listing and its counts; kinds above `highest_kind` are unknown.
 pub fn counted_listing(group_file: &[u8], steps_file: &[u8], highest_kind: u8) -> (String, Tally) {
-    let mut tally = Tally { cases: 1, ..Tally::default() };
     let mut group = match model::load(group_file) {
         Ok(group) => group,
-        Err(refusal) => {
-            tally.loads_refused.insert(refusal, 1);
-            return (format!("load {refusal}\n"), tally);
-        }
+        Err(refusal) => return (format!("load {refusal}\n"), Tally::of_refused_load(refusal)),
     };
+    let mut tally = Tally::of_one_case();
     let mut text = String::new();
     let records = steps_file.chunks(RECORD_LENGTH).take(RECORDS_READ);
     for (index, record) in records.enumerate() {
@@ -105,7 +136,7 @@ pub fn listing(group_file: &[u8], steps_file: &[u8], highest_kind: u8) -> String
     counted_listing(group_file, steps_file, highest_kind).0
 }
 
-fn list_cabinets(text: &mut String, group: &Group) {
+pub(crate) fn list_cabinets(text: &mut String, group: &Group) {
     for number in group.numbers() {
         let cabinet = group.cabinet(number);
         let _ = if cabinet.state == State::Failed {

@@ -1,8 +1,10 @@
-//! The commands: list, compare, make, vectors and bench.
+//! The commands: list, evening, compare, make, pack, vectors and bench.
 
 use reference::cases::{case_seed, make_case, Case, Wishes};
-use reference::compare;
-use reference::listing::{self, listing};
+use reference::compare::{self, Row};
+use reference::form::Form;
+use reference::listing::{listing, Tally};
+use reference::ops;
 use std::io::{self, Write};
 use std::path::{Path, PathBuf};
 use std::process::ExitCode;
@@ -11,8 +13,10 @@ use std::{env, fs};
 
 const USAGE: &str = "usage:
   reference list DIR [--kinds 10|11]
-  reference compare PROGRAM [--seed S] [--cases N] [--damage] [--kinds 10|11]
-  reference make OUT [--seed S] [--cases N] [--damage] [--kinds 10|11]
+  reference evening DIR [--kinds 10|11]
+  reference compare PROGRAM [--plans] [--seed S] [--cases N] [--damage] [--kinds 10|11]
+  reference make OUT [--plans] [--seed S] [--cases N] [--damage] [--kinds 10|11]
+  reference pack DIR OUT [--plans]
   reference vectors DIR
   reference bench [--seed S]";
 
@@ -22,18 +26,19 @@ struct Options {
     words: Vec<String>,
     seed: u64,
     cases: u64,
+    form: Form,
     damage: bool,
     highest_kind: u8,
 }
 
 impl Options {
     fn read(mut arguments: impl Iterator<Item = String>) -> Option<Options> {
-        let words = Vec::new();
-        let mut options = Options { words, seed: 1, cases: 1000, damage: false, highest_kind: 11 };
+        let mut options = Options::default();
         while let Some(argument) = arguments.next() {
             match argument.as_str() {
                 "--seed" => options.seed = arguments.next()?.parse().ok()?,
                 "--cases" => options.cases = arguments.next()?.parse().ok()?,
+                "--plans" => options.form = Form::Plan,
                 "--damage" => options.damage = true,
                 "--kinds" => options.highest_kind = kinds(&arguments.next()?)?,
                 other if other.starts_with("--") => return None,
@@ -43,8 +48,23 @@ impl Options {
         Some(options)
     }
 
-    fn wishes(&self) -> Wishes {
-        Wishes { damage: self.damage, highest_kind: self.highest_kind, cabinets: None }
+    fn row(&self) -> Row {
+        let wishes =
+            Wishes { damage: self.damage, highest_kind: self.highest_kind, cabinets: None };
+        Row { form: self.form, seed: self.seed, cases: self.cases, wishes }
+    }
+}
+
+impl Default for Options {
+    fn default() -> Options {
+        Options {
+            words: Vec::new(),
+            seed: 1,
+            cases: 1000,
+            form: Form::Steps,
+            damage: false,
+            highest_kind: 11,
+        }
     }
 }
 
@@ -59,9 +79,11 @@ fn main() -> ExitCode {
     };
     let words: Vec<&str> = options.words.iter().map(String::as_str).collect();
     let done = match words[..] {
-        ["list", folder] => list(Path::new(folder), &options),
+        ["list", folder] => print_text(Form::Steps, Path::new(folder), &options),
+        ["evening", folder] => print_text(Form::Plan, Path::new(folder), &options),
         ["compare", program] => compare(Path::new(program), &options),
         ["make", file] => make(Path::new(file), &options),
+        ["pack", folder, file] => pack(Path::new(folder), Path::new(file), &options),
         ["vectors", folder] => vectors(Path::new(folder), &options),
         ["bench"] => bench(&options),
         _ => return usage(),
@@ -77,17 +99,10 @@ fn usage() -> ExitCode {
     ExitCode::from(2)
 }
 
-// ---------------------------------------------------------------- list
+// ---------------------------------------------------------------- list and evening
 
-/// A file that cannot be read counts as empty.
-fn case_in_folder(folder: &Path) -> Case {
-    let octets = |name: &str| fs::read(folder.join(name)).unwrap_or_default();
-    Case { group: octets("group.dat"), steps: octets("steps.dat") }
-}
-
-fn list(folder: &Path, options: &Options) -> io::Result<ExitCode> {
-    let case = case_in_folder(folder);
-    let text = listing(&case.group, &case.steps, options.highest_kind);
+fn print_text(form: Form, folder: &Path, options: &Options) -> io::Result<ExitCode> {
+    let text = form.text(&form.case_in_folder(folder), options.highest_kind);
     io::stdout().write_all(text.as_bytes())?;
     Ok(ExitCode::SUCCESS)
 }
@@ -96,48 +111,66 @@ fn list(folder: &Path, options: &Options) -> io::Result<ExitCode> {
 
 fn compare(program: &Path, options: &Options) -> io::Result<ExitCode> {
     let start = Instant::now();
-    let compared = compare::compare(program, options.seed, options.cases, options.wishes())?;
+    let compared = compare::compare(program, options.row())?;
     if let Some(difference) = &compared.difference {
-        println!("{}", compare::shrunk_report(program, difference, options.highest_kind)?);
+        println!("{}", compare::shrunk_report(program, difference, options.row())?);
         return Ok(ExitCode::FAILURE);
     }
-    print!("{}", compared.tally.report());
+    print!("{}", options.form.report(&compared.tally));
     println!("no difference, {:.1} seconds", start.elapsed().as_secs_f64());
     Ok(ExitCode::SUCCESS)
 }
 
-// ---------------------------------------------------------------- make
+// ---------------------------------------------------------------- make and pack
 
-/// For each case: three lengths of four octets, then group file, steps file and listing.
+/// One case of a container: three lengths of four octets, then group file, records and text.
+fn write_case(out: &mut impl Write, case: &Case, text: &[u8]) -> io::Result<()> {
+    let parts = [&case.group[..], &case.steps[..], text];
+    for part in parts {
+        out.write_all(&(part.len() as u32).to_be_bytes())?;
+    }
+    parts.into_iter().try_for_each(|part| out.write_all(part))
+}
+
 fn make(file: &Path, options: &Options) -> io::Result<ExitCode> {
     let mut out = io::BufWriter::new(fs::File::create(file)?);
-    let mut tally = listing::Tally::default();
-    for index in 0..options.cases {
-        let case = make_case(case_seed(options.seed, index), options.wishes());
-        let (expected, counts) =
-            listing::counted_listing(&case.group, &case.steps, options.highest_kind);
+    let mut tally = Tally::default();
+    let row = options.row();
+    for index in 0..row.cases {
+        let case = row.case(index);
+        let (text, counts) = row.counted_text(&case);
         tally.add(&counts);
-        let parts = [&case.group[..], &case.steps[..], expected.as_bytes()];
-        for part in parts {
-            out.write_all(&(part.len() as u32).to_be_bytes())?;
-        }
-        for part in parts {
-            out.write_all(part)?;
-        }
+        write_case(&mut out, &case, text.as_bytes())?;
     }
     out.flush()?;
-    print!("{}", tally.report());
+    print!("{}", options.form.report(&tally));
+    Ok(ExitCode::SUCCESS)
+}
+
+/// The case folders of one form, with their stored texts, as a container.
+fn pack(folder: &Path, file: &Path, options: &Options) -> io::Result<ExitCode> {
+    let form = options.form;
+    let mut folders = case_folders(folder)?;
+    folders.retain(|(found, _)| *found == form);
+    if folders.is_empty() {
+        eprintln!("no case folder with {} below {}", form.records_file(), folder.display());
+        return Ok(ExitCode::from(2));
+    }
+    let mut out = io::BufWriter::new(fs::File::create(file)?);
+    for (_, path) in &folders {
+        write_case(&mut out, &form.case_in_folder(path), &form.expected_text(path)?)?;
+    }
+    out.flush()?;
+    println!("{} cases packed", folders.len());
     Ok(ExitCode::SUCCESS)
 }
 
 // ---------------------------------------------------------------- vectors
 
-/// The folders at or below `folder` that hold an expected listing, in order.
-fn case_folders(folder: &Path) -> io::Result<Vec<PathBuf>> {
-    let mut found = Vec::new();
-    if folder.join("expected").is_file() {
-        found.push(folder.to_path_buf());
-    }
+/// The folders at or below `folder` that hold a case, in order.
+fn case_folders(folder: &Path) -> io::Result<Vec<(Form, PathBuf)>> {
+    let here = Form::of_folder(folder).map(|form| (form, folder.to_path_buf()));
+    let mut found = Vec::from_iter(here);
     let mut below = Vec::new();
     for entry in fs::read_dir(folder)? {
         below.push(entry?.path());
@@ -149,17 +182,28 @@ fn case_folders(folder: &Path) -> io::Result<Vec<PathBuf>> {
     Ok(found)
 }
 
-fn agrees(folder: &Path, options: &Options) -> io::Result<bool> {
-    let case = case_in_folder(folder);
-    let text = listing(&case.group, &case.steps, options.highest_kind);
-    Ok(fs::read(folder.join("expected"))? == text.as_bytes())
+fn agrees(form: Form, folder: &Path, options: &Options) -> io::Result<bool> {
+    let text = form.text(&form.case_in_folder(folder), options.highest_kind);
+    let text_agrees = form.expected_text(folder)? == text.as_bytes();
+    Ok(text_agrees && (form == Form::Steps || store_agrees(folder, options)?))
+}
+
+/// Where a plan case has its operations as text: answers, images and slots, as expected there.
+fn store_agrees(folder: &Path, options: &Options) -> io::Result<bool> {
+    let (Ok(ops), Ok(expected)) =
+        (fs::read_to_string(folder.join("ops")), fs::read_to_string(folder.join("expected")))
+    else {
+        return Ok(true);
+    };
+    let group = fs::read(folder.join("group.dat"))?;
+    Ok(ops::answers_and_store(&group, &ops, options.highest_kind) == Some(expected))
 }
 
 fn vectors(folder: &Path, options: &Options) -> io::Result<ExitCode> {
     let mut agree = 0;
     let mut differ = Vec::new();
-    for case_folder in case_folders(folder)? {
-        if agrees(&case_folder, options)? {
+    for (form, case_folder) in case_folders(folder)? {
+        if agrees(form, &case_folder, options)? {
             agree += 1;
         } else {
             differ.push(case_folder);

@@ -160,6 +160,9 @@ pub struct Cabinet {
     noted: Noted,
     reports_owed: BTreeSet<Number>,
     trouble: Option<Trouble>,
+    /// Of a failed cabinet: its image in the save restored after it failed, or the one that
+    /// the last return since then set. None until the recovery from its fail has ended.
+    left_behind: Option<Image>,
 }
 
 impl Cabinet {
@@ -363,6 +366,7 @@ fn starting_cabinet(
         noted: Noted::default(),
         reports_owed: BTreeSet::new(),
         trouble: None,
+        left_behind: None,
     };
     cabinet.set_booking(entry.booking);
     cabinet
@@ -1042,6 +1046,7 @@ impl Group {
             return Event::Nothing;
         }
         self.resume_after_recovery(coordinator_number);
+        self.keep_images_left_behind(coordinator_number);
         let save_passed_over = std::mem::take(&mut self.history.passing_over);
         Event::RecoveryEnd { save_passed_over }
     }
@@ -1049,6 +1054,18 @@ impl Group {
     fn resume_after_recovery(&mut self, a: Number) {
         self.cabinet_mut(a).enter_normal();
         self.put_on_all_lines(a, Packet::Resume);
+    }
+
+    /// At a recovery's end: whoever failed before it has an image in the save restored.
+    fn keep_images_left_behind(&mut self, coordinator: Number) {
+        let restored = usize::from(self.cabinet(coordinator).version.number());
+        for number in self.numbers() {
+            let image = self.slots[number - 1][restored];
+            let cabinet = self.cabinet_mut(number);
+            if !cabinet.working() {
+                cabinet.left_behind.get_or_insert(image);
+            }
+        }
     }
 
     fn damage(
@@ -1069,6 +1086,55 @@ impl Group {
             line.packets[place] = Packet::Invalid;
         }
         Ok(())
+    }
+}
+
+// ---------------------------------------------------------------- what points keep and set
+
+impl Group {
+    /// Every working cabinet in normal and every line empty.
+    pub fn quiet(&self) -> bool {
+        let idle = |cabinet: &Cabinet| !cabinet.working() || cabinet.state == State::Normal;
+        let empty = |line: &Line| line.packets.is_empty();
+        self.cabinets.iter().all(idle) && self.lines.iter().flatten().all(empty)
+    }
+
+    pub fn slot(&self, number: Number, version: u8) -> &Image {
+        &self.slots[number - 1][usize::from(version)]
+    }
+
+    /// The image of a working cabinet, or the one that a failed cabinet left behind.
+    pub fn image(&self, number: Number) -> Option<Image> {
+        let cabinet = self.cabinet(number);
+        if cabinet.working() {
+            Some(cabinet.image)
+        } else {
+            cabinet.left_behind
+        }
+    }
+
+    /// The image in the committed version, or the one that a failed cabinet left behind.
+    pub fn committed_image(&self, number: Number) -> Option<Image> {
+        let cabinet = self.cabinet(number);
+        if cabinet.working() {
+            Some(*self.slot(number, cabinet.version.number()))
+        } else {
+            cabinet.left_behind
+        }
+    }
+
+    /// Every image and both slots of every cabinet, failed ones too.
+    pub(crate) fn set_images(&mut self, images: &[Image]) {
+        for (index, &image) in images.iter().enumerate() {
+            self.slots[index] = [image; 2];
+            let cabinet = &mut self.cabinets[index];
+            if cabinet.working() {
+                cabinet.image = image;
+            } else {
+                cabinet.left_behind = Some(image);
+            }
+        }
+        self.history.unseen_commit_by = None;
     }
 }
 

@@ -2,12 +2,19 @@
 //! the difference that the case shows stays.
 
 use crate::cases::Case;
-use crate::model::RECORD_LENGTH;
+
+/// After so many trials the case is taken as it is; one with more records than are read may
+/// need every one of them.
+const TRIALS: usize = 3000;
 
 /// The shortest case found for which `differs` still holds; the group file stays as it is.
-pub fn shrink(case: &Case, mut differs: impl FnMut(&Case) -> bool) -> Case {
-    let mut records: Vec<Vec<u8>> = case.steps.chunks(RECORD_LENGTH).map(<[u8]>::to_vec).collect();
-    let mut still_differs = |records: &[Vec<u8>]| differs(&with_records(case, records));
+pub fn shrink(case: &Case, record_length: usize, mut differs: impl FnMut(&Case) -> bool) -> Case {
+    let mut records: Vec<Vec<u8>> = case.steps.chunks(record_length).map(<[u8]>::to_vec).collect();
+    let mut trials = 0;
+    let mut still_differs = |records: &[Vec<u8>]| {
+        trials += 1;
+        trials <= TRIALS && differs(&with_records(case, records))
+    };
     if still_differs(&[]) {
         return with_records(case, &[]);
     }
@@ -63,14 +70,14 @@ mod tests {
         };
         let long = case_of(&[1, 2, 3, 4, 5, 6, 7, 8, 9, 3, 8]);
         assert!(needed(&long));
-        let short = shrink(&long, needed);
+        let short = shrink(&long, 6, needed);
         assert_eq!(short.steps.len(), 12);
         assert!(needed(&short));
     }
 
     #[test]
     fn empties_the_steps_when_the_group_alone_differs() {
-        let short = shrink(&case_of(&[1, 2, 3]), |_| true);
+        let short = shrink(&case_of(&[1, 2, 3]), 6, |_| true);
         assert_eq!(short, case_of(&[]));
     }
 }

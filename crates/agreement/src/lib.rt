@@ -1,8 +1,9 @@
-// Whether the library's listing is the expected text.
+// Whether the library's text, a listing or an evening, is the expected one.
 ghost use mathlib.Core.Path.{_≡_};
 ghost use lib.ListN.{take};
 ghost use Rattle.io.specs.Counts.{Counts};
 ghost use Rattle.protocol.specs.Listing.{listing};
+ghost use Rattle.protocol.specs.Evening.{evening};
 ghost use Rattle.agreement.specs.Tests.{Decides, Held};
 
 // n, or the buffer's length if that is less, with the facts that `&buffer[..n]` asks for.
@@ -24,11 +25,20 @@ fn holds(buffer: &[u8], end: usize, text: &[u8]) -> bool
     false
 }
 
-// Whether the library writes the expected text, octet by octet and no more.
+// Whether the library writes the expected listing, octet by octet and no more.
 pub fn agrees(file: &[u8], list: &[u8], text: &[u8]) -> bool
     ensures { λ r. ⌜ Decides r (now (text .entry) ≡ listing (now (file .entry)) (now (list .entry))) ⌝ }
 {
     let mut out = [0u8; 200000];
     let end = report::write_listing(file, list, &mut out);
     holds(&out, end, text)
+}
+
+// Whether it writes the expected text of an evening.
+pub fn evening_agrees(file: &[u8], list: &[u8], text: &[u8]) -> bool
+    ensures { λ r. ⌜ Decides r (now (text .entry) ≡ evening (now (file .entry)) (now (list .entry))) ⌝ }
+{
+    let mut out = [0u8; 200200];
+    let length = diary::write_evening(file, list, &mut out);
+    holds(&out, length, text)
 }

@@ -13,7 +13,7 @@ ghost use Prim.Native.Nat.{_-_};
 ghost use Rattle.marks.specs.Marks.{covers};
 ghost use Rattle.cabinet.specs.Alarm.{isFor};
 ghost use Rattle.state.specs.State.{doubted};
-ghost use Rattle.cabinet.specs.Cabinet.{withPhase, withTable, withNoted, withRegisters, withImage, withOwed, withState, withPieces, nothingNoted, absent, inUse, coordinator, sending, taking, hurtFrom, beginning, comparing, cutting, wrote, owing, savedFor, resuming, alarmed, hearing, recovering, fetched, restoredFor, crashing};
+ghost use Rattle.cabinet.specs.Cabinet.{withPhase, withTable, withNoted, withRegisters, withImage, withOwed, withState, withVersion, withPieces, nothingNoted, absent, inUse, coordinator, sending, taking, hurtFrom, beginning, comparing, cutting, wrote, owing, savedFor, resuming, alarmed, hearing, recovering, fetched, restoredFor, crashing};
 
 // The fault that a cabinet entered error for.
 pub enum Alarm {
@@ -166,6 +166,20 @@ impl Cabinet {
     {
         let phase = self.phase;
         let version = phase.version;
+        let alarm = phase.alarm;
+        let phase = Phase {
+            state: state,
+            version: version,
+            alarm: alarm,
+        };
+        self.with_phase(phase)
+    }
+
+    pub fn with_version(self, version: Version) -> Cabinet
+        ensures { λ r. ⌜ r ≡ withVersion self version ⌝ }
+    {
+        let phase = self.phase;
+        let state = phase.state;
         let alarm = phase.alarm;
         let phase = Phase {
             state: state,

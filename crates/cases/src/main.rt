@@ -1,13 +1,19 @@
-// Runs stored cases through the library and compares each listing with the stored one.
+// Runs stored cases through the library and compares each text with the stored one.
 //
 // A container holds one case after the other: three lengths of four octets, high octet first, and
-// then the group file, the step records and the expected listing. Cases are numbered from 0.
+// then the group file, the step records or the plan, and the expected text. Cases are numbered from 0.
 use libc::STDOUT_FILENO;
 ghost use Prim.Native.Nat.{_+_, _*_, _<_, _≤_};
 ghost use mathlib.Core.Path.{_≡_};
 
 // A proved loop has to end, and nothing says that a file does.
 const CASES_MOST: u64 = 1000000;
+
+// What the library writes of a case: the listing, or the text of an evening.
+enum Kind {
+    Listing,
+    Evening,
+}
 
 enum Verdict {
     Agrees,
@@ -51,33 +57,40 @@ fn filled(fd: i32, buffer: &mut [u8], n: usize) -> bool {
     io::read_full(fd, &mut buffer[..room]) == n
 }
 
-fn judged(file: &[u8], list: &[u8], text: &[u8], s: Sizes) -> Verdict {
+fn agrees(kind: Kind, file: &[u8], list: &[u8], text: &[u8]) -> bool {
+    match kind {
+        Kind::Listing => agreement::agrees(file, list, text),
+        Kind::Evening => agreement::evening_agrees(file, list, text),
+    }
+}
+
+fn judged(kind: Kind, file: &[u8], list: &[u8], text: &[u8], s: Sizes) -> Verdict {
     let a = agreement::within(s.file, file);
     let b = agreement::within(s.list, list);
     let c = agreement::within(s.text, text);
-    if agreement::agrees(&file[..a], &list[..b], &text[..c]) {
+    if agrees(kind, &file[..a], &list[..b], &text[..c]) {
         Verdict::Agrees
     } else {
         Verdict::Differs
     }
 }
 
-// Reads and runs a case. Its step records may be some more than the 10,000 that a listing reads.
-fn sized_case(fd: i32, s: Sizes) -> Verdict {
+// Reads and runs a case. Its records may be some more than the 10,000 that are read.
+fn sized_case(kind: Kind, fd: i32, s: Sizes) -> Verdict {
     let mut file = [0u8; 4096];
-    let mut list = [0u8; 60030];
-    let mut text = [0u8; 200000];
+    let mut list = [0u8; 90045];
+    let mut text = [0u8; 200200];
     if filled(fd, &mut file, s.file) {
         if filled(fd, &mut list, s.list) {
             if filled(fd, &mut text, s.text) {
-                return judged(&file, &list, &text, s);
+                return judged(kind, &file, &list, &text, s);
             }
         }
     }
     Verdict::Broken
 }
 
-fn next_case(fd: i32) -> Verdict {
+fn next_case(kind: Kind, fd: i32) -> Verdict {
     let mut head = [0u8; 12];
     let got = io::read_full(fd, &mut head);
     if got == 0 {
@@ -86,7 +99,7 @@ fn next_case(fd: i32) -> Verdict {
     if got < 12 {
         return Verdict::Broken;
     }
-    sized_case(fd, sizes_in(head))
+    sized_case(kind, fd, sizes_in(head))
 }
 
 // ---- one container
@@ -120,7 +133,7 @@ fn counted(t: Tally, number: u64, v: Verdict) -> Tally
     t
 }
 
-fn run_all(fd: i32) -> Tally {
+fn run_all(kind: Kind, fd: i32) -> Tally {
     let mut t = Tally {
         agree: 0,
         differ: 0,
@@ -130,7 +143,7 @@ fn run_all(fd: i32) -> Tally {
     };
     let mut number: u64 = 0;
     while number < CASES_MOST && t.open {
-        t = counted(t, number, next_case(fd));
+        t = counted(t, number, next_case(kind, fd));
         number += 1;
     }
     t
@@ -158,19 +171,21 @@ fn print_tally(t: Tally) {
     print(b"\n");
 }
 
-fn container(name: &[u8], path: &[u8]) {
+fn container(kind: Kind, name: &[u8], path: &[u8]) {
     let fd = os::open_read(path);
     if fd < 0 {
         os::fail(path);
         return;
     }
     print(name);
-    print_tally(run_all(fd));
+    print_tally(run_all(kind, fd));
     libc::close(fd);
 }
 
 fn main() {
-    container(b"plain", b"plain.cases");
-    container(b"damage", b"damage.cases");
-    container(b"made", b"made.cases");
+    container(Kind::Listing, b"plain", b"plain.cases");
+    container(Kind::Listing, b"damage", b"damage.cases");
+    container(Kind::Listing, b"made", b"made.cases");
+    container(Kind::Evening, b"points", b"points.cases");
+    container(Kind::Evening, b"planned", b"planned.cases");
 }

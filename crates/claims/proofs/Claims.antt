@@ -1,8 +1,10 @@
 -- What the protocol claims of every run.
 pub mod Stepping
+pub mod Left
 pub mod Demand
 pub mod Bounds
 pub mod Saves
+pub mod Points
 pub mod Fifo
 pub mod Examples
 pub mod Instances

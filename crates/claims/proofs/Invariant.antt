@@ -12,5 +12,7 @@ pub mod Reaching
 -- what a move owes
 pub mod Frame
 pub mod Marking
+-- the points beside the group
+pub mod Points
 -- the start
 pub mod Opening

@@ -43,10 +43,13 @@ pub mod WaitingOver
 -- recovering
 pub mod Fetching
 pub mod Restoring
+pub mod Remembering
 pub mod EndPairs
 pub mod EndNodes
 pub mod Ending
 pub mod RestoredStep
 pub mod Resuming
+-- points and returns
+pub mod Returning
 -- every packet that comes
 pub mod Delivering

@@ -12,5 +12,5 @@ pub mod Sim
 -- the moves in the view
 pub mod Methods
 pub mod ViewMoves
--- every run
-pub mod Runs
+-- the group at the start
+pub mod Loaded

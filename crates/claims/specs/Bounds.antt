@@ -15,8 +15,8 @@ use Rattle.group.specs.declared.Group.{Group}
 use Rattle.group.specs.Group.{cabinet, line, isCrashed}
 use Rattle.load.specs.Load.{load}
 use Rattle.protocol.specs.Receive.{takesFrom}
-use Rattle.protocol.specs.History.{History}
-use Rattle.protocol.specs.Restored.{Octets, Records, worldAfter}
+use Rattle.protocol.specs.History.{History, Operation}
+use Rattle.protocol.specs.Restored.{Octets, AllOctets, worldAfter}
 
 -- ---- the packets of a line, oldest first
 
@@ -38,10 +38,10 @@ packets g a b = content (line g a b .cells)
 
 -- ---- what is asked of every run
 
--- of the group and its history after every list of step records from a freshly loaded file
+-- of the group and its history after every list of operations (step records, points and returns) from a freshly loaded file
 abbrev pub Always : (Group → History → Type 0) → Type 0
 Always P =
-    (f : List ℕ) → Octets f → load f .answer ≡ 0 → (rs : List (List ℕ)) → Records rs → P (worldAfter f rs .group) (worldAfter f rs .history)
+    (f : List ℕ) → Octets f → load f .answer ≡ 0 → (xs : List Operation) → AllOctets xs → P (worldAfter f xs .group) (worldAfter f xs .history)
 
 -- of every group that has not crashed, and its history
 abbrev pub Running : (Group → History → Type 0) → Type 0

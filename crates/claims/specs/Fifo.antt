@@ -27,7 +27,8 @@ use Rattle.protocol.specs.declared.Step.the-variants.{Send, Note, Begin, Delive
 use Rattle.protocol.specs.declared.Decoded.the-variants.{Taken}
 use Rattle.protocol.specs.Receive.{serving}
 use Rattle.protocol.specs.Entry.{decode, step}
-use Rattle.protocol.specs.Restored.{Octets, Records, worldAfter}
+use Rattle.protocol.specs.History.{Operation}
+use Rattle.protocol.specs.Restored.{Octets, AllOctets, worldAfter}
 use Rattle.claims.specs.Bounds.{packets, Always}
 
 -- ---- what a step takes off a line, hits on it or sends over it
@@ -120,9 +121,9 @@ lineAfter g g′ s a b =
 -- after every taken step each line holds what a line without bounds would hold: no packet is lost for want of a place
 abbrev pub FirstInFirstOut : Type 0
 FirstInFirstOut =
-    (f : List ℕ) → Octets f → load f .answer ≡ 0 → (rs : List (List ℕ)) → Records rs → (r : List ℕ) → Octets r
-    → (s : Step) → decode r ≡ Taken s → step (worldAfter f rs .group) r .answer ≡ 0
-    → (a b : ℕ) → packets (step (worldAfter f rs .group) r .group) a b ≡ lineAfter (worldAfter f rs .group) (step (worldAfter f rs .group) r .group) s a b
+    (f : List ℕ) → Octets f → load f .answer ≡ 0 → (xs : List Operation) → AllOctets xs → (r : List ℕ) → Octets r
+    → (s : Step) → decode r ≡ Taken s → step (worldAfter f xs .group) r .answer ≡ 0
+    → (a b : ℕ) → packets (step (worldAfter f xs .group) r .group) a b ≡ lineAfter (worldAfter f xs .group) (step (worldAfter f xs .group) r .group) s a b
 
 -- packets stand before empty cells
 abbrev pub PacketsFirst : Type 0

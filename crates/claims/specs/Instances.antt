@@ -1,25 +1,30 @@
 -- What the claims come to in runs of their own, by computation.
+use Prim.Native.Nat.{ℕ}
 use mathlib.Core.Path.{_≡_}
-use mathlib.Core.Bool.{false}
+use mathlib.Core.Bool.{true, false}
 use mathlib.Core.List.{[], _∷_, _++_}
+use lib.ListN.{getD}
 use Rattle.packet.specs.declared.Payload.{Payload}
 use Rattle.packet.specs.declared.Packet.the-variants.{Normal as NormalPacket, Resume}
 use Rattle.line.specs.Line.{oldest}
+use Rattle.image.specs.Image.{blankImage}
 use Rattle.group.specs.Group.{line}
 use Rattle.protocol.specs.declared.Step.the-variants.{Deliver}
-use Rattle.protocol.specs.Marked.{twoCabinets, send, deliver}
+use Rattle.protocol.specs.Marked.{twoCabinets, send, deliver, restored, fail}
 use Rattle.protocol.specs.Restored.{worldAfter}
-use Rattle.protocol.specs.History.{World, advance}
-use Rattle.protocol.specs.Examples.{damage, ring, ringCommitted, fourCabinets, fourSaved, thirdLost, threeCommitted}
+use Rattle.protocol.specs.History.{World, stepping, pointing, returning, steps, advance, run, ends, latest}
+use Rattle.protocol.specs.Returns.{named, pointAfterLoss, keptAfterLoss}
+use Rattle.protocol.specs.Examples.{damage, fetches, row, ring, ringCommitted, fourCabinets, fourSaved, thirdLost, threeCommitted}
 use Rattle.claims.specs.Bounds.{packets, Undamaged, HasRoom}
 use Rattle.claims.specs.Fifo.{lineAfter}
 use Rattle.claims.specs.Saves.{savedTotal, OfNewest}
+use Rattle.claims.specs.Points.{KeptOf}
 
 -- ---- additions: with a damaged packet one would wrap, so that the premise of `NeverWraps` is wanted
 
 -- damage makes 65,535 amperes of the 30 that 1 sends to 2, which has 50
 abbrev pub swollen : World
-swollen = worldAfter (twoCabinets 100 50) (send 1 2 30 ∷ damage 1 2 0 65505 ∷ [])
+swollen = worldAfter (twoCabinets 100 50) (steps (send 1 2 30 ∷ damage 1 2 0 65505 ∷ []))
 
 abbrev pub most : Payload
 most = record { amount = 65535 }
@@ -30,10 +35,10 @@ Wraps = (oldest (line (swollen .group) 0 1) ≡ NormalPacket most) × (HasRoom (
 -- ---- lines: 2 takes the resume of 1, and puts one on its line to 3 and none on that back to 1
 
 abbrev pub committed : World
-committed = worldAfter ring ringCommitted
+committed = worldAfter ring (steps ringCommitted)
 
 abbrev pub resumed : World
-resumed = advance committed (deliver 1 2)
+resumed = advance committed (stepping (deliver 1 2))
 
 abbrev pub ResumesOnward : Type 0
 ResumesOnward =
@@ -47,4 +52,28 @@ OtherSlotIsOlder = OfNewest (resumed .group) (resumed .history) 1 false → ⊥
 
 -- 3 was lost before the second save, which has no cut of it: its 50 amperes count
 abbrev pub LostOnesCount : Type 0
-LostOnesCount = savedTotal 4 (worldAfter fourCabinets (fourSaved ++ thirdLost ++ threeCommitted) .history) ≡ 200
+LostOnesCount = savedTotal 4 (worldAfter fourCabinets (steps (fourSaved ++ thirdLost ++ threeCommitted)) .history) ≡ 200
+
+-- ---- points: at the second one of the row 1 is lost with what it has in it, and 2 works
+
+abbrev pub rowLater : World
+rowLater = worldAfter row pointAfterLoss
+
+abbrev pub KeptLater : ℕ → Type 0
+KeptLater c = KeptOf (rowLater .group) (rowLater .history) (λ i. getD keptAfterLoss i blankImage) c
+
+abbrev pub PointsOfLostOnes : Type 0
+PointsOfLostOnes = KeptLater 0 × KeptLater 1
+
+-- a return, sendings, and the fail of 2: 1 ends the recovery, and the save that the rule gives is still the return
+abbrev pub pairReturned : World
+pairReturned = worldAfter (twoCabinets 100 50) (pointing (named 65) ∷ returning (named 65) ∷ [])
+
+abbrev pub pairNear : World
+pairNear = run pairReturned (steps (send 1 2 30 ∷ deliver 1 2 ∷ fail 2 ∷ fetches 1))
+
+abbrev pub pairEnd : World
+pairEnd = advance pairNear (stepping (restored 1))
+
+abbrev pub StillTheReturn : Type 0
+StillTheReturn = (ends (pairNear .group) (pairEnd .group) 0 ≡ true) × (latest (pairEnd .history) ≡ latest (pairReturned .history))

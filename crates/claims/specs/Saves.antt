@@ -5,7 +5,7 @@ use Prim.Native.Nat.{ℕ, _-_, _<_}
 use mathlib.Core.Path.{_≡_}
 use mathlib.Core.Bool.{Bool, true, false}
 use mathlib.Core.List.{List, _∷_}
-use mathlib.Core.Option.{Option, none, some}
+use mathlib.Core.Option.{some}
 use Rattle.marks.specs.Marks.{marked}
 use Rattle.packet.specs.declared.Packet.the-variants.{Resume}
 use Rattle.line.specs.Line.{oldest, packetAt}
@@ -21,8 +21,8 @@ use Rattle.protocol.specs.declared.Step.the-variants.{Saved}
 use Rattle.protocol.specs.declared.Decoded.the-variants.{Taken}
 use Rattle.protocol.specs.Kinds.{writeRefusal, fetchRefusal}
 use Rattle.protocol.specs.Entry.{decode, step}
-use Rattle.protocol.specs.History.{Cut, Save, History, advance, commits, latest, imageIn}
-use Rattle.protocol.specs.Restored.{Octets, Records, worldAfter, Balanced, amperes}
+use Rattle.protocol.specs.History.{Cut, Save, History, Operation, stepping, advance, commits, latest, imageNow}
+use Rattle.protocol.specs.Restored.{Octets, AllOctets, worldAfter, Balanced, amperes}
 use Rattle.claims.specs.Bounds.{Running}
 
 -- ---- a commit
@@ -37,23 +37,19 @@ pub record Commits (g : Group) (r : List ℕ) : Type 0 where
 -- of the group before a commit, and the history after it
 abbrev pub EveryCommit : (ℕ → ℕ → Group → History → Type 0) → Type 0
 EveryCommit P =
-    (f : List ℕ) → Octets f → load f .answer ≡ 0 → (rs : List (List ℕ)) → Records rs → (r : List ℕ) → Octets r
-    → Commits (worldAfter f rs .group) r → P (cabinetCount f) (feederTotal f) (worldAfter f rs .group) (advance (worldAfter f rs) r .history)
+    (f : List ℕ) → Octets f → load f .answer ≡ 0 → (xs : List Operation) → AllOctets xs → (r : List ℕ) → Octets r
+    → Commits (worldAfter f xs .group) r → P (cabinetCount f) (feederTotal f) (worldAfter f xs .group) (advance (worldAfter f xs) (stepping r) .history)
 
--- the image that the newest save has of a cabinet: of its cut, or for one lost before it, the image that it was lost with
-abbrev pub savedImage : Option Image → Option Image → Option Image
-savedImage none m = m
-savedImage (some x) m = some x
-
+-- the images of the newest save, lost cabinets' included
 abbrev pub savedTotal : ℕ → History → ℕ
-savedTotal n h = sum (λ c. amperes (savedImage (h .lost c) (imageIn (latest h .cut c)))) n
+savedTotal n h = sum (λ c. amperes (imageNow h c)) n
 
 -- at its cuts what each had taken from each other one is what that one had sent it, all, in order and undamaged; every cabinet has an
 -- image in it or was lost with one; and these add up to the feeder's total
 abbrev pub CommitsWhole : Type 0
 CommitsWhole =
     EveryCommit (λ n total g h.
-    Balanced (latest h) × ((c : ℕ) → c < n → (m : Image) × (savedImage (h .lost c) (imageIn (latest h .cut c)) ≡ some m)) × (savedTotal n h ≡ total))
+    Balanced (latest h) × ((c : ℕ) → c < n → (m : Image) × (imageNow h c ≡ some m)) × (savedTotal n h ≡ total))
 
 -- ---- which save a resume belongs to: the one last committed when it was put
 
@@ -73,7 +69,7 @@ ResumeOfNewest =
     Running (λ g h. (a b : ℕ) → TakesResume g a b
     → (h .standing ≡ true) × ((x : Save) × (xs : List Save) × (y : Cut) × (h .saves ≡ x ∷ xs) × (x .cut b ≡ some y)) × (isUnknown (cabinet g b .phase .version) ≡ true))
 
--- ---- which save a slot belongs to: the one whose image of the cabinet it holds
+-- ---- which save a slot belongs to: the one whose image of the cabinet it holds; a return counts as a save
 
 -- slot v of cabinet c belongs to the newest save
 abbrev pub OfNewest : Group → History → ℕ → Bool → Type 0

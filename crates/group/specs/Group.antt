@@ -1,15 +1,15 @@
 -- The whole group: one accessor and one store function for each component, and what is asked of all cabinets at once.
 -- Those marked `unfoldable` stay shut unless unfolded, so that a caller's goal names them and does not spell them out.
 use Prim.Native.Nat.{ℕ, zero, suc, _+_}
-use mathlib.Core.Bool.{Bool, cond, _&&_}
+use mathlib.Core.Bool.{Bool, cond, not, _&&_}
 use mathlib.Core.List.{List, [], _∷_}
 use lib.ListN.{getD, set}
 use lib.Dec.{ltb}
-use Rattle.marks.specs.Marks.{Marks, lowest, noMarks}
+use Rattle.marks.specs.Marks.{Marks, lowest, covers, noMarks}
 use Rattle.marks.specs.Reach.{Rows}
 use Rattle.line.specs.declared.Line.{Line}
 use Rattle.state.specs.declared.State.{State}
-use Rattle.state.specs.declared.State.the-variants.{Error, Crashed}
+use Rattle.state.specs.declared.State.the-variants.{Normal, Error, Crashed}
 use Rattle.image.specs.declared.Image.{Image}
 use Rattle.cabinet.specs.declared.Cabinet.{Cabinet}
 use Rattle.group.specs.declared.Row.{Row}
@@ -20,7 +20,7 @@ use Rattle.group.specs.declared.Outcome.{Outcome}
 use Rattle.state.specs.State.{works, isIn, inRecovery, isUnknown}
 use Rattle.image.specs.Image.{blankImage}
 use Rattle.cabinet.specs.Cabinet.{absent, crashing}
-use Rattle.outgoing.specs.Lines.{emptyLines, lineTo, withLineTo}
+use Rattle.outgoing.specs.Lines.{emptyLines, lineTo, withLineTo, laden}
 
 -- ---- the components, each replaced by one function
 
@@ -127,6 +127,22 @@ unsure g = those (λ c. isIn (c .phase .state) Error && isUnknown (c .phase .ver
 
 unfoldable pub isCrashed : Group → Bool
 isCrashed g = some (those (λ c. isIn (c .phase .state) Crashed) g)
+
+-- those in normal
+unfoldable pub normalOnes : Group → Marks
+normalOnes g = those (λ c. isIn (c .phase .state) Normal) g
+
+-- those that have a packet in one of their lines
+abbrev pub hasLaden : Group → ℕ → Bool
+hasLaden g i = some (laden (outgoing g i))
+
+unfoldable pub ladenOnes : Group → Marks
+ladenOnes g =
+    hasLaden g 0 ∷ hasLaden g 1 ∷ hasLaden g 2 ∷ hasLaden g 3 ∷ hasLaden g 4 ∷ hasLaden g 5 ∷ hasLaden g 6 ∷ hasLaden g 7 ∷ []
+
+-- document 02, card 1: "every working cabinet in normal and every line empty"
+unfoldable pub quiet : Group → Bool
+quiet g = covers (normalOnes g) (working g) && not (some (ladenOnes g))
 
 -- ---- a number of each of the first n cabinets, added up
 

@@ -1,4 +1,5 @@
 // The moves of one cabinet that the kinds of step are made of, each promised equal to its definition in protocol.
+use cabinet::Alarm;
 use group::Group;
 use outgoing::Outgoing;
 use packet::Packet;
@@ -6,7 +7,7 @@ use packet::Place;
 use state::State;
 use state::Version;
 ghost use mathlib.Core.Path.{_≡_};
-ghost use Rattle.protocol.specs.Moves.{broadcast, join, cutIfAll, resumeWith, commit, recoverWith, recoverIfKnown, raise, enterError, endRecovery};
+ghost use Rattle.protocol.specs.Moves.{broadcast, join, cutIfAll, resumeWith, commit, recoverWith, recoverIfKnown, raise, enterError, endRecovery, noteAt, noteFor, noteLost};
 ghost use Rattle.protocol.specs.Receive.{serving};
 
 // In normal or in one of the three saving states.
@@ -107,4 +108,33 @@ pub fn end_recovery(g: Group, i: u8) -> Group
     let phase = g.cabinet(i).phase;
     let v = phase.version;
     resume_with(g, i, v)
+}
+
+// A failed cabinet's version, which no rule reads any more, notes the slot that its image is in.
+fn note_at(place: Place, g: Group, v: Version) -> Group
+    ensures { λ r. ⌜ r ≡ noteAt place g v ⌝ }
+{
+    match place {
+        Place::Cabinet(x) => g.with_cabinet(x, g.cabinet(x).with_version(v)),
+        Place::Link(_, _) => g,
+    }
+}
+
+fn note_for(alarm: Alarm, g: Group, v: Version) -> Group
+    ensures { λ r. ⌜ r ≡ noteFor alarm g v ⌝ }
+{
+    match alarm {
+        Alarm::Quiet => g,
+        Alarm::Fault(place) => note_at(place, g, v),
+    }
+}
+
+// The cabinet that k recovers from the fail of, if it is one, has k's version noted.
+pub fn note_lost(g: Group, k: u8) -> Group
+    ensures { λ r. ⌜ r ≡ noteLost g k ⌝ }
+{
+    let phase = g.cabinet(k).phase;
+    let alarm = phase.alarm;
+    let v = phase.version;
+    note_for(alarm, g, v)
 }

@@ -1,7 +1,7 @@
 -- A cabinet's outgoing lines: one of them read or replaced, and packets put on several at once.
 -- Those marked `unfoldable` stay shut unless unfolded, so that a caller's goal names them and does not spell them out.
 use Prim.Native.Nat.{ℕ, zero, suc}
-use mathlib.Core.Bool.{Bool, true, false}
+use mathlib.Core.Bool.{Bool, true, false, not}
 use mathlib.Core.List.{List, [], _∷_}
 use lib.ListN.{getD, set, replicate}
 use Rattle.marks.specs.Marks.{Marks, marked}
@@ -10,8 +10,8 @@ use Rattle.packet.specs.declared.Packet.the-variants.{Checkp}
 use Rattle.packet.specs.declared.Check.{Check}
 use Rattle.line.specs.declared.Cell.{Cell}
 use Rattle.line.specs.declared.Line.{Line}
-use Rattle.packet.specs.Packet.{startCheck}
-use Rattle.line.specs.Line.{emptyCell, emptyLine, put}
+use Rattle.packet.specs.Packet.{startCheck, isEmpty}
+use Rattle.line.specs.Line.{emptyCell, emptyLine, oldest, put}
 use Rattle.outgoing.specs.declared.Outgoing.{Outgoing}
 
 unfoldable pub emptyLines : Outgoing
@@ -22,6 +22,13 @@ lineTo o j = getD (o .lines) j emptyLine
 
 unfoldable pub withLineTo : Outgoing → ℕ → Line → Outgoing
 withLineTo o j l = record { lines = set (o .lines) j l }
+
+-- the lines that hold a packet
+abbrev pub isLaden : Outgoing → ℕ → Bool
+isLaden o j = not (isEmpty (oldest (lineTo o j)))
+
+unfoldable pub laden : Outgoing → Marks
+laden o = isLaden o 0 ∷ isLaden o 1 ∷ isLaden o 2 ∷ isLaden o 3 ∷ isLaden o 4 ∷ isLaden o 5 ∷ isLaden o 6 ∷ isLaden o 7 ∷ []
 
 -- a packet on the line to j, if it is asked for
 abbrev pub putIf : Bool → Outgoing → ℕ → Packet → Outgoing

@@ -5,7 +5,7 @@ use packet::Check;
 use packet::Packet;
 ghost use mathlib.Core.Path.{_≡_};
 ghost use Prim.Native.Nat.{_<_};
-ghost use Rattle.outgoing.specs.Lines.{emptyLines, lineTo, withLineTo, putIf, putRowTo, putAll, checkpCell, checkps, putCheckps};
+ghost use Rattle.outgoing.specs.Lines.{emptyLines, lineTo, withLineTo, isLaden, laden, putIf, putRowTo, putAll, checkpCell, checkps, putCheckps};
 
 // A cabinet's eight outgoing lines.
 pub struct Outgoing {
@@ -36,6 +36,28 @@ impl Outgoing {
             o.lines[k] = l;
         }
         o
+    }
+
+    fn is_laden(self, j: u8) -> bool
+        ensures { λ r. ⌜ r ≡ isLaden self j ⌝ }
+    {
+        !packet::is_empty(self.line_to(j).oldest())
+    }
+
+    // The lines that hold a packet.
+    pub fn laden(self) -> [bool; 8]
+        ensures { λ r. ⌜ r ≡ laden self ⌝ }
+    {
+        [
+            self.is_laden(0),
+            self.is_laden(1),
+            self.is_laden(2),
+            self.is_laden(3),
+            self.is_laden(4),
+            self.is_laden(5),
+            self.is_laden(6),
+            self.is_laden(7),
+        ]
     }
 
     fn put_if(self, asked: bool, j: u8, p: Packet) -> Outgoing

@@ -1,4 +1,5 @@
 -- Closed runs, by computation over the definitions: the marked cases, whole recoveries, and runs with the answer to every record.
 pub mod Marked
 pub mod Examples
+pub mod Returns
 pub mod Tempting

@@ -17,9 +17,9 @@ use Rattle.state.specs.State.{works}
 use Rattle.group.specs.declared.Group.{Group}
 use Rattle.group.specs.Group.{cabinet, stateOf}
 use Rattle.load.specs.Load.{load, cabinetCount}
-use Rattle.protocol.specs.Entry.{step}
-use Rattle.protocol.specs.History.{Cut, History, World, advance, opening, ends, latest}
+use Rattle.protocol.specs.History.{Cut, History, Operation, stepping, steps, World, advance, opening, ends, latest}
 use Rattle.protocol.specs.Restored.{takenIn, counted}
+use Rattle.protocol.specs.Evening.{operate}
 use Rattle.protocol.specs.Marked.{twoOctets, header, recordOf, send, begin, deliver, fetch, restored, fail}
 
 -- ---- files and records
@@ -54,34 +54,37 @@ damage a b p q = recordOf 11 a b p q
 
 -- ---- a run, and what is found in it
 
--- the records up to the fault, those from the fault on, and the one in which the coordinator (numbered from 0) ends the recovery
+-- the operations up to the fault, those from the fault on, and the one in which the coordinator (numbered from 0) ends the recovery
 pub record Example : Type 0 where
   pub file : List ℕ
-  pub before : List (List ℕ)
-  pub since : List (List ℕ)
-  pub last : List ℕ
+  pub before : List Operation
+  pub since : List Operation
+  pub last : Operation
   pub coordinator : ℕ
 
 -- those before the last one
-abbrev pub records : Example → List (List ℕ)
-records e = e .before ++ e .since
+abbrev pub operationsOf : Example → List Operation
+operationsOf e = e .before ++ e .since
 
--- the run so far: whether every record was taken, and what the records made of the file. One walk serves all that is found.
+-- the run so far: whether every operation was taken, and what they made of the file. One walk serves all that is found.
 pub record Walk : Type 0 where
   pub taken : Bool
   pub world : World
 
-abbrev pub walkOn : Walk → List ℕ → Walk
-walkOn w r = record { taken = w .taken && eqb (step (w .world .group) r .answer) 0; world = advance (w .world) r }
+abbrev pub walkOn : Walk → Operation → Walk
+walkOn w x = record {
+  taken = w .taken && eqb (operate (record { group = w .world .group; points = w .world .points }) x .answer) 0;
+  world = advance (w .world) x;
+}
 
-unfoldable pub walk : Walk → List (List ℕ) → Walk
+unfoldable pub walk : Walk → List Operation → Walk
 walk w [] = w
-walk w (r ∷ rs) = walk (walkOn w r) rs
+walk w (x ∷ xs) = walk (walkOn w x) xs
 
 abbrev pub setOut : Example → Walk
 setOut e = record { taken = true; world = opening (load (e .file) .group) }
 
--- at the fault, before the last record, and after it
+-- at the fault, before the last operation, and after it
 abbrev pub walkToFault : Example → Walk
 walkToFault e = walk (setOut e) (e .before)
 
@@ -93,16 +96,16 @@ walkToEnd e = walkOn (walkNear e) (e .last)
 
 -- what is found; a list has one place for each cabinet
 pub record Found : Type 0 where
-  -- the answer of load, whether every record is taken, and whether the last one ends the recovery
+  -- the answer of load, whether every operation is taken, and whether the last one ends the recovery
   pub loaded : ℕ
   pub taken : Bool
   pub ended : Bool
   -- the place that the coordinator entered error for
   pub place : Alarm
-  -- the saves committed by the fault, and those left at the end: one passed over "counts as never committed"
+  -- the saves committed and the returns by the fault, and those left at the end: one passed over "counts as never committed"
   pub committed : ℕ
   pub left : ℕ
-  -- before the last record: a begin was taken since the start or the last recovery's end, and a save committed since then stands
+  -- before the last operation: a begin was taken since the start or the last recovery's end, and a save committed since then stands
   pub begun : Bool
   pub stands : Bool
   -- the save that the rule gives: its coordinator, numbered from 0 (the start has 8), and the amounts that each had taken by its cut
@@ -199,17 +202,17 @@ abbrev pub after-save : Example
 after-save = record {
   file = ring;
   -- amperes and a note of which the save knows nothing; what 3 sends is never taken
-  before = ringSaved ++ send 1 2 40 ∷ deliver 1 2 ∷ note 2 31 4 ∷ send 3 2 7 ∷ [];
+  before = steps (ringSaved ++ send 1 2 40 ∷ deliver 1 2 ∷ note 2 31 4 ∷ send 3 2 7 ∷ []);
   since =
       -- "all its neighbours over links in use enter error in the same step", and having a known version go on to recovering
-      fail 3
+      steps (fail 3
       -- fault, which is noted, and recover, which is dropped in recovering: both ways
       ∷ deliver 1 2 ∷ deliver 1 2 ∷ deliver 2 1 ∷ deliver 2 1
       -- "After piece 3 the cabinet enters recovered."
       ∷ fetches 1 ++ fetches 2
-      ++ restored 1 ∷ [];
+      ++ restored 1 ∷ []);
   -- "When the coordinator, in recovered, has restored reports from all in its table, it enters normal"
-  last = restored 2;
+  last = stepping (restored 2);
   coordinator = 0;
 }
 
@@ -248,13 +251,13 @@ passed-over = record {
   file = row;
   -- the first save has 70, 80 and 20, and its resume is taken; the second has 61, 97 and 12
   before =
-      send 1 2 30 ∷ deliver 1 2 ∷ note 3 31 6
+      steps (send 1 2 30 ∷ deliver 1 2 ∷ note 3 31 6
       ∷ rowCommitted ++ deliver 1 2 ∷ deliver 2 3
       ∷ send 3 2 8 ∷ deliver 3 2 ∷ send 1 2 9 ∷ deliver 1 2 ∷ note 3 31 7
-      ∷ rowCommitted;
+      ∷ rowCommitted);
   since =
       -- "its coordinator failed before any working cabinet took that resume": 2 enters error with unknown version
-      fail 1
+      steps (fail 1
       -- "A cabinet in normal or a saving state that receives fault enters error for that place, and has heard that neighbour."
       ∷ deliver 2 3 ∷ deliver 3 2
       -- "version becomes old and a goes on as if recover had brought it"
@@ -262,9 +265,9 @@ passed-over = record {
       -- "stay in error until recover comes, then set the version to the one it carries and do the same"; the second is dropped
       ∷ deliver 2 3 ∷ deliver 3 2
       ∷ fetches 2 ++ fetches 3
-      ++ restored 3 ∷ [];
+      ++ restored 3 ∷ []);
   -- the coordinator is 2 now, "the lowest-numbered cabinet in use there"
-  last = restored 2;
+  last = stepping (restored 2);
   coordinator = 1;
 }
 
@@ -292,17 +295,17 @@ link-fault = record {
   file = ring;
   before =
       -- damage makes 7 amperes of the 6 that 2 sends, and 3 adds them: 80, 69 and 22 are more than the total
-      ringSaved ++ send 2 3 6 ∷ damage 2 3 0 1 ∷ deliver 2 3
+      steps (ringSaved ++ send 2 3 6 ∷ damage 2 3 0 1 ∷ deliver 2 3
       -- a save begins, and 2 puts its checkps
-      ∷ begin 1 ∷ deliver 1 2 ∷ [];
+      ∷ begin 1 ∷ deliver 1 2 ∷ []);
   since =
       -- "unequal values mean a link fault": 3 finds it at the checkp from 2
-      deliver 2 3
+      steps (deliver 2 3
       -- the fault goes from 3 to 1 and from 1 to both others; 2, which has struck its end of the link, tells 1
       ∷ deliver 3 1 ∷ deliver 1 2 ∷ deliver 1 3 ∷ deliver 2 1
       ∷ fetches 1 ++ fetches 2 ++ fetches 3
-      ++ restored 1 ∷ restored 2 ∷ [];
-  last = restored 3;
+      ++ restored 1 ∷ restored 2 ∷ []);
+  last = stepping (restored 3);
   coordinator = 0;
 }
 
@@ -365,9 +368,9 @@ threeSaved = threeCommitted ++ deliver 1 2 ∷ deliver 1 4 ∷ deliver 2 4 ∷ d
 abbrev pub second-recovery : Example
 second-recovery = record {
   file = fourCabinets;
-  before = fourSaved ++ thirdLost ++ threeSaved ++ send 2 1 4 ∷ deliver 2 1 ∷ [];
-  since = fail 4 ∷ deliver 1 2 ∷ deliver 2 1 ∷ fetches 1 ++ fetches 2 ++ restored 2 ∷ [];
-  last = restored 1;
+  before = steps (fourSaved ++ thirdLost ++ threeSaved ++ send 2 1 4 ∷ deliver 2 1 ∷ []);
+  since = steps (fail 4 ∷ deliver 1 2 ∷ deliver 2 1 ∷ fetches 1 ++ fetches 2 ++ restored 2 ∷ []);
+  last = stepping (restored 1);
   coordinator = 0;
 }
 
@@ -401,7 +404,7 @@ restored-before = record {
   file = otherRing;
   before =
       -- a save with 75, 80 and 15, up to its commit
-      send 1 2 30 ∷ deliver 1 2 ∷ send 3 1 5 ∷ deliver 3 1
+      steps (send 1 2 30 ∷ deliver 1 2 ∷ send 3 1 5 ∷ deliver 3 1
       ∷ begin 1 ∷ deliver 1 2 ∷ deliver 1 3 ∷ deliver 2 1 ∷ deliver 3 1 ∷ deliver 3 2 ∷ deliver 2 3
       ∷ writes 1 ++ writes 2 ++ writes 3
       ++ saved 1 ∷ saved 2 ∷ saved 3
@@ -409,10 +412,10 @@ restored-before = record {
       ∷ fail 3 ∷ deliver 1 2 ∷ deliver 1 2 ∷ deliver 2 1
       ∷ fetches 1 ++ fetches 2
       ++ restored 2 ∷ restored 1 ∷ deliver 1 2
-      ∷ send 1 2 6 ∷ deliver 1 2 ∷ [];
+      ∷ send 1 2 6 ∷ deliver 1 2 ∷ []);
   -- "If its coordinator failed before any working cabinet took that resume or was restored from that save": it was restored
-  since = fail 1 ∷ fetches 2;
-  last = restored 2;
+  since = steps (fail 1 ∷ fetches 2);
+  last = stepping (restored 2);
   coordinator = 1;
 }
 

@@ -1,9 +1,11 @@
--- Document 01, "Which save" and "Words of demand 3": the history of a run, a fold over the file and the records with what the
--- rules make of them. Of the groups before and after a step it reads states, tables, homes, images, the packet that is taken or damaged,
--- and which checkps have come; no version, slot, register, report, piece or fault place. In a step cabinets count from 1, here from 0.
+-- Document 01, "Which save" and "Words of demand 3", with document 02, card 1: the history of a run, a fold over the file and the
+-- operations (step records, points taken, returns) with what the rules make of them. Of the groups before and after a step it reads
+-- states, tables, homes, images, the packet that is taken or damaged, and which checkps have come; no version, slot, register, report,
+-- piece or fault place. Of a point it reads whether it is taken: what it keeps, the history knows by itself. In a step cabinets count
+-- from 1, here from 0.
 use Prim.Native.Nat.{ℕ, _+_, _-_}
 use mathlib.Core.Bool.{Bool, true, false, cond, not, _&&_}
-use mathlib.Core.List.{List, [], _∷_, _++_}
+use mathlib.Core.List.{List, [], _∷_, _++_, map}
 use mathlib.Core.Option.{Option, none, some}
 use lib.Dec.{eqb, ltb}
 use Rattle.marks.specs.Marks.{marked}
@@ -17,6 +19,8 @@ use Rattle.state.specs.declared.State.the-variants.{Normal, Checkpointing, Chec
 use Rattle.image.specs.declared.Image.{Image}
 use Rattle.state.specs.State.{isIn, works, inSaving}
 use Rattle.cabinet.specs.Cabinet.{inUse, coordinator}
+use Rattle.points.specs.declared.Points.{Points}
+use Rattle.points.specs.Points.{noPoints, sameName}
 use Rattle.group.specs.declared.Group.{Group}
 use Rattle.group.specs.declared.Outcome.{Outcome}
 use Rattle.group.specs.Group.{cabinet, stateOf, line}
@@ -26,6 +30,7 @@ use Rattle.protocol.specs.declared.Decoded.{Decoded}
 use Rattle.protocol.specs.declared.Decoded.the-variants.{Malformed, Unused, Taken}
 use Rattle.protocol.specs.Receive.{takesFrom}
 use Rattle.protocol.specs.Entry.{decode, step}
+use Rattle.protocol.specs.Points.{takePoint, returnTo}
 
 -- a function with one value replaced
 unfoldable pub upd : {A : Type 0} → (ℕ → A) → ℕ → A → ℕ → A
@@ -45,12 +50,16 @@ pub record Cut : Type 0 where
   pub sent : ℕ → List Payload
   pub taken : ℕ → List Payload
 
--- a committed save: its coordinator (8, no cabinet, for the start), the cuts, and whether a cabinet took its resume or was restored
--- from it
+-- a committed save: its coordinator (8, no cabinet, for the start and for a return), the cuts, and whether a cabinet took its resume or
+-- was restored from it
 pub record Save : Type 0 where
   pub by : ℕ
   pub cut : ℕ → Option Cut
   pub known : Bool
+
+-- what points keep: under each name an image of each cabinet
+abbrev pub Kept : Type 0
+Kept = List ℕ → Option (ℕ → Option Image)
 
 pub record History : Type 0 where
   -- since the start or the last recovery's end: the packets of the taken sends, as put, and those added, as they came
@@ -58,15 +67,17 @@ pub record History : Type 0 where
   pub taken : Log
   -- the cuts since the last begin
   pub cuts : ℕ → Option Cut
-  -- the committed saves, newest first, those passed over left out; below them the start
+  -- the committed saves and the returns, newest first, those passed over left out; below them the start
   pub saves : List Save
   pub start : Save
-  -- a failed cabinet's image in the save restored after it failed
+  -- a failed cabinet's image in the save restored after it failed, or the one that the last return since then set
   pub lost : ℕ → Option Image
+  -- the points, of each name the one last taken with it
+  pub points : Kept
   -- a normal packet was damaged since the start or the last recovery's end: no matter to demand 3, it is for `claims.Bounds.NeverWraps`
   pub hurt : Bool
   -- what `claims.Saves` speaks of, no matter to demand 3 either: a begin was taken since the start or the last recovery's end; a save was
-  -- committed since then, and the last one was not passed over, so that it is the newest
+  -- committed since then, and the last one was not passed over nor is there a return after it, so that it is the newest
   pub begun : Bool
   pub standing : Bool
 
@@ -75,28 +86,34 @@ noLog a b = []
 
 -- ---- the start
 
-abbrev pub startCut : Group → ℕ → Option Cut
-startCut g i = cond (ltb i (g .n)) (some (record { image = cabinet g i .image; sent = λ j. []; taken = λ j. [] })) none
+-- a save that everybody knows, with nothing sent or taken
+abbrev pub bareCut : Option Image → Option Cut
+bareCut none = none
+bareCut (some m) = some (record { image = m; sent = λ j. []; taken = λ j. [] })
+
+abbrev pub bareSave : (ℕ → Option Image) → Save
+bareSave images = record { by = 8; cut = λ i. bareCut (images i); known = true }
 
 abbrev pub startSave : Group → Save
-startSave g = record { by = 8; cut = startCut g; known = true }
+startSave g = bareSave (λ i. cond (ltb i (g .n)) (some (cabinet g i .image)) none)
 
 -- what counts anew from the start and from every recovery's end
-abbrev pub fresh : List Save → Save → (ℕ → Option Image) → History
-fresh saves start lost = record {
+abbrev pub fresh : List Save → Save → (ℕ → Option Image) → Kept → History
+fresh saves start lost points = record {
   sent = noLog;
   taken = noLog;
   cuts = λ i. none;
   saves = saves;
   start = start;
   lost = lost;
+  points = points;
   hurt = false;
   begun = false;
   standing = false;
 }
 
 abbrev pub atStart : Group → History
-atStart g = fresh [] (startSave g) (λ i. none)
+atStart g = fresh [] (startSave g) (λ i. none) (λ name. none)
 
 -- ---- which save
 
@@ -130,25 +147,25 @@ markKnown (x ∷ xs) = withKnown x true ∷ xs
 -- ---- the parts of a history, each replaced by one function
 
 abbrev pub withSent : History → Log → History
-withSent h l = record { sent = l; taken = h .taken; cuts = h .cuts; saves = h .saves; start = h .start; lost = h .lost; hurt = h .hurt; begun = h .begun; standing = h .standing }
+withSent h l = record { sent = l; taken = h .taken; cuts = h .cuts; saves = h .saves; start = h .start; lost = h .lost; points = h .points; hurt = h .hurt; begun = h .begun; standing = h .standing }
 
 abbrev pub withTaken : History → Log → History
-withTaken h l = record { sent = h .sent; taken = l; cuts = h .cuts; saves = h .saves; start = h .start; lost = h .lost; hurt = h .hurt; begun = h .begun; standing = h .standing }
+withTaken h l = record { sent = h .sent; taken = l; cuts = h .cuts; saves = h .saves; start = h .start; lost = h .lost; points = h .points; hurt = h .hurt; begun = h .begun; standing = h .standing }
 
 abbrev pub withCuts : History → (ℕ → Option Cut) → History
-withCuts h c = record { sent = h .sent; taken = h .taken; cuts = c; saves = h .saves; start = h .start; lost = h .lost; hurt = h .hurt; begun = h .begun; standing = h .standing }
+withCuts h c = record { sent = h .sent; taken = h .taken; cuts = c; saves = h .saves; start = h .start; lost = h .lost; points = h .points; hurt = h .hurt; begun = h .begun; standing = h .standing }
 
 abbrev pub withSaves : History → List Save → History
-withSaves h s = record { sent = h .sent; taken = h .taken; cuts = h .cuts; saves = s; start = h .start; lost = h .lost; hurt = h .hurt; begun = h .begun; standing = h .standing }
+withSaves h s = record { sent = h .sent; taken = h .taken; cuts = h .cuts; saves = s; start = h .start; lost = h .lost; points = h .points; hurt = h .hurt; begun = h .begun; standing = h .standing }
 
 abbrev pub withHurt : History → Bool → History
-withHurt h t = record { sent = h .sent; taken = h .taken; cuts = h .cuts; saves = h .saves; start = h .start; lost = h .lost; hurt = t; begun = h .begun; standing = h .standing }
+withHurt h t = record { sent = h .sent; taken = h .taken; cuts = h .cuts; saves = h .saves; start = h .start; lost = h .lost; points = h .points; hurt = t; begun = h .begun; standing = h .standing }
 
 abbrev pub withBegun : History → Bool → History
-withBegun h t = record { sent = h .sent; taken = h .taken; cuts = h .cuts; saves = h .saves; start = h .start; lost = h .lost; hurt = h .hurt; begun = t; standing = h .standing }
+withBegun h t = record { sent = h .sent; taken = h .taken; cuts = h .cuts; saves = h .saves; start = h .start; lost = h .lost; points = h .points; hurt = h .hurt; begun = t; standing = h .standing }
 
 abbrev pub withStanding : History → Bool → History
-withStanding h t = record { sent = h .sent; taken = h .taken; cuts = h .cuts; saves = h .saves; start = h .start; lost = h .lost; hurt = h .hurt; begun = h .begun; standing = t }
+withStanding h t = record { sent = h .sent; taken = h .taken; cuts = h .cuts; saves = h .saves; start = h .start; lost = h .lost; points = h .points; hurt = h .hurt; begun = h .begun; standing = t }
 
 -- ---- what a taken step adds to the history; g is the group before it and g′ after it
 
@@ -201,7 +218,7 @@ lostNow h g i none = cond (works (stateOf g i)) none (imageIn (latest h .cut i))
 -- "Packets for a cut count from the start or the end of the last recovery before that save's begin": they count anew at every end,
 -- and a save begun before one has no cut after it (`claims.Saves.CutsSinceBegin`). The cabinets failed since the last end have their image now.
 abbrev pub noteEnd : Bool → History → Group → History
-noteEnd true h g = fresh (h .saves) (h .start) (λ i. lostNow h g i (h .lost i))
+noteEnd true h g = fresh (h .saves) (h .start) (λ i. lostNow h g i (h .lost i)) (h .points)
 noteEnd false h g = h
 
 -- "a recovery ends in the step that takes a coordinator from recovered to normal": the coordinator in the table of cabinet j
@@ -233,6 +250,41 @@ abbrev pub noteCuts : History → Group → Group → History
 noteCuts h g g′ =
     withCuts h (λ i. cond (isIn (stateOf g′ i) Checkpointing && not (isIn (stateOf g i) Checkpointing)) (some (cutIn h g′ i)) (h .cuts i))
 
+-- ---- points and returns
+
+-- the image that the save which the rule gives has of a cabinet: of its cut, or for one lost before it, the image that it was lost with
+abbrev pub savedImage : Option Image → Option Image → Option Image
+savedImage none m = m
+savedImage (some x) m = some x
+
+abbrev pub imageNow : History → ℕ → Option Image
+imageNow h i = savedImage (h .lost i) (imageIn (latest h .cut i))
+
+-- "A name used again replaces the old point."
+abbrev pub withPoints : History → Kept → History
+withPoints h p = record { sent = h .sent; taken = h .taken; cuts = h .cuts; saves = h .saves; start = h .start; lost = h .lost; points = p; hurt = h .hurt; begun = h .begun; standing = h .standing }
+
+abbrev pub notePoint : History → List ℕ → History
+notePoint h name = withPoints h (λ other. cond (sameName other name) (some (imageNow h)) (h .points other))
+
+-- "A recovery after a return and before the next commit brings back the point": a return is a save that everybody knows, so that it is
+-- never passed over, and one passed over after it gives way to it. Nothing counts as sent or taken by it; the logs run on.
+-- "where there was a return since a cabinet failed, its image there is the one that the last return set"
+abbrev pub noteReturn : Option (ℕ → Option Image) → History → Group → History
+noteReturn none h g = h
+noteReturn (some images) h g = record {
+  sent = h .sent;
+  taken = h .taken;
+  cuts = h .cuts;
+  saves = bareSave images ∷ h .saves;
+  start = h .start;
+  lost = λ i. cond (works (stateOf g i)) none (images i);
+  points = h .points;
+  hurt = h .hurt;
+  begun = h .begun;
+  standing = false;
+}
+
 -- ---- the run
 
 abbrev pub ifTaken : ℕ → History → History → History
@@ -244,20 +296,41 @@ recordDecoded h g o Malformed = h
 recordDecoded h g o Unused = h
 recordDecoded h g o (Taken s) = ifTaken (o .answer) (noteCuts (observe h g (o .group) s) g (o .group)) h
 
+-- "In demand 3 points and returns may stand between the steps": a step record, a point taken and a return, each of these with a name
+pub data Operation : Type 0 where
+  stepping : List ℕ → Operation
+  pointing : List ℕ → Operation
+  returning : List ℕ → Operation
+
+abbrev pub steps : List (List ℕ) → List Operation
+steps rs = map stepping rs
+
 pub record World : Type 0 where
   pub group : Group
+  pub points : Points
   pub history : History
 
-unfoldable pub advance : World → List ℕ → World
-advance w r = record {
+unfoldable pub advance : World → Operation → World
+advance w (stepping r) = record {
   group = step (w .group) r .group;
+  points = w .points;
   history = recordDecoded (w .history) (w .group) (step (w .group) r) (decode r);
 }
+advance w (pointing name) = record {
+  group = w .group;
+  points = takePoint (w .points) (w .group) name .points;
+  history = ifTaken (takePoint (w .points) (w .group) name .answer) (notePoint (w .history) name) (w .history);
+}
+advance w (returning name) = record {
+  group = returnTo (w .points) (w .group) name .group;
+  points = w .points;
+  history = ifTaken (returnTo (w .points) (w .group) name .answer) (noteReturn (w .history .points name) (w .history) (w .group)) (w .history);
+}
 
-unfoldable pub run : World → List (List ℕ) → World
+unfoldable pub run : World → List Operation → World
 run w [] = w
-run w (r ∷ rs) = run (advance w r) rs
+run w (x ∷ xs) = run (advance w x) xs
 
--- the group as loaded, with nothing in its history
+-- the group as loaded, with no points and nothing in its history
 abbrev pub opening : Group → World
-opening g = record { group = g; history = atStart g }
+opening g = record { group = g; points = noPoints; history = atStart g }

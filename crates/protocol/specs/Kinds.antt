@@ -22,7 +22,7 @@ use Rattle.state.specs.State.{isIn, inRecovery, inRestoring, inSaving, bitOf}
 use Rattle.image.specs.Image.{booked, withOctet, withPiece}
 use Rattle.cabinet.specs.Cabinet.{inUse, coordinator, withImage, sending, hurtFrom, wrote, owing, savedFor, fetched, restoredFor}
 use Rattle.group.specs.Group.{cabinet, withCabinet, stateOf, line, withLine, slot, withSlot, rowsOf, some, working, recoveringOnes, unsure, answering, taken, crashed}
-use Rattle.protocol.specs.Moves.{join, cutIfAll, commit, recoverWith, markFailed, alarmTo, endRecovery}
+use Rattle.protocol.specs.Moves.{join, cutIfAll, commit, recoverWith, markFailed, alarmTo, endRecovery, noteLost}
 use Rattle.protocol.specs.Receive.{receive}
 
 -- a check of a refusal: where the test does not hold the answer is k, else the next check decides
@@ -158,10 +158,11 @@ restoredRefusal g a =
 unfoldable pub reportRestored : Group → ℕ → ℕ → Group
 reportRestored g a k = withCabinet g k (restoredFor (cabinet g k) a)
 
--- "When the coordinator, in recovered, has restored reports from all in its table": the end of the recovery
+-- "When the coordinator, in recovered, has restored reports from all in its table": the end of the recovery. A failed cabinet's image is
+-- then that of the save restored
 unfoldable pub endIfAll : Group → ℕ → Group
 endIfAll g k =
-    cond (isIn (stateOf g k) Recovered && covers (cabinet g k .noted .restored) (cabinet g k .table .cabinets)) (endRecovery g k) g
+    cond (isIn (stateOf g k) Recovered && covers (cabinet g k .noted .restored) (cabinet g k .table .cabinets)) (endRecovery (noteLost g k) k) g
 
 unfoldable pub restoredStep : Group → ℕ → Outcome
 restoredStep g a =

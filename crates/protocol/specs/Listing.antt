@@ -76,8 +76,12 @@ decimal n = digits 5 n
 abbrev pub loadLine : ℕ → Text
 loadLine k = loadWord ++ space ∷ decimal k ++ newline ∷ []
 
+-- what number k was answered
+abbrev pub answerLine : Text → ℕ → ℕ → Text
+answerLine word k answer = word ++ space ∷ decimal k ++ space ∷ decimal answer ++ newline ∷ []
+
 abbrev pub stepLine : ℕ → ℕ → Text
-stepLine k answer = stepWord ++ space ∷ decimal k ++ space ∷ decimal answer ++ newline ∷ []
+stepLine k answer = answerLine stepWord k answer
 
 -- the state and, unless it is failed, version and booking
 abbrev pub cabRest : Cabinet → Text
@@ -95,10 +99,14 @@ cabLines (suc n) g = cabLines n g ++ cabLine n (cabinet g n)
 
 -- ---- the run
 
+-- the first n parts of a list, of w each; a short last one counts
+unfoldable pub parts : ℕ → ℕ → List ℕ → List (List ℕ)
+parts w zero s = []
+parts w (suc n) s = cond (eqb (length s) 0) [] (take w s ∷ parts w n (drop w s))
+
 -- "the first 10,000 records; a short last one counts as a record"
-unfoldable pub records : ℕ → List ℕ → List (List ℕ)
-records zero s = []
-records (suc n) s = cond (eqb (length s) 0) [] (take 6 s ∷ records n (drop 6 s))
+abbrev pub records : ℕ → List ℕ → List (List ℕ)
+records n s = parts 6 n s
 
 -- a line for each answer, the first with the number k
 abbrev pub stepLines : ℕ → List ℕ → Text

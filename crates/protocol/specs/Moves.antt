@@ -5,7 +5,7 @@ use lib.ListN.{set}
 use Rattle.marks.specs.Marks.{marked}
 use Rattle.marks.specs.Reach.{struck, connected}
 use Rattle.packet.specs.declared.Place.{Place}
-use Rattle.packet.specs.declared.Place.the-variants.{Cabinet as AtCabinet}
+use Rattle.packet.specs.declared.Place.the-variants.{Cabinet as AtCabinet, Link as AtLink}
 use Rattle.packet.specs.declared.Packet.{Packet}
 use Rattle.packet.specs.declared.Packet.the-variants.{Resume, Recover, Fault}
 use Rattle.packet.specs.Packet.{linkPlace}
@@ -13,10 +13,12 @@ use Rattle.line.specs.Line.{emptyLine}
 use Rattle.state.specs.declared.State.the-variants.{Failed}
 use Rattle.state.specs.declared.Version.{Version}
 use Rattle.state.specs.declared.Version.the-variants.{Known, Unknown}
+use Rattle.cabinet.specs.declared.Alarm.{Alarm}
+use Rattle.cabinet.specs.declared.Alarm.the-variants.{Quiet, Fault as At}
 use Rattle.group.specs.declared.Group.{Group}
 use Rattle.group.specs.declared.Outcome.{Outcome}
 use Rattle.state.specs.State.{flipped, adopted, works}
-use Rattle.cabinet.specs.Cabinet.{inUse, beginning, comparing, cutting, resuming, alarmed, hearing, recovering, withState}
+use Rattle.cabinet.specs.Cabinet.{inUse, beginning, comparing, cutting, resuming, alarmed, hearing, recovering, withState, withVersion}
 use Rattle.outgoing.specs.Lines.{emptyLines, putAll, putCheckps}
 use Rattle.group.specs.Group.{cabinet, withCabinet, stateOf, outgoing, withOutgoing, withLine, rowsOf, withSound, working, taken, crashed}
 
@@ -107,3 +109,16 @@ alarmTo (suc n) g a =
 -- end the recovery: "it enters normal and puts resume on all lines in use"; so does a cabinet in recovered on resume
 unfoldable pub endRecovery : Group → ℕ → Group
 endRecovery g i = resumeWith g i (cabinet g i .phase .version)
+
+-- Document 02, card 1: which slot has a failed cabinet's image is noted where the recovery from its fail ends. Its own version, which no
+-- rule reads any more, takes the note: it becomes that of the save which the others come back from
+abbrev pub noteAt : Place → Group → Version → Group
+noteAt (AtCabinet x) g v = withCabinet g x (withVersion (cabinet g x) v)
+noteAt (AtLink x y) g v = g
+
+abbrev pub noteFor : Alarm → Group → Version → Group
+noteFor Quiet g v = g
+noteFor (At p) g v = noteAt p g v
+
+unfoldable pub noteLost : Group → ℕ → Group
+noteLost g k = noteFor (cabinet g k .phase .alarm) g (cabinet g k .phase .version)

@@ -14,7 +14,7 @@ use Rattle.image.specs.Image.{booked}
 use Rattle.group.specs.declared.Group.{Group}
 use Rattle.group.specs.Group.{cabinet, stateOf, sum}
 use Rattle.load.specs.Load.{load, cabinetCount, feederTotal}
-use Rattle.protocol.specs.History.{Cut, Save, History, World, advance, run, opening, ends, latest, imageIn}
+use Rattle.protocol.specs.History.{Cut, Save, History, Operation, stepping, pointing, returning, World, advance, run, opening, ends, latest, imageIn}
 
 -- "A cabinet with no cut in that save sent and took none"
 abbrev pub sentIn : Option Cut → ℕ → List Payload
@@ -29,7 +29,8 @@ takenIn (some c) j = c .taken j
 abbrev pub Balanced : Save → Type 0
 Balanced s = (c d : ℕ) → takenIn (s .cut d) c ≡ sentIn (s .cut c) d
 
--- the image that counts for a cabinet: that of its cut, or for a failed one its image in the save restored after it failed
+-- the image that counts for a cabinet: that of its cut, or for a failed one its image in the save restored after it failed, or the one that
+-- the last return since then set
 abbrev pub counted : History → Group → ℕ → Option Image
 counted h g c = cond (works (stateOf g c)) (imageIn (latest h .cut c)) (h .lost c)
 
@@ -54,19 +55,25 @@ pub record Restored (n total : ℕ) (h : History) (g : Group) : Type 0 where
 abbrev pub Octets : List ℕ → Type 0
 Octets l = (i : ℕ) → getD l i 0 < 256
 
-abbrev pub Records : List (List ℕ) → Type 0
-Records [] = Unit {0}
-Records (r ∷ rs) = Octets r × Records rs
+-- names may be of any numbers
+abbrev pub OctetsIn : Operation → Type 0
+OctetsIn (stepping r) = Octets r
+OctetsIn (pointing name) = Unit {0}
+OctetsIn (returning name) = Unit {0}
 
--- "The list starts from the group, lines and store that load returned": the group and its history after the records of a list
-abbrev pub worldAfter : List ℕ → List (List ℕ) → World
-worldAfter f rs = run (opening (load f .group)) rs
+abbrev pub AllOctets : List Operation → Type 0
+AllOctets [] = Unit {0}
+AllOctets (x ∷ xs) = OctetsIn x × AllOctets xs
 
--- For every file that loads, every list of records rs and one record r more, each of any length and taken or refused: if in the step
--- of r the coordinator in the table of a working cabinet j goes from recovered to normal, all is restored. A recovery that ends earlier
--- in a list is covered by the records up to it. A crashed group ends none.
+-- "The list starts from the group, lines and store that load returned": the group, its points and its history after the operations of a list
+abbrev pub worldAfter : List ℕ → List Operation → World
+worldAfter f xs = run (opening (load f .group)) xs
+
+-- For every file that loads, every list of operations xs and one operation x more, each of any length and taken or refused: if in
+-- x the coordinator in the table of a working cabinet j goes from recovered to normal, all is restored. A recovery that ends earlier
+-- in a list is covered by the operations up to it. A crashed group ends none.
 abbrev pub DemandThree : Type 0
 DemandThree =
-    (f : List ℕ) → Octets f → load f .answer ≡ 0 → (rs : List (List ℕ)) → Records rs → (r : List ℕ) → Octets r
-    → (j : ℕ) → works (stateOf (worldAfter f rs .group) j) ≡ true → ends (worldAfter f rs .group) (advance (worldAfter f rs) r .group) j ≡ true
-    → Restored (cabinetCount f) (feederTotal f) (advance (worldAfter f rs) r .history) (advance (worldAfter f rs) r .group)
+    (f : List ℕ) → Octets f → load f .answer ≡ 0 → (xs : List Operation) → AllOctets xs → (x : Operation) → OctetsIn x
+    → (j : ℕ) → works (stateOf (worldAfter f xs .group) j) ≡ true → ends (worldAfter f xs .group) (advance (worldAfter f xs) x .group) j ≡ true
+    → Restored (cabinetCount f) (feederTotal f) (advance (worldAfter f xs) x .history) (advance (worldAfter f xs) x .group)

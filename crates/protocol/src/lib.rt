@@ -1,5 +1,8 @@
-// The steps of a group, and what a step record decodes to.
+// The steps of a group, what a step record decodes to, and a group with the points beside it.
 // The protocol itself is in specs/, closed runs of it are in proofs/, and the theorems about it in the crate claims.
+
+use group::Group;
+use points::Points;
 
 // A step with the fields that its kind uses. Cabinets are numbered from 1, as in the record.
 pub enum Step {
@@ -21,4 +24,22 @@ pub enum Decoded {
     Malformed,
     Unused,
     Taken(Step),
+}
+
+// An answer with the points after it.
+pub struct Noted {
+    pub answer: u8,
+    pub points: Points,
+}
+
+// A group and its points.
+pub struct Site {
+    pub group: Group,
+    pub points: Points,
+}
+
+// An answer with the group and its points after it.
+pub struct Turn {
+    pub answer: u8,
+    pub site: Site,
 }

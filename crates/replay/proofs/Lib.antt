@@ -1,3 +1,4 @@
--- The records of a list one after the other, and demand 3 of every moment of a run.
+-- The records of a list one after the other, the steps that they are, and demand 3 of every moment of a run.
 pub mod Records
+pub mod Steps
 pub mod Moments

@@ -1,8 +1,8 @@
--- Demand 3 of every moment of a run: the theorem of `protocol`, for the records before a moment and the one that comes then.
+-- Demand 3 of every moment of a run: the theorem of `claims`, for the operations before a moment and the one that comes then.
 use Prim.Native.Nat.{ℕ, zero, suc, _≤_, _<_}
 use mathlib.Core.Path.{_≡_, refl, sym, ap, _∙_, subst}
 use mathlib.Core.Bool.{Bool, true, false, cond}
-use mathlib.Core.List.{List, [], _∷_}
+use mathlib.Core.List.{List, [], _∷_, map}
 use lib.ListN.{length, getD, take, drop}
 use lib.Seq.{sets}
 use lib.Dec.{eqb}
@@ -15,32 +15,43 @@ use Rattle.group.specs.declared.Group.{Group}
 use Rattle.group.specs.declared.Outcome.{Outcome}
 use Rattle.group.specs.Group.{answering}
 use Rattle.load.specs.Load.{load, cabinetCount, feederTotal}
-use Rattle.protocol.specs.Listing.{records}
-use Rattle.protocol.specs.History.{World, advance, run, opening, ends}
-use Rattle.protocol.specs.Restored.{Restored, Octets, Records}
+use Rattle.protocol.specs.declared.Site.{Site}
+use Rattle.protocol.specs.Listing.{parts}
+use Rattle.protocol.specs.History.{Operation, stepping, pointing, returning, World, advance, run, opening, ends}
+use Rattle.protocol.specs.Restored.{Restored, Octets, OctetsIn, AllOctets}
+use Rattle.protocol.specs.Evening.{operate, operateAll, answersTo, noOperation}
 use Rattle.claims.proofs.Claims.Demand.{demand-three, same-state}
-use Rattle.protocol.specs.Entry.{stepAll, answersFrom}
-use Rattle.replay.specs.Replay.{recordsIn, after, replayed, answersOf, EndsWell}
+use Rattle.replay.specs.Replay.{atFirst, after, replayed, answersOf, EndsWell}
 
 -- ---- the run and the groups of it
 
-pub run-groups : (rs : List (List ℕ)) (w : World) → run w rs .group ≡ stepAll (w .group) rs
-unfolding run advance stepAll
-run-groups [] w = refl
-run-groups (r ∷ rs) w = run-groups rs (advance w r)
+abbrev siteOf : World → Site
+siteOf w = record { group = w .group; points = w .points }
 
--- one record more
-next-moment : (m : ℕ) (rs : List (List ℕ)) (w : World)
-    → (length rs ≤ m → run w (take (suc m) rs) ≡ run w (take m rs)) × (m < length rs → run w (take (suc m) rs) ≡ advance (run w (take m rs)) (getD rs m []))
+run-groups : (xs : List Operation) (w : World) → run w xs .group ≡ operateAll (siteOf w) xs .group
+unfolding run advance operateAll operate
+run-groups [] w = refl
+run-groups (stepping r ∷ xs) w = run-groups xs (advance w (stepping r))
+run-groups (pointing name ∷ xs) w = run-groups xs (advance w (pointing name))
+run-groups (returning name ∷ xs) w = run-groups xs (advance w (returning name))
+
+pub an-answer-each : (xs : List Operation) (s : Site) → length (answersTo s xs) ≡ length xs
+unfolding answersTo
+an-answer-each [] s = refl
+an-answer-each (x ∷ xs) s = ap suc (an-answer-each xs (operate s x .site))
+
+-- one operation more
+next-moment : (m : ℕ) (xs : List Operation) (w : World)
+    → (length xs ≤ m → run w (take (suc m) xs) ≡ run w (take m xs)) × (m < length xs → run w (take (suc m) xs) ≡ advance (run w (take m xs)) (getD xs m noOperation))
 unfolding run
 next-moment m [] w = ((λ h. none m), (λ h. absurd (omega arith)))
   where
     none : (m : ℕ) → run w (take (suc m) []) ≡ run w (take m [])
     none zero = refl
     none (suc m) = refl
-next-moment zero (r ∷ rs) w = ((λ h. absurd (omega arith)), (λ h. refl))
-next-moment (suc m) (r ∷ rs) w =
-    let ih = next-moment m rs (advance w r) in
+next-moment zero (x ∷ xs) w = ((λ h. absurd (omega arith)), (λ h. refl))
+next-moment (suc m) (x ∷ xs) w =
+    let ih = next-moment m xs (advance w x) in
     ((λ h. ih .0 (omega arith)), (λ h. ih .1 (omega arith)))
 
 -- ---- octets
@@ -49,75 +60,98 @@ next-moment (suc m) (r ∷ rs) w =
 typed : (l : List ℕ) → ((i : ℕ) → Fits w8 (getD l i 0)) → Octets l
 typed l h i = omega (arith, h i)
 
-octets-take : (n : ℕ) (l : List ℕ) → Octets l → Octets (take n l)
+pub octets-take : (n : ℕ) (l : List ℕ) → Octets l → Octets (take n l)
 octets-take zero l o i = omega arith
 octets-take (suc n) [] o i = omega arith
 octets-take (suc n) (x ∷ l) o zero = o zero
 octets-take (suc n) (x ∷ l) o (suc i) = octets-take n l (λ j. o (suc j)) i
 
-octets-drop : (n : ℕ) (l : List ℕ) → Octets l → Octets (drop n l)
+pub octets-drop : (n : ℕ) (l : List ℕ) → Octets l → Octets (drop n l)
 octets-drop zero l o = o
 octets-drop (suc n) [] o = o
 octets-drop (suc n) (x ∷ l) o = octets-drop n l (λ i. o (suc i))
 
-records-octets : (n : ℕ) (l : List ℕ) → Octets l → Records (records n l)
-unfolding records
-records-octets zero l o = tt
-records-octets (suc n) l o = go (eqb (length l) 0) (records-octets n (drop 6 l) (octets-drop 6 l o))
-  where
-    go : (t : Bool) → Records (records n (drop 6 l)) → Records (cond t [] (take 6 l ∷ records n (drop 6 l)))
-    go true r = tt
-    go false r = (octets-take 6 l o, r)
+-- of the operations that the parts of a list stand for
+module _ (f : List ℕ → Operation) (each : (r : List ℕ) → Octets r → OctetsIn (f r)) (w : ℕ) where
+  parts-octets : (n : ℕ) (l : List ℕ) → Octets l → AllOctets (map f (parts w n l))
+  unfolding parts
+  parts-octets zero l o = tt
+  parts-octets (suc n) l o = go (eqb (length l) 0) (parts-octets n (drop w l) (octets-drop w l o))
+    where
+      go : (t : Bool) → AllOctets (map f (parts w n (drop w l))) → AllOctets (map f (cond t [] (take w l ∷ parts w n (drop w l))))
+      go true r = tt
+      go false r = (each (take w l) (octets-take w l o), r)
 
-records-take : (m : ℕ) (rs : List (List ℕ)) → Records rs → Records (take m rs)
-records-take zero rs o = tt
-records-take (suc m) [] o = tt
-records-take (suc m) (r ∷ rs) o = (o .0, records-take m rs (o .1))
+  pub all-octets : (n : ℕ) (l : List ℕ) → ((i : ℕ) → Fits w8 (getD l i 0)) → AllOctets (map f (parts w n l))
+  all-octets n l in-list = parts-octets n l (typed l in-list)
 
-record-at : (m : ℕ) (rs : List (List ℕ)) → Records rs → Octets (getD rs m [])
-record-at m [] o = λ i. omega arith
-record-at zero (r ∷ rs) o = o .0
-record-at (suc m) (r ∷ rs) o = record-at m rs (o .1)
+octets-before : (m : ℕ) (xs : List Operation) → AllOctets xs → AllOctets (take m xs)
+octets-before zero xs o = tt
+octets-before (suc m) [] o = tt
+octets-before (suc m) (x ∷ xs) o = (o .0, octets-before m xs (o .1))
 
--- ---- what the function promises
+octets-at : (m : ℕ) (xs : List Operation) → AllOctets xs → OctetsIn (getD xs m noOperation)
+octets-at m [] o = λ i. omega arith
+octets-at zero (x ∷ xs) o = o .0
+octets-at (suc m) (x ∷ xs) o = octets-at m xs (o .1)
 
-module _ (file : List ℕ) (rs : List (List ℕ)) {o : Outcome} (e : o ≡ load file) where
+-- ---- what a function that runs a file promises
+
+module _ (file : List ℕ) (xs : List Operation) {o : Outcome} (e : o ≡ load file) where
   taken : o .answer ≡ 0 → eqb (load file .answer) 0 ≡ true
   taken z = eq-eqb (load file .answer) 0 (sym (ap (λ (x : Outcome). x .answer) e) ∙ z)
 
   left : (o .answer ≡ 0 → ⊥) → eqb (load file .answer) 0 ≡ false
   left n = ne-eqb (load file .answer) 0 (λ z. n (ap (λ (x : Outcome). x .answer) e ∙ z))
 
-  pub accepted : {g : Group} → o .answer ≡ 0 → g ≡ stepAll (o .group) rs → answering 0 g ≡ replayed file rs
-  accepted z q = rw (taken z) (ap (answering 0) (q ∙ ap (λ (x : Outcome). stepAll (x .group) rs) e ∙ sym (run-groups rs (opening (load file .group)))))
+  pub accepted : {g : Group} → o .answer ≡ 0 → g ≡ operateAll (atFirst (o .group)) xs .group → answering 0 g ≡ replayed file xs
+  accepted z q =
+      rw (taken z) (ap (answering 0) (q ∙ ap (λ (x : Outcome). operateAll (atFirst (x .group)) xs .group) e ∙ sym (run-groups xs (opening (load file .group)))))
 
-  pub answered : (before : List ℕ) {after : List ℕ} → o .answer ≡ 0 → after ≡ sets before 0 (answersFrom (o .group) rs) → after ≡ sets before 0 (answersOf file rs)
+  pub answered : (before : List ℕ) {after : List ℕ} → o .answer ≡ 0 → after ≡ sets before 0 (answersTo (atFirst (o .group)) xs)
+      → after ≡ sets before 0 (answersOf file xs)
   answered before z q = rw (taken z, ← e) q
 
-  pub refused : (o .answer ≡ 0 → ⊥) → o ≡ replayed file rs
+  pub refused : (o .answer ≡ 0 → ⊥) → o ≡ replayed file xs
   refused n = rw (left n) e
 
-  pub unanswered : (buffer : List ℕ) → (o .answer ≡ 0 → ⊥) → buffer ≡ sets buffer 0 (answersOf file rs)
+  pub unanswered : (buffer : List ℕ) → (o .answer ≡ 0 → ⊥) → buffer ≡ sets buffer 0 (answersOf file xs)
   unanswered buffer n = rw (left n)
 
--- the answer of the whole is that of load
-pub same-answer : (file : List ℕ) (rs : List (List ℕ)) → replayed file rs .answer ≡ load file .answer
-same-answer file rs = go (eqb (load file .answer) 0) refl
+-- ---- what its result says
+
+same-answer : (file : List ℕ) (xs : List Operation) → replayed file xs .answer ≡ load file .answer
+same-answer file xs = go (eqb (load file .answer) 0) refl
   where
-    go : (t : Bool) → eqb (load file .answer) 0 ≡ t → cond t (answering 0 (run (opening (load file .group)) rs .group)) (load file) .answer ≡ load file .answer
+    go : (t : Bool) → eqb (load file .answer) 0 ≡ t → cond t (answering 0 (run (opening (load file .group)) xs .group)) (load file) .answer ≡ load file .answer
     go true e = sym (eqb-true (load file .answer) 0 e)
     go false e = refl
 
-pub ends-well : (file list : List ℕ) → ((i : ℕ) → Fits w8 (getD file i 0)) → ((i : ℕ) → Fits w8 (getD list i 0)) → load file .answer ≡ 0 → EndsWell file (recordsIn list)
-ends-well file list in-file in-list e m j v en =
-    let rs : List (List ℕ) = recordsIn list in
-    let octets : Records rs = records-octets (length list) list (typed list in-list) in
-    let moments = next-moment m rs (opening (load file .group)) in
-    elim (decLt m (length rs)) [
+module _ (file : List ℕ) (xs : List Operation) {o : Outcome} (e : o ≡ replayed file xs) where
+  -- the answer of the whole is that of load
+  pub answer-of : o .answer ≡ load file .answer
+  answer-of = ap (λ (x : Outcome). x .answer) e ∙ same-answer file xs
+
+  pub loaded : o .answer ≡ 0 → eqb (load file .answer) 0 ≡ true
+  loaded z = eq-eqb (load file .answer) 0 (sym answer-of ∙ z)
+
+  pub unloaded : (o .answer ≡ 0 → ⊥) → eqb (load file .answer) 0 ≡ false
+  unloaded n = ne-eqb (load file .answer) 0 (λ q. n (answer-of ∙ q))
+
+  -- and where that is 0, the group is that after the last operation
+  pub group-of : o .answer ≡ 0 → o .group ≡ operateAll (atFirst (load file .group)) xs .group
+  group-of z = ap (λ (x : Outcome). x .group) (rw (loaded z) at e) ∙ run-groups xs (opening (load file .group))
+
+-- ---- demand 3
+
+pub ends-well : (file : List ℕ) → ((i : ℕ) → Fits w8 (getD file i 0)) → (xs : List Operation) → AllOctets xs → load file .answer ≡ 0 → EndsWell file xs
+ends-well file in-file xs octets e m j v en =
+    let moments = next-moment m xs (opening (load file .group)) in
+    elim (decLt m (length xs)) [
       | yes l ↦
           subst (λ (w : World). Restored (cabinetCount file) (feederTotal file) (w .history) (w .group)) (sym (moments .1 l))
-          (demand-three file (typed file in-file) e (take m rs) (records-take m rs octets) (getD rs m []) (record-at m rs octets) j v
-          (subst (λ (w : World). ends (after file rs m .group) (w .group) j ≡ true) (moments .1 l) en))
+          (demand-three file (typed file in-file) e (take m xs) (octets-before m xs octets) (getD xs m noOperation) (octets-at m xs octets) j v
+          (subst (λ (w : World). ends (after file xs m .group) (w .group) j ≡ true) (moments .1 l) en))
       | no n ↦
-          absurd (same-state (after file rs m .group) j (subst (λ (w : World). ends (after file rs m .group) (w .group) j ≡ true) (moments .0 (omega arith)) en))
+          absurd (same-state (after file xs m .group) j (subst (λ (w : World). ends (after file xs m .group) (w .group) j ≡ true) (moments .0 (omega arith)) en))
     ]

@@ -1,5 +1,6 @@
-// A group file and a list of step records, run from the first record to the last. This is the one
-// loop that takes steps; the contract carries demand 3.
+// A group file and a list of step records, run from the first record to the last; the contract
+// carries demand 3. What serves any list of operations is in specs/ and proofs/: `plans` runs one
+// with points and returns.
 use group::Group;
 use group::Outcome;
 ghost use Prim.Native.Nat.{min};
@@ -7,6 +8,7 @@ ghost use mathlib.Core.Path.{_≡_};
 ghost use lib.Seq.{sets};
 ghost use Rattle.load.specs.Load.{load};
 ghost use Rattle.protocol.specs.Entry.{stepAll, answersFrom};
+ghost use Rattle.protocol.specs.History.{steps};
 ghost use Rattle.replay.specs.Replay.{recordsIn, replayed, answersOf, EndsWell};
 
 pub fn least(a: usize, b: usize) -> usize
@@ -40,9 +42,9 @@ fn run(g: Group, list: &[u8], answers: &mut [u8]) -> Group
 // the one save that the rule gives, what each had taken from each other one is what that one had sent
 // it, and the bookings add up.
 pub fn replay(file: &[u8], list: &[u8], answers: &mut [u8]) -> Outcome
-    ensures { λ r. ⌜ r ≡ replayed (now (file .entry)) (recordsIn (now (list .entry))) ⌝ }
-    ensures { λ r. ⌜ now (answers .exit) ≡ sets (now (answers .entry)) 0 (answersOf (now (file .entry)) (recordsIn (now (list .entry)))) ⌝ }
-    ensures { λ r. ⌜ (load (now (file .entry)) .answer ≡ 0 → EndsWell (now (file .entry)) (recordsIn (now (list .entry)))) ⌝ }
+    ensures { λ r. ⌜ r ≡ replayed (now (file .entry)) (steps (recordsIn (now (list .entry)))) ⌝ }
+    ensures { λ r. ⌜ now (answers .exit) ≡ sets (now (answers .entry)) 0 (answersOf (now (file .entry)) (steps (recordsIn (now (list .entry))))) ⌝ }
+    ensures { λ r. ⌜ (load (now (file .entry)) .answer ≡ 0 → EndsWell (now (file .entry)) (steps (recordsIn (now (list .entry))))) ⌝ }
 {
     let o = loading::load(file);
     if o.answer == 0 {

@@ -1,35 +1,17 @@
 -- The listing needs no more of its files than the first 65,536 octets of the group file and the first 60,000 of the steps.
-use Prim.Native.Nat.{ℕ, zero, suc, _+_, _*_, _≤_, _<_}
+use Prim.Native.Nat.{ℕ, _+_, _≤_, _<_}
 use mathlib.Core.Path.{_≡_, refl, sym, ap, _∙_}
 use mathlib.Core.Bool.{Bool, true, false, _&&_, and-false}
-use mathlib.Core.List.{List, [], _∷_}
-use native.Mathlib.Nat.{zero-add, suc-add}
+use mathlib.Core.List.{List}
 use native.Mathlib.Omega.{arith, min-cases}
 use lib.Dec.{leb, eqb}
-use lib.ListN.{length, getD, take, drop, length-take}
-use lib.Seq.{take-nil, take-all, take-take, length-take-le, getD-take}
+use lib.ListN.{length, getD, take}
+use lib.Seq.{take-all, length-take-le, getD-take}
 use borrow.Author.Tests.{le-leb, eqb-true}
 use Rattle.group.specs.Group.{answering}
 use Rattle.load.specs.Load.{number, cabinetCount, totalLength, offsetsRight, refuse, noGroup, loadWith, load}
-use Rattle.protocol.specs.Listing.{records, listing}
-use Rattle.replay.proofs.Records.{some-record}
-
--- ---- the steps
-
-drop-take : (n m : ℕ) (l : List ℕ) → drop n (take (n + m) l) ≡ take m (drop n l)
-drop-take zero m l = rw zero-add
-drop-take (suc n) m [] = rw (take-nil (suc n + m), take-nil m)
-drop-take (suc n) m (x ∷ l) = rw suc-add (drop-take n m l)
-
-pub first-records : (n : ℕ) (l : List ℕ) → records n (take (6 * n) l) ≡ records n l
-unfolding records
-first-records zero l = refl
-first-records (suc n) [] = rw (take-nil (6 * suc n))
-first-records (suc n) (x ∷ l) =
-    let s : List ℕ = x ∷ l in
-    let e : 6 * suc n ≡ 6 + 6 * n = omega arith in
-    rw e (some-record n (take (6 + 6 * n) s) (omega (arith, length-take (6 + 6 * n) s))
-    ∙ rw (take-take 6 (6 + 6 * n) s (omega arith), drop-take 6 (6 * n) s, first-records n (drop 6 s)) (sym (some-record n s (omega arith))))
+use Rattle.protocol.specs.Listing.{listing}
+use Rattle.replay.proofs.Records.{first-parts}
 
 -- ---- the group file: where it is longer than its header can say, the header alone decides the refusal
 
@@ -63,7 +45,7 @@ long-load f m l =
 same-number : (f : List ℕ) (i : ℕ) → i < 9 → number (take 65536 f) i ≡ number f i
 same-number f i h = rw (getD-take 65536 f i 0 (omega arith), getD-take 65536 f (i + 1) 0 (omega arith))
 
-same-load : (f : List ℕ) → number f 8 ≤ 65535 → load (take 65536 f) ≡ load f
+pub same-load : (f : List ℕ) → number f 8 ≤ 65535 → load (take 65536 f) ≡ load f
 same-load f m =
     min-cases 65536 (length f) _
     (λ l q.
@@ -78,4 +60,4 @@ same-load f m =
 
 pub enough : (file steps : List ℕ) → ((i : ℕ) → getD file i 0 < 256) → listing (take 65536 file) (take 60000 steps) ≡ listing file steps
 unfolding listing
-enough file steps o = rw (same-load file (omega (arith, o 8, o 9)), first-records 10000 steps)
+enough file steps o = rw (same-load file (omega (arith, o 8, o 9)), first-parts 6 10000 steps (omega arith))

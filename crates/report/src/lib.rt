@@ -6,6 +6,7 @@ ghost use lib.ListN.{length};
 ghost use lib.Seq.{sets};
 ghost use Rattle.load.specs.Load.{load};
 ghost use Rattle.protocol.specs.Listing.{stepLines, cabLines, records, listing};
+ghost use Rattle.protocol.specs.History.{steps};
 ghost use Rattle.buffer.specs.Written.{Written};
 ghost use Rattle.replay.specs.Replay.{EndsWell};
 
@@ -24,7 +25,7 @@ fn step_lines(out: &mut [u8], answers: &[u8]) -> usize
 }
 
 // A line for each cabinet, at most 255 of them.
-fn cab_lines(out: &mut [u8], at: usize, g: Group) -> usize
+pub fn cab_lines(out: &mut [u8], at: usize, g: Group) -> usize
     ensures { λ r. ⌜ Written (cabLines (g .n) g) at (now (out .entry)) r (now (out .exit)) ⌝ }
     ensures { λ r. ⌜ g .n ≤ 255 ⌝ }
 {
@@ -46,7 +47,7 @@ pub fn write_listing(file: &[u8], list: &[u8], out: &mut [u8]) -> usize
     ensures { λ r. ⌜ r ≡ length (listing (now (file .entry)) (now (list .entry))) ⌝ }
     ensures { λ r. ⌜ now (out .exit) ≡ sets (now (out .entry)) 0 (listing (now (file .entry)) (now (list .entry))) ⌝ }
     ensures { λ r. ⌜ r ≤ 200000 ⌝ }
-    ensures { λ r. ⌜ (load (now (file .entry)) .answer ≡ 0 → EndsWell (now (file .entry)) (records 10000 (now (list .entry)))) ⌝ }
+    ensures { λ r. ⌜ (load (now (file .entry)) .answer ≡ 0 → EndsWell (now (file .entry)) (steps (records 10000 (now (list .entry))))) ⌝ }
 {
     let used = replay::least(list.len(), 60000);
     let mut answers = [0u8; 10000];

@@ -88,7 +88,7 @@ fn end_if_all(g: Group, k: u8) -> Group
     let cabinets = table.cabinets;
     let recovered = state::is_in(g.state_of(k), State::Recovered);
     if marks::and(recovered, marks::covers(restored, cabinets)) {
-        moves::end_recovery(g, k)
+        moves::end_recovery(moves::note_lost(g, k), k)
     } else {
         g
     }

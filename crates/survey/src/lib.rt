@@ -5,10 +5,10 @@ use group::Outcome;
 use state::State;
 ghost use mathlib.Core.Path.{_≡_};
 ghost use mathlib.Core.Bool.{_&&_};
-ghost use Rattle.state.specs.declared.State.the-variants.{Error, Crashed};
+ghost use Rattle.state.specs.declared.State.the-variants.{Normal, Error, Crashed};
 ghost use Rattle.state.specs.State.{works, isIn, inRecovery, isUnknown};
 ghost use Rattle.cabinet.specs.Cabinet.{crashing};
-ghost use Rattle.group.specs.Group.{cabinet, stateOf, those, some, working, recoveringOnes, unsure, isCrashed, crashAll, crashed};
+ghost use Rattle.group.specs.Group.{cabinet, stateOf, those, some, working, recoveringOnes, unsure, isCrashed, normalOnes, hasLaden, ladenOnes, quiet, crashAll, crashed};
 
 // One is marked.
 pub fn some(marks: [bool; 8]) -> bool
@@ -113,6 +113,58 @@ pub fn is_crashed(g: Group) -> bool
     ensures { λ r. ⌜ r ≡ isCrashed g ⌝ }
 {
     some(crashed_ones(g))
+}
+
+fn normal_at(g: Group, i: u8) -> bool
+    ensures { λ r. ⌜ r ≡ isIn (stateOf g i) Normal ⌝ }
+{
+    state::is_in(g.state_of(i), State::Normal)
+}
+
+fn normal_ones(g: Group) -> [bool; 8]
+    ensures { λ r. ⌜ r ≡ normalOnes g ⌝ }
+{
+    [
+        normal_at(g, 0),
+        normal_at(g, 1),
+        normal_at(g, 2),
+        normal_at(g, 3),
+        normal_at(g, 4),
+        normal_at(g, 5),
+        normal_at(g, 6),
+        normal_at(g, 7),
+    ]
+}
+
+// One of the lines of cabinet i holds a packet.
+fn has_laden(g: Group, i: u8) -> bool
+    ensures { λ r. ⌜ r ≡ hasLaden g i ⌝ }
+{
+    some(g.outgoing(i).laden())
+}
+
+fn laden_ones(g: Group) -> [bool; 8]
+    ensures { λ r. ⌜ r ≡ ladenOnes g ⌝ }
+{
+    [
+        has_laden(g, 0),
+        has_laden(g, 1),
+        has_laden(g, 2),
+        has_laden(g, 3),
+        has_laden(g, 4),
+        has_laden(g, 5),
+        has_laden(g, 6),
+        has_laden(g, 7),
+    ]
+}
+
+// Every working cabinet is in normal and every line empty.
+pub fn quiet(g: Group) -> bool
+    ensures { λ r. ⌜ r ≡ quiet g ⌝ }
+{
+    let settled = marks::covers(normal_ones(g), working(g));
+    let still = !some(laden_ones(g));
+    marks::and(settled, still)
 }
 
 fn crashing_at(g: Group, i: u8) -> Cabinet

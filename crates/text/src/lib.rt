@@ -5,30 +5,15 @@ use state::Version;
 ghost use mathlib.Core.Path.{_≡_};
 ghost use mathlib.Core.List.{[], _∷_};
 ghost use Rattle.protocol.specs.Listing.{
-  stateWord,
   versionWord,
   loadLine,
+  answerLine,
   stepLine,
   cabRest,
   cabLine,
 };
+ghost use Rattle.protocol.specs.Evening.{wordOf};
 ghost use Rattle.buffer.specs.Written.{Written};
-
-fn state_word(out: &mut [u8], at: usize, s: State) -> usize
-    ensures { λ r. ⌜ Written (stateWord s) at (now (out .entry)) r (now (out .exit)) ⌝ }
-{
-    match s {
-        State::Failed => buffer::word(out, at, b"failed"),
-        State::Normal => buffer::word(out, at, b"normal"),
-        State::CheckpBegin => buffer::word(out, at, b"checkp-begin"),
-        State::Checkpointing => buffer::word(out, at, b"checkpointing"),
-        State::Checkpointed => buffer::word(out, at, b"checkpointed"),
-        State::Error => buffer::word(out, at, b"error"),
-        State::Recovering => buffer::word(out, at, b"recovering"),
-        State::Recovered => buffer::word(out, at, b"recovered"),
-        State::Crashed => buffer::word(out, at, b"crashed"),
-    }
-}
 
 fn version_octet(v: Version) -> u8
     ensures { λ r. ⌜ r ∷ [] ≡ versionWord v ⌝ }
@@ -53,13 +38,32 @@ pub fn load_line(out: &mut [u8], at: usize, k: u8) -> usize
     end_line(out, at)
 }
 
-pub fn step_line(out: &mut [u8], at: usize, k: u16, answer: u8) -> usize
-    ensures { λ r. ⌜ Written (stepLine k answer) at (now (out .entry)) r (now (out .exit)) ⌝ }
+fn answer_line(out: &mut [u8], at: usize, word: &[u8], k: u16, answer: u8) -> usize
+    ensures { λ r. ⌜ Written (answerLine (now (word .entry)) k answer) at (now (out .entry)) r (now (out .exit)) ⌝ }
 {
-    let at = buffer::word(out, at, b"step");
+    let at = buffer::word(out, at, word);
     let at = buffer::number(out, at, k);
     let at = buffer::number(out, at, answer as u16);
     end_line(out, at)
+}
+
+pub fn step_line(out: &mut [u8], at: usize, k: u16, answer: u8) -> usize
+    ensures { λ r. ⌜ Written (stepLine k answer) at (now (out .entry)) r (now (out .exit)) ⌝ }
+{
+    answer_line(out, at, b"step", k, answer)
+}
+
+// The line of a plan's record, by the record's first octet.
+pub fn plan_line(out: &mut [u8], at: usize, first: u8, k: u16, answer: u8) -> usize
+    ensures { λ r. ⌜ Written (answerLine (wordOf first) k answer) at (now (out .entry)) r (now (out .exit)) ⌝ }
+{
+    if first == 1 {
+        return answer_line(out, at, b"point", k, answer);
+    }
+    if first == 2 {
+        return answer_line(out, at, b"return", k, answer);
+    }
+    step_line(out, at, k, answer)
 }
 
 // The state and, unless it is failed, version and booking.
@@ -70,7 +74,7 @@ fn cab_rest(out: &mut [u8], at: usize, c: Cabinet) -> usize
     let state = phase.state;
     let version = phase.version;
     let at = buffer::put(out, at, b' ');
-    let at = state_word(out, at, state);
+    let at = words::state_word(out, at, state);
     if state::works(state) {
         let at = buffer::put(out, at, b' ');
         let at = buffer::put(out, at, version_octet(version));

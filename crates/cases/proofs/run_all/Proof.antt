@@ -6,10 +6,10 @@ use Rattle.cases.proofs.run_all.Statement.{statement}
 use Rattle.cases.proofs.run_all.Tie as tie
 
 abbrev Inv-loop : tie.InvT-loop
-Inv-loop fd t₀ number₀ t number = t .agree + t .differ ≤ number
+Inv-loop kind fd t₀ number₀ t number = t .agree + t .differ ≤ number
 
 abbrev μ-loop : tie.MeasureT-loop
-μ-loop fd t₀ number₀ t number = 1000000 - number
+μ-loop kind fd t₀ number₀ t number = 1000000 - number
 
 loop-holds : tie.Need-loop-holds Inv-loop μ-loop
 loop-holds c = omega arith

@@ -21,8 +21,8 @@ use Rattle.group.specs.declared.Group.{Group}
 use Rattle.group.specs.Group.{cabinet, stateOf, line, isCrashed, sum}
 use Rattle.load.specs.Load.{load, feederTotal}
 use Rattle.protocol.specs.Receive.{takesFrom}
-use Rattle.protocol.specs.History.{run, opening}
-use Rattle.protocol.specs.Restored.{Octets, Records}
+use Rattle.protocol.specs.History.{Operation}
+use Rattle.protocol.specs.Restored.{Octets, AllOctets, worldAfter}
 use Rattle.claims.specs.Bounds.{LinesBounded, NeverWraps}
 use Rattle.claims.proofs.State.Fun.{never, is-true, sum-add, sum-swap}
 use Rattle.claims.proofs.State.View.{View, packetOf, content, view}
@@ -31,7 +31,6 @@ use Rattle.claims.proofs.Invariant.Facts.{Ghost, Pair, unaware}
 use Rattle.claims.proofs.Invariant.Whole.{Inv, outOf, gotOf}
 use Rattle.claims.proofs.Invariant.Words.{un-of, un-works, live-line}
 use Rattle.claims.proofs.Moves.Taking.{taken-pair}
-use Rattle.claims.proofs.State.Runs.{every-run}
 use Rattle.claims.proofs.Claims.Demand.{Runs, every-list}
 
 -- ---- sizes
@@ -51,16 +50,15 @@ packets-within [] = omega arith
 packets-within (c ∷ cs) = omega (arith, one-within (c .packet) (content cs), packets-within cs)
 
 pub lines-bounded : LinesBounded
-lines-bounded f of e rs o a b =
-    let h = every-run f of rs o .lines a b in
-    (omega (arith, packets-within (line (run (opening (load f .group)) rs .group) a b .cells), h .twelve), h .few)
+lines-bounded f of e xs o a b =
+    let h = every-list f of e xs o .fit .lines a b in
+    (omega (arith, packets-within (line (worldAfter f xs .group) a b .cells), h .twelve), h .few)
 
 -- ---- what holds of every group that has not crashed
 
-pub running : (f : List ℕ) → Octets f → load f .answer ≡ 0 → (rs : List (List ℕ)) → Records rs
-    → isCrashed (run (opening (load f .group)) rs .group) ≡ false
-    → Runs (feederTotal f) (run (opening (load f .group)) rs .group) (run (opening (load f .group)) rs .history)
-running f of e rs o c = ⊎-elim (λ x. absurd (never x c)) (λ w. w) (every-list f of e rs o)
+pub running : (f : List ℕ) → Octets f → load f .answer ≡ 0 → (xs : List Operation) → AllOctets xs
+    → isCrashed (worldAfter f xs .group) ≡ false → Runs (feederTotal f) (worldAfter f xs .group) (worldAfter f xs .history)
+running f of e xs o c = ⊎-elim (λ x. absurd (never x c)) (λ w. w) (every-list f of e xs o .going)
 
 -- ---- additions
 
@@ -146,6 +144,6 @@ module _ (total : ℕ) (g : Group) (γ : Ghost) (i : Inv (g .n) total (view g) �
       omega (arith, all-within, all-booked, sum-add (λ c. booked (γ .mind c .base)) (λ c. gotOf γ c) 8, s .bases, s .least)
 
 pub never-wraps : NeverWraps
-never-wraps f of e rs o c unhurt =
-    let w = running f of e rs o c in
+never-wraps f of e xs o c unhurt =
+    let w = running f of e xs o c in
     no-wrap _ _ (w .ghost) (w .inv) (is-true (w .ghost .big .clean) (λ x. never (w .past .hurt ∙ ap not x) unhurt))

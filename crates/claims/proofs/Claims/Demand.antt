@@ -1,38 +1,46 @@
--- Demand 3: for every file that loads and every list of records, whenever a coordinator ends a recovery.
+-- Demand 3: for every file that loads and every list of operations, whenever a coordinator ends a recovery.
 use Prim.Native.Nat.{ℕ, zero, suc, _<_, _≤_}
 use mathlib.Core.Path.{_≡_, refl, sym, ap, _∙_, subst}
 use mathlib.Core.Logic.{_⊎_, inl, inr, ⊎-elim}
 use mathlib.Core.Bool.{Bool, true, false, cond, not, _&&_}
-use mathlib.Core.List.{List, [], _∷_}
-use borrow.Author.Tests.{eq-eqb, ne-eqb, lt-ltb}
+use mathlib.Core.List.{List, [], _∷_, _++_}
+use mathlib.Core.Option.{Option, some}
+use lib.Dec.{eqb, ltb}
+use borrow.Author.Tests.{eqb-true, eq-eqb, ne-eqb, lt-ltb}
 use native.Mathlib.Omega.{arith}
 use native.Mathlib.Decide.{ℕ-discrete, decLt}
 use Rattle.marks.specs.Marks.{lowest}
 use Rattle.marks.specs.MarksLaws.{lowest-le-marked}
 use Rattle.state.specs.declared.State.{State}
 use Rattle.state.specs.declared.State.the-variants.{Normal, Recovered, Crashed}
+use Rattle.image.specs.declared.Image.{Image}
 use Rattle.cabinet.specs.declared.Cabinet.{Cabinet}
 use Rattle.state.specs.State.{isIn, works, inRecovery}
 use Rattle.cabinet.specs.Cabinet.{absent, coordinator, crashing, withState}
+use Rattle.points.specs.declared.Point.{Point}
+use Rattle.points.specs.declared.Points.{Points}
+use Rattle.points.specs.Points.{pointAt, withPoint, placeOf, placeFor}
 use Rattle.group.specs.declared.Group.{Group}
 use Rattle.group.specs.declared.Outcome.{Outcome}
-use Rattle.group.specs.Group.{cabinet, stateOf, those, some, isCrashed, crashAll}
-use Rattle.load.specs.Load.{load, feederTotal}
+use Rattle.group.specs.Group.{cabinet, stateOf, those, some as any, isCrashed, quiet, crashAll}
+use Rattle.load.specs.Load.{load, cabinetCount, feederTotal}
 use Rattle.load.proofs.Loaded.{starts}
+use Rattle.protocol.specs.declared.Noted.{Noted}
 use Rattle.protocol.specs.declared.Step.{Step}
 use Rattle.protocol.specs.declared.Decoded.{Decoded}
 use Rattle.protocol.specs.declared.Decoded.the-variants.{Malformed, Unused, Taken}
 use Rattle.protocol.specs.Kinds.{need, orRefuse}
 use Rattle.protocol.specs.Entry.{step, stepDecoded, decode, firstOf, secondOf, isCabinet, actorWorks, perform}
-use Rattle.protocol.specs.History.{History, World, recordDecoded, advance, run, opening, ends}
-use Rattle.protocol.specs.Restored.{Restored, Octets, Records, worldAfter, DemandThree}
-use Rattle.claims.proofs.State.Fun.{never, and-true, and-intro, cond-elim}
-use Rattle.claims.proofs.State.Every.{every-step, FitsIn, decode-fits}
+use Rattle.protocol.specs.Points.{pointOf, pointRefusal, takePoint, returned, returnRefusal, returnTo}
+use Rattle.protocol.specs.History.{History, Operation, stepping, pointing, returning, World, notePoint, noteReturn, ifTaken, recordDecoded, advance, run, opening, ends}
+use Rattle.protocol.specs.Restored.{Restored, Octets, OctetsIn, AllOctets, worldAfter, DemandThree}
+use Rattle.claims.proofs.State.Fun.{never, and-true, and-intro, not-true-false, cond-elim}
+use Rattle.claims.proofs.State.Every.{passed, every-step, FitsIn, decode-fits}
 use Rattle.claims.proofs.State.Counting.{step-n}
 use Rattle.claims.proofs.State.View.{view}
 use Rattle.claims.proofs.State.Shape.{Shaped, Lined, Pictured, shaped}
 use Rattle.claims.proofs.State.Sim.{Fit}
-use Rattle.claims.proofs.State.Runs.{loaded-fit}
+use Rattle.claims.proofs.State.Loaded.{loaded-fit}
 use Rattle.claims.proofs.Answers.Tests.{in-state, those-marked}
 use Rattle.claims.proofs.Answers.Entry.{refusal-keeps, crash-stops}
 use Rattle.claims.proofs.Invariant.States.{failed-state, not-both}
@@ -41,9 +49,14 @@ use Rattle.claims.proofs.Invariant.Whole.{Inv}
 use Rattle.claims.proofs.Invariant.Past.{Past, Next, Stays, after}
 use Rattle.claims.proofs.Invariant.Words.{un-or-aware, un-not-aware, aware-faulted, chief-of}
 use Rattle.claims.proofs.Invariant.Opening.{starts-inv, starts-past}
+use Rattle.claims.proofs.Invariant.Points.{PointsHeld, none-held, found}
+use Rattle.claims.proofs.Moves.Returning.{keeps-point, past-point, keeps-return, fit-returned, n-returned, states-returned}
+use Rattle.claims.proofs.Claims.Left.{step-leaves}
 use Rattle.claims.proofs.Claims.Stepping.{entered}
 
--- ---- what holds after every list of records: the group has crashed, or there is a ghost with which the invariant holds
+-- ---- what holds after every list of operations
+
+-- there is a ghost with which the invariant holds
 
 pub record Runs (total : ℕ) (g : Group) (h : History) : Type 0 where
   pub ghost : Ghost
@@ -51,8 +64,14 @@ pub record Runs (total : ℕ) (g : Group) (h : History) : Type 0 where
   pub inv : Inv (g .n) total (view g) ghost
   pub past : Past (g .n) (view g) ghost h
 
-abbrev pub Good : ℕ → Group → History → Type 0
-Good total g h = (isCrashed g ≡ true) ⊎ Runs total g h
+abbrev pub Going : ℕ → Group → History → Type 0
+Going total g h = (isCrashed g ≡ true) ⊎ Runs total g h
+
+-- all has its size and the points stand, whether the group has crashed or not
+pub record Good (total : ℕ) (w : World) : Type 0 where
+  pub fit : Fit (w .group)
+  pub points : PointsHeld (w .group .n) total (w .points) (w .history .points)
+  pub going : Going total (w .group) (w .history)
 
 -- ---- a crashed group
 
@@ -90,7 +109,7 @@ crash-normal g c = elim (decLt c 8) [
 ]
 
 crashed-one : (g : Group) (c : ℕ) → c < 8 → works (stateOf g c) ≡ true → isCrashed (crashAll g) ≡ true
-unfolding isCrashed some
+unfolding isCrashed any
 crashed-one g c l w =
     let m = those (λ x. isIn (x .phase .state) Crashed) (crashAll g) in
     let e = those-marked (λ x. isIn (x .phase .state) Crashed) (crashAll g) c l
@@ -194,7 +213,7 @@ module _ (total : ℕ) (g : Group) (h : History) (r : List ℕ) (o : Octets r) w
         let k = coordinator (cabinet g j) in
         never (and-true {s = isIn (stateOf g k) Recovered} e .1) (ap (λ (x : Group). isIn (stateOf x k) Normal) (crash-stops g r f) ∙ crash-normal g k)
 
-    one-step : Good total g′ h′ × Demanded
+    one-step : Going total g′ h′ × Demanded
     one-step = elim (ℕ-discrete (step g r .answer) 0) [
       | yes a ↦ let t = taken-runs a in (inr (t .0), t .1)
       | no n ↦ elim (ℕ-discrete (step g r .answer) 50) [
@@ -214,34 +233,161 @@ module _ (total : ℕ) (g : Group) (h : History) (r : List ℕ) (o : Octets r) w
       ]
     ]
 
-  pub good-step : Good total g h → Good total g′ h′ × Demanded
-  good-step (inl c) =
+  pub going-on : Going total g h → Going total g′ h′ × Demanded
+  going-on (inl c) =
       let same = stopped g r c in
       (inl (ap isCrashed same ∙ c), λ j v e. absurd (same-state g j (subst (λ (x : Group). ends g x j ≡ true) same e)))
-  good-step (inr w) = one-step w
+  going-on (inr w) = one-step w
 
--- ---- every list of records
+-- ---- one operation
 
-good-run : (total : ℕ) (rs : List (List ℕ)) (w : World) → Records rs → Good total (w .group) (w .history) → Good total (run w rs .group) (run w rs .history)
-unfolding run advance
+module _ (total : ℕ) (w : World) (good : Good total w) where
+  abbrev g₀ : Group
+  g₀ = w .group
+
+  abbrev h₀ : History
+  h₀ = w .history
+
+  abbrev n₀ : ℕ
+  n₀ = g₀ .n
+
+  -- what holds of the world after an operation, and of a recovery that ends in it
+  abbrev Onward : World → Type 0
+  Onward u = Good total u × ((j : ℕ) → works (stateOf g₀ j) ≡ true → ends g₀ (u .group) j ≡ true → Restored n₀ total (u .history) (u .group))
+
+  by-step : (r : List ℕ) → Octets r → Onward (advance w (stepping r))
+  unfolding advance
+  by-step r o =
+      let s = going-on total g₀ h₀ r o (good .going) in (
+        record {
+          fit = every-step Shaped Lined Pictured shaped g₀ r o (good .fit);
+          points = subst (λ (m : ℕ). PointsHeld m total (w .points) (recordDecoded h₀ g₀ (step g₀ r) (decode r) .points)) (sym (step-n g₀ r))
+              (subst (PointsHeld n₀ total (w .points)) (sym (step-leaves h₀ g₀ (step g₀ r) (decode r) .points)) (good .points));
+          going = s .0;
+        },
+        s .1,
+      )
+
+  -- not crashed, so that the invariant holds
+  runs : not (isCrashed g₀) ≡ true → Runs total g₀ h₀
+  runs e = ⊎-elim (λ c. absurd (never c (not-true-false e))) (λ x. x) (good .going)
+
+  by-point : (name : List ℕ) → Onward (advance w (pointing name))
+  unfolding advance takePoint
+  by-point name =
+      cond-elim (λ (x : Noted). Onward (record { group = g₀; points = x .points; history = ifTaken (x .answer) (notePoint h₀ name) h₀ })) (eqb k 0)
+      (λ e. (taken-point (eqb-true k 0 e), λ j v f. absurd (same-state g₀ j f)))
+      (λ e. (subst (λ (t : Bool). Good total (record { group = g₀; points = w .points; history = cond t (notePoint h₀ name) h₀ })) (sym e) good, λ j v f. absurd (same-state g₀ j f)))
+    where
+      k : ℕ
+      k = pointRefusal (w .points) g₀ name
+
+      taken-point : k ≡ 0 → Good total (record { group = g₀; points = withPoint (w .points) (placeFor (w .points) name) (pointOf g₀ name); history = notePoint h₀ name })
+      taken-point e =
+          let one = passed (not (isCrashed g₀)) 9 _ e in
+          let two = passed (quiet g₀) 21 _ (one .1) in
+          let three = passed (ltb (placeFor (w .points) name) 4) 22 0 (two .1) in
+          let u = runs (one .0) in
+          record {
+            fit = good .fit;
+            points = keeps-point total g₀ h₀ (u .ghost) (u .fit) (u .inv) (u .past) (two .0) name (good .points) (three .0);
+            going = inr (record { ghost = u .ghost; fit = u .fit; inv = u .inv; past = past-point (u .past) name });
+          }
+
+  by-return : (name : List ℕ) → Onward (advance w (returning name))
+  unfolding advance returnTo
+  by-return name =
+      cond-elim (λ (x : Outcome). Onward (record { group = x .group; points = w .points; history = ifTaken (x .answer) (noteReturn (h₀ .points name) h₀ g₀) h₀ })) (eqb k 0)
+      (λ e. returns (eqb-true k 0 e))
+      (λ e. (subst (λ (t : Bool). Good total (record { group = g₀; points = w .points; history = cond t (noteReturn (h₀ .points name) h₀ g₀) h₀ })) (sym e) good, λ j v f. absurd (same-state g₀ j f)))
+    where
+      k : ℕ
+      k = returnRefusal (w .points) g₀ name
+
+      p : Point
+      p = pointAt (w .points) (placeOf (w .points) name)
+
+      returns : k ≡ 0 → Onward (record { group = returned g₀ p; points = w .points; history = noteReturn (h₀ .points name) h₀ g₀ })
+      returns e =
+          let one = passed (not (isCrashed g₀)) 9 _ e in
+          let two = passed (ltb (placeOf (w .points) name) 4) 20 _ (one .1) in
+          let three = passed (quiet g₀) 21 0 (two .1) in
+          let u = runs (one .0) in
+          let f = found (good .points) name (two .0) in
+          let m = keeps-return total g₀ h₀ (u .ghost) (u .fit) (u .inv) (u .past) (three .0) p (f .0) (f .2) in
+          let fit = fit-returned g₀ (good .fit) p (f .2) in
+          let n = sym (n-returned g₀ (good .fit) p (f .2)) in
+          subst (λ (x : Option (ℕ → Option Image)). Onward (record { group = returned g₀ p; points = w .points; history = noteReturn x h₀ g₀ })) (sym (f .1)) (
+            record {
+              fit = fit;
+              points = subst (λ (c : ℕ). PointsHeld c total (w .points) (h₀ .points)) n (good .points);
+              going = inr (record {
+                ghost = m .ghost;
+                fit = fit;
+                inv = subst (λ (c : ℕ). Inv c total (view (returned g₀ p)) (m .ghost)) n (m .inv);
+                past = subst (λ (c : ℕ). Past c (view (returned g₀ p)) (m .ghost) (noteReturn (some (f .0)) h₀ g₀)) n (m .past);
+              });
+            },
+            λ j v t. absurd (same-ends j (states-returned g₀ (good .fit) p (f .2)) t),
+          )
+        where
+          same-ends : (j : ℕ) → ((c : ℕ) → stateOf (returned g₀ p) c ≡ stateOf g₀ c) → ends g₀ (returned g₀ p) j ≡ true → ⊥
+          same-ends j same t =
+              let c = coordinator (cabinet g₀ j) in
+              same-state g₀ j (ap (λ (s : State). isIn (stateOf g₀ c) Recovered && isIn s Normal) (sym (same c)) ∙ t)
+
+  pub one-more : (x : Operation) → OctetsIn x → Onward (advance w x)
+  one-more (stepping r) o = by-step r o
+  one-more (pointing name) o = by-point name
+  one-more (returning name) o = by-return name
+
+-- ---- every list of operations
+
+good-run : (total : ℕ) (xs : List Operation) (w : World) → AllOctets xs → Good total w → Good total (run w xs)
+unfolding run
 good-run total [] w o h = h
-good-run total (r ∷ rs) w o h = good-run total rs (advance w r) (o .1) (good-step total (w .group) (w .history) r (o .0) h .0)
+good-run total (x ∷ xs) w o h = good-run total xs (advance w x) (o .1) (one-more total w h x (o .0) .0)
 
-pub run-n : (rs : List (List ℕ)) (w : World) → run w rs .group .n ≡ w .group .n
-unfolding run advance
+return-n : (ps : Points) (g : Group) (name : List ℕ) → returnTo ps g name .group .n ≡ g .n
+unfolding returnTo returned
+return-n ps g name = cond-elim (λ (x : Outcome). x .group .n ≡ g .n) (eqb (returnRefusal ps g name) 0) (λ _. refl) (λ _. refl)
+
+advance-n : (x : Operation) (w : World) → advance w x .group .n ≡ w .group .n
+unfolding advance
+advance-n (stepping r) w = step-n (w .group) r
+advance-n (pointing name) w = refl
+advance-n (returning name) w = return-n (w .points) (w .group) name
+
+pub run-n : (xs : List Operation) (w : World) → run w xs .group .n ≡ w .group .n
+unfolding run
 run-n [] w = refl
-run-n (r ∷ rs) w = run-n rs (advance w r) ∙ step-n (w .group) r
+run-n (x ∷ xs) w = run-n xs (advance w x) ∙ advance-n x w
 
-pub every-list : (f : List ℕ) → Octets f → load f .answer ≡ 0 → (rs : List (List ℕ)) → Records rs → Good (feederTotal f) (worldAfter f rs .group) (worldAfter f rs .history)
-every-list f of e rs o =
+pub every-list : (f : List ℕ) → Octets f → load f .answer ≡ 0 → (xs : List Operation) → AllOctets xs → Good (feederTotal f) (worldAfter f xs)
+every-list f of e xs o =
     let st = starts f of e in
     let fit = loaded-fit f of in
-    good-run (feederTotal f) rs (opening (load f .group)) o
-    (inr (record { ghost = _; fit = fit; inv = starts-inv f (load f .group) st fit; past = starts-past f (load f .group) st fit }))
+    good-run (feederTotal f) xs (opening (load f .group)) o (record {
+      fit = fit;
+      points = none-held (load f .group .n) (feederTotal f);
+      going = inr (record { ghost = _; fit = fit; inv = starts-inv f (load f .group) st fit; past = starts-past f (load f .group) st fit });
+    })
+
+-- a list and then another
+pub run-append : (w : World) (xs ys : List Operation) → run (run w xs) ys ≡ run w (xs ++ ys)
+unfolding run
+run-append w [] ys = refl
+run-append w (x ∷ xs) ys = run-append (advance w x) xs ys
+
+pub octets-append : (xs ys : List Operation) → AllOctets xs → AllOctets ys → AllOctets (xs ++ ys)
+octets-append [] ys o p = p
+octets-append (x ∷ xs) ys o p = (o .0, octets-append xs ys (o .1) p)
+
+-- the number of cabinets is the file's
+pub count-after : (f : List ℕ) → Octets f → load f .answer ≡ 0 → (xs : List Operation) → worldAfter f xs .group .n ≡ cabinetCount f
+count-after f of e xs = run-n xs (opening (load f .group)) ∙ starts f of e .count
 
 pub demand-three : DemandThree
-unfolding advance
-demand-three f of e rs o r or j v en =
-    subst (λ (n : ℕ). Restored n (feederTotal f) (advance (worldAfter f rs) r .history) (advance (worldAfter f rs) r .group))
-    (run-n rs (opening (load f .group)) ∙ starts f of e .count)
-    (good-step (feederTotal f) (worldAfter f rs .group) (worldAfter f rs .history) r or (every-list f of e rs o) .1 j v en)
+demand-three f of e xs o x ox j v en =
+    subst (λ (n : ℕ). Restored n (feederTotal f) (advance (worldAfter f xs) x .history) (advance (worldAfter f xs) x .group)) (count-after f of e xs)
+    (one-more (feederTotal f) (worldAfter f xs) (every-list f of e xs o) x ox .1 j v en)

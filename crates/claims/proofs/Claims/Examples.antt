@@ -1,21 +1,24 @@
--- Demand 3 for each of the runs of `specs/Examples`: its premises are met in runs that restore a save.
+-- Demand 3 for each of the runs of `specs/Examples` and `specs/Returns`: its premises are met in runs that restore a save.
 use Prim.Native.Nat.{ℕ, zero, suc}
 use mathlib.Core.Path.{_≡_, refl, ap, sym, subst, _∙_}
 use mathlib.Core.Bool.{Bool, true, _&&_}
-use mathlib.Core.List.{List, [], _∷_, _++_}
+use mathlib.Core.List.{List, [], _∷_}
 use lib.Dec.{ltb}
 use borrow.Author.Tests.{ltb-true}
 use native.Mathlib.Omega.{arith}
 use Rattle.marks.specs.Marks.{both}
 use Rattle.group.specs.Group.{stateOf}
 use Rattle.state.specs.State.{works}
+use Rattle.image.specs.declared.Image.{Image}
 use Rattle.load.specs.Load.{cabinetCount, feederTotal}
-use Rattle.protocol.specs.History.{World, advance, run, ends as endsIn}
-use Rattle.protocol.specs.Restored.{Restored, Octets, Records, worldAfter}
-use Rattle.protocol.specs.Examples.{Example, Found, records, Walk, walkOn, walk, setOut, walkToFault, walkNear, walkToEnd, found, after-save, after-save-finds, passed-over, passed-over-finds, link-fault, link-fault-finds, second-recovery, second-recovery-finds, restored-before, restored-before-finds}
+use Rattle.protocol.specs.History.{Operation, stepping, pointing, returning, World, advance, run, ends as endsIn}
+use Rattle.protocol.specs.Restored.{Restored, Octets, OctetsIn, AllOctets, worldAfter}
+use Rattle.protocol.specs.Examples.{Example, Found, operationsOf, Walk, walkOn, walk, setOut, walkToFault, walkNear, walkToEnd, found, after-save, after-save-finds, passed-over, passed-over-finds, link-fault, link-fault-finds, second-recovery, second-recovery-finds, restored-before, restored-before-finds}
 use Rattle.claims.proofs.State.Fun.{and-true}
-use Rattle.claims.proofs.Claims.Demand.{demand-three}
+use Rattle.claims.proofs.Claims.Demand.{run-append, demand-three}
+use Rattle.protocol.specs.Returns.{foundKept, return-first, return-first-finds, return-stays, return-stays-finds, return-between, return-between-finds}
 use Rattle.protocol.proofs.Closed.Examples.{runs-found}
+use Rattle.protocol.proofs.Closed.Returns.{returns-found}
 
 -- ---- octets
 
@@ -24,33 +27,38 @@ abbrev allOctets : List ℕ → Bool
 allOctets [] = true
 allOctets (x ∷ xs) = ltb x 256 && allOctets xs
 
-abbrev allRecords : List (List ℕ) → Bool
-allRecords [] = true
-allRecords (r ∷ rs) = allOctets r && allRecords rs
+abbrev octetsIn : Operation → Bool
+octetsIn (stepping r) = allOctets r
+octetsIn (pointing name) = true
+octetsIn (returning name) = true
+
+abbrev allIn : List Operation → Bool
+allIn [] = true
+allIn (x ∷ xs) = octetsIn x && allIn xs
 
 octets-of : (l : List ℕ) → allOctets l ≡ true → Octets l
 octets-of [] e i = omega arith
 octets-of (x ∷ xs) e zero = ltb-true x 256 (and-true {s = ltb x 256} e .0)
 octets-of (x ∷ xs) e (suc i) = octets-of xs (and-true {s = ltb x 256} e .1) i
 
-records-of : (rs : List (List ℕ)) → allRecords rs ≡ true → Records rs
-records-of [] e = tt
-records-of (r ∷ rs) e = (octets-of r (and-true {s = allOctets r} e .0), records-of rs (and-true {s = allOctets r} e .1))
+operation-of : (x : Operation) → octetsIn x ≡ true → OctetsIn x
+operation-of (stepping r) e = octets-of r e
+operation-of (pointing name) e = tt
+operation-of (returning name) e = tt
+
+operations-of : (xs : List Operation) → allIn xs ≡ true → AllOctets xs
+operations-of [] e = tt
+operations-of (x ∷ xs) e = (operation-of x (and-true {s = octetsIn x} e .0), operations-of xs (and-true {s = octetsIn x} e .1))
 
 -- ---- demand 3 for each
 
--- a walk goes where the records lead
-walk-run : (w : Walk) (rs : List (List ℕ)) → walk w rs .world ≡ run (w .world) rs
+-- a walk goes where the operations lead
+walk-run : (w : Walk) (xs : List Operation) → walk w xs .world ≡ run (w .world) xs
 unfolding walk run
 walk-run w [] = refl
-walk-run w (r ∷ rs) = walk-run (walkOn w r) rs
+walk-run w (x ∷ xs) = walk-run (walkOn w x) xs
 
-run-append : (w : World) (rs ss : List (List ℕ)) → run (run w rs) ss ≡ run w (rs ++ ss)
-unfolding run
-run-append w [] ss = refl
-run-append w (r ∷ rs) ss = run-append (advance w r) rs ss
-
-near : (e : Example) → walkNear e .world ≡ worldAfter (e .file) (records e)
+near : (e : Example) → walkNear e .world ≡ worldAfter (e .file) (operationsOf e)
 near e = walk-run (walkToFault e) (e .since) ∙ ap (λ w. run w (e .since)) (walk-run (setOut e) (e .before)) ∙ run-append _ (e .before) (e .since)
 
 -- what demand 3 says of a run
@@ -59,7 +67,7 @@ Demanded e = Restored (cabinetCount (e .file)) (feederTotal (e .file)) (walkToEn
 
 -- a run that is found to load and to end a recovery meets the premises
 demanded : (e : Example) (x : Found) → found e ≡ x → x .loaded ≡ 0 → x .ended ≡ true
-    → allOctets (e .file) ≡ true → allRecords (records e) ≡ true → allOctets (e .last) ≡ true → Demanded e
+    → allOctets (e .file) ≡ true → allIn (operationsOf e) ≡ true → octetsIn (e .last) ≡ true → Demanded e
 unfolding found
 demanded e x is loads ends of os ol =
     let both = and-true {s = works (stateOf (walkNear e .world .group) (e .coordinator))} (ap (λ (y : Found). y .ended) is ∙ ends) in
@@ -68,7 +76,7 @@ demanded e x is loads ends of os ol =
     → Restored (cabinetCount (e .file)) (feederTotal (e .file)) (advance w (e .last) .history) (advance w (e .last) .group))
     (sym (near e))
     (demand-three (e .file) (octets-of (e .file) of) (ap (λ (y : Found). y .loaded) is ∙ loads)
-    (records e) (records-of (records e) os) (e .last) (octets-of (e .last) ol)
+    (operationsOf e) (operations-of (operationsOf e) os) (e .last) (operation-of (e .last) ol)
     (e .coordinator))
     (both .0) (both .1)
 
@@ -86,3 +94,15 @@ second-recovery-restored = demanded second-recovery second-recovery-finds (runs-
 
 pub restored-before-restored : Demanded restored-before
 restored-before-restored = demanded restored-before restored-before-finds (runs-found .4) refl refl refl refl refl
+
+-- recoveries after a return
+
+pub return-first-restored : Demanded return-first
+return-first-restored = demanded return-first return-first-finds (returns-found .0) refl refl refl refl refl
+
+pub return-stays-restored : Demanded return-stays
+return-stays-restored = demanded return-stays return-stays-finds (returns-found .1) refl refl refl refl refl
+
+pub return-between-restored : Demanded return-between
+unfolding found foundKept
+return-between-restored = demanded return-between return-between-finds (ap (λ (p : Found × List (List Image)). p .0) (returns-found .2)) refl refl refl refl refl

@@ -30,7 +30,6 @@ use Rattle.claims.proofs.State.Fun.{is-true, and-true, not-true-false, 
 use Rattle.claims.proofs.State.Every.{passed, Fits, FitsIn, decode-fits, every-step}
 use Rattle.claims.proofs.State.View.{View, Own, view}
 use Rattle.claims.proofs.State.Cells.{Packed, nothing-there}
-use Rattle.claims.proofs.State.Runs.{every-run}
 use Rattle.claims.proofs.State.Shape.{Shaped, Lined, Pictured, shaped}
 use Rattle.claims.proofs.State.Sim.{Fit, in-use}
 use Rattle.claims.proofs.Invariant.Facts.{Ghost}
@@ -117,20 +116,20 @@ unfolding step
 opened g r s e = ap (stepDecoded g) e
 
 pub first-in-first-out : FirstInFirstOut
-first-in-first-out f of e rs o r or s d taken a b = ⊎-elim (λ c. absurd (not-crashed g s (sym (ap (λ (x : Outcome). x .answer) is) ∙ taken) c)) goes (every-list f of e rs o)
+first-in-first-out f of e xs o r or s d taken a b = ⊎-elim (λ c. absurd (not-crashed g s (sym (ap (λ (x : Outcome). x .answer) is) ∙ taken) c)) goes (every-list f of e xs o .going)
   where
     g : Group
-    g = worldAfter f rs .group
+    g = worldAfter f xs .group
 
     is : step g r ≡ orRefuse (entryRefusal g s) g (perform g s)
     is = opened g r s d
 
-    goes : Runs (feederTotal f) g (worldAfter f rs .history) → packets (step g r .group) a b ≡ lineAfter g (step g r .group) s a b
+    goes : Runs (feederTotal f) g (worldAfter f xs .history) → packets (step g r .group) a b ≡ lineAfter g (step g r .group) s a b
     goes w =
         let fit = every-step Shaped Lined Pictured shaped g r or (w .fit) in
         rw (in-use (cabinet (step g r .group) a) (fit .cabs a) b)
         (subst (λ (x : Outcome). Unbounded (λ i j. handled s i j (view g .lines i j)) (cameFrom s) (view g) (view (x .group))) (sym is)
-        (entered (feederTotal f) g (worldAfter f rs .history) (w .ghost) (w .fit) (w .inv) (w .past) s (subst FitsIn d (decode-fits r or))
+        (entered (feederTotal f) g (worldAfter f xs .history) (w .ghost) (w .fit) (w .inv) (w .past) s (subst FitsIn d (decode-fits r or))
         (sym (ap (λ (x : Outcome). x .answer) is) ∙ taken)) a b)
 
 -- ---- packets stand first
@@ -142,4 +141,4 @@ packed-next (c ∷ cs) zero h e = is-true _ (λ f. nothing-there cs 0 (h .0 e) f
 packed-next (c ∷ cs) (suc k) h e = packed-next cs k (h .1) e
 
 pub packets-first : PacketsFirst
-packets-first f of e rs o a b k = packed-next (line (worldAfter f rs .group) a b .cells) k (every-run f of rs o .lines a b .packed)
+packets-first f of e xs o a b k = packed-next (line (worldAfter f xs .group) a b .cells) k (every-list f of e xs o .fit .lines a b .packed)

@@ -2,10 +2,10 @@
 -- and what a committed save holds.
 use Prim.Native.Nat.{ℕ, _-_, _<_}
 use mathlib.Core.Path.{_≡_, refl, sym, ap, _∙_, subst}
-use mathlib.Core.Logic.{inl, ⊎-elim}
+use mathlib.Core.Logic.{inl}
 use mathlib.Core.Bool.{Bool, true, false, not, _&&_, true≢false}
 use mathlib.Core.List.{List, _∷_}
-use mathlib.Core.Option.{Option, some}
+use mathlib.Core.Option.{some}
 use lib.ListN.{getD}
 use lib.Dec.{eqb}
 use borrow.Author.Tests.{eqb-true, eqb-false, ne-eqb}
@@ -23,14 +23,13 @@ use Rattle.group.specs.declared.Group.{Group}
 use Rattle.group.specs.declared.Outcome.{Outcome}
 use Rattle.group.specs.Group.{cabinet, stateOf, line, slot, isCrashed, taken, sum}
 use Rattle.load.specs.Load.{load, feederTotal}
-use Rattle.load.proofs.Loaded.{starts}
 use Rattle.protocol.specs.declared.Step.the-variants.{Saved}
 use Rattle.protocol.specs.declared.Decoded.the-variants.{Taken}
 use Rattle.protocol.specs.Kinds.{need, orRefuse, writeRefusal, fetchRefusal, savedRefusal, savedStep, reportSaved, commitIfAll}
 use Rattle.protocol.specs.Entry.{step, stepDecoded, entryRefusal, isCabinet}
-use Rattle.protocol.specs.History.{Cut, Save, History, advance, opening, commits, latest, newest, imageIn}
-use Rattle.protocol.specs.Restored.{Octets, Records, worldAfter, Balanced, amperes}
-use Rattle.claims.specs.Saves.{Commits, savedImage, savedTotal, CommitsWhole, CommitsBetweenResumes, TakesResume, ResumeOfNewest, VersionsNameNewest, KnownWhereUsed, FetchedOfNewest, CutsSinceBegin}
+use Rattle.protocol.specs.History.{Cut, Save, History, Operation, advance, commits, latest, newest, imageNow}
+use Rattle.protocol.specs.Restored.{Octets, AllOctets, worldAfter, Balanced, amperes}
+use Rattle.claims.specs.Saves.{Commits, savedTotal, CommitsWhole, CommitsBetweenResumes, TakesResume, ResumeOfNewest, VersionsNameNewest, KnownWhereUsed, FetchedOfNewest, CutsSinceBegin}
 use Rattle.claims.proofs.State.Fun.{never, is-true, and-true, and-intro, not-true-false, cond-elim, sum-cong}
 use Rattle.claims.proofs.State.Every.{passed}
 use Rattle.claims.proofs.State.Counting.{step-n}
@@ -39,12 +38,12 @@ use Rattle.claims.proofs.State.Cells.{content-set}
 use Rattle.claims.proofs.Answers.Tests.{in-state}
 use Rattle.claims.proofs.Invariant.States.{restoring-works}
 use Rattle.claims.proofs.Invariant.Facts.{Ghost}
-use Rattle.claims.proofs.Invariant.Past.{cut-held, tops-add}
+use Rattle.claims.proofs.Invariant.Past.{held-now, cut-held, tops-add}
 use Rattle.claims.proofs.Invariant.Words.{un-of}
 use Rattle.claims.proofs.Moves.Waking.{resume-open, resume-fresh}
 use Rattle.claims.proofs.Moves.Saving.{all-wrote}
 use Rattle.claims.proofs.Claims.Stepping.{below}
-use Rattle.claims.proofs.Claims.Demand.{Runs, open-step, taken-runs, run-n}
+use Rattle.claims.proofs.Claims.Demand.{Runs, open-step, taken-runs, count-after}
 use Rattle.claims.proofs.Claims.Bounds.{running}
 
 -- ---- a group that runs
@@ -123,34 +122,32 @@ module _ (total : ℕ) (g : Group) (h : History) (w : Runs total g h) where
 
   -- ---- what the newest save holds
 
-  held-image : (c : ℕ) → c < g .n → savedImage (h .lost c) (imageIn (latest h .cut c)) ≡ some (γ .mind c .top)
-  held-image c l =
-      ⊎-elim (λ e. ap (λ (m : Option Image). savedImage m (imageIn (latest h .cut c))) e)
-      (λ e. ap (λ (m : Option Image). savedImage m (imageIn (latest h .cut c))) (e .0) ∙ ap imageIn (e .1 .1) ∙ ap some (e .1 .2)) (w .past .tops c l)
+  held-image : (c : ℕ) → c < g .n → imageNow h c ≡ some (γ .mind c .top)
+  held-image c l = held-now (h .lost c) (latest h .cut c) (γ .mind c .top) (w .past .tops c l)
 
   saved-sum : savedTotal (g .n) h ≡ sum (λ c. booked (γ .mind c .top)) (g .n)
   saved-sum = sum-cong _ _ (g .n) (λ c l. ap amperes (held-image c l))
 
   abbrev Whole : ℕ → Type 0
-  Whole n = Balanced (latest h) × ((c : ℕ) → c < n → (m : Image) × (savedImage (h .lost c) (imageIn (latest h .cut c)) ≡ some m)) × (savedTotal n h ≡ total)
+  Whole n = Balanced (latest h) × ((c : ℕ) → c < n → (m : Image) × (imageNow h c ≡ some m)) × (savedTotal n h ≡ total)
 
   whole-save : Whole (g .n)
   whole-save = (w .past .balanced, (λ c l. (γ .mind c .top, held-image c l)), saved-sum ∙ tops-add (w .inv) (w .past))
 
 pub known-where-used : KnownWhereUsed
-known-where-used f of e rs o c a = let w = running f of e rs o c in (writes-known _ _ _ w a, fetches-known _ _ _ w a)
+known-where-used f of e xs o c a = let w = running f of e xs o c in (writes-known _ _ _ w a, fetches-known _ _ _ w a)
 
 pub versions-name-newest : VersionsNameNewest
-versions-name-newest f of e rs o c = names-newest _ _ _ (running f of e rs o c)
+versions-name-newest f of e xs o c = names-newest _ _ _ (running f of e xs o c)
 
 pub fetched-of-newest : FetchedOfNewest
-fetched-of-newest f of e rs o c = fetches-newest _ _ _ (running f of e rs o c)
+fetched-of-newest f of e xs o c = fetches-newest _ _ _ (running f of e xs o c)
 
 pub cuts-since-begin : CutsSinceBegin
-cuts-since-begin f of e rs o c = begun-since _ _ _ (running f of e rs o c)
+cuts-since-begin f of e xs o c = begun-since _ _ _ (running f of e xs o c)
 
 pub resume-of-newest : ResumeOfNewest
-resume-of-newest f of e rs o c = takes-newest _ _ _ (running f of e rs o c)
+resume-of-newest f of e xs o c = takes-newest _ _ _ (running f of e xs o c)
 
 -- ---- a commit
 
@@ -193,17 +190,17 @@ module _ (g : Group) (r : List ℕ) (c : Commits g r) where
       (report .0) (ap (λ (z : Group). commits g z K) (sym (report .1)) ∙ c .commit) in
       never (n .wroteDone (wrote y (n .placed (u .0)))) (u .1)
 
-module _ (f : List ℕ) (of : Octets f) (e : load f .answer ≡ 0) (rs : List (List ℕ)) (o : Records rs) (r : List ℕ)
-    (c : Commits (worldAfter f rs .group) r) where
-  abbrev before : Runs (feederTotal f) (worldAfter f rs .group) (worldAfter f rs .history)
-  before = running f of e rs o (not-true-false (entered (worldAfter f rs .group) r c .0))
+module _ (f : List ℕ) (of : Octets f) (e : load f .answer ≡ 0) (xs : List Operation) (o : AllOctets xs) (r : List ℕ)
+    (c : Commits (worldAfter f xs .group) r) where
+  abbrev before : Runs (feederTotal f) (worldAfter f xs .group) (worldAfter f xs .history)
+  before = running f of e xs o (not-true-false (entered (worldAfter f xs .group) r c .0))
 
 pub commits-between-resumes : CommitsBetweenResumes
-commits-between-resumes f of e rs o r or c = no-resumes (worldAfter f rs .group) r c (feederTotal f) (worldAfter f rs .history) (before f of e rs o r c)
+commits-between-resumes f of e xs o r or c = no-resumes (worldAfter f xs .group) r c (feederTotal f) (worldAfter f xs .history) (before f of e xs o r c)
 
 pub commits-whole : CommitsWhole
 unfolding advance
-commits-whole f of e rs o r or c =
-    let w = taken-runs (feederTotal f) (worldAfter f rs .group) (worldAfter f rs .history) r or (before f of e rs o r c) (c .taken) .0 in
-    subst (Whole (feederTotal f) _ _ w) (step-n (worldAfter f rs .group) r ∙ run-n rs (opening (load f .group)) ∙ starts f of e .count)
+commits-whole f of e xs o r or c =
+    let w = taken-runs (feederTotal f) (worldAfter f xs .group) (worldAfter f xs .history) r or (before f of e xs o r c) (c .taken) .0 in
+    subst (Whole (feederTotal f) _ _ w) (step-n (worldAfter f xs .group) r ∙ count-after f of e xs)
     (whole-save (feederTotal f) _ _ w)

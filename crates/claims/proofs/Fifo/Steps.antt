@@ -2,8 +2,10 @@
 use Prim.Native.Nat.{ℕ, _<_}
 use mathlib.Core.Path.{_≡_, refl, sym, ap, _∙_, subst}
 use mathlib.Core.Bool.{Bool, true, false, not, _&&_}
+use mathlib.Core.List.{List}
 use lib.Dec.{eqb, ltb}
 use Rattle.marks.specs.Marks.{marked, covers}
+use Rattle.packet.specs.declared.Packet.{Packet}
 use Rattle.state.specs.declared.State.the-variants.{Normal, Checkpointing, Checkpointed, Error, Recovering, Recovered}
 use Rattle.state.specs.declared.Version.{Version}
 use Rattle.cabinet.specs.declared.Cabinet.{Cabinet}
@@ -11,16 +13,16 @@ use Rattle.state.specs.State.{isIn, works, inRecovery, inRestoring, inSaving, b
 use Rattle.cabinet.specs.Cabinet.{inUse, coordinator}
 use Rattle.group.specs.declared.Group.{Group}
 use Rattle.group.specs.Group.{cabinet, withCabinet, stateOf}
-use Rattle.protocol.specs.Moves.{join, cutIfAll, resumeWith, commit, endRecovery, recoverWith}
+use Rattle.protocol.specs.Moves.{join, cutIfAll, resumeWith, commit, endRecovery, noteLost, recoverWith}
 use Rattle.protocol.specs.Kinds.{beginRefusal, writeRefusal, writePiece, oweIf, savedRefusal, reportSaved, commitIfAll, fetchRefusal, fetchPiece, restoredRefusal, mayReport, reportRestored, endIfAll, lostCoordinator, waitOverRefusal}
 use Rattle.protocol.specs.History.{upd}
 use Rattle.claims.proofs.State.Fun.{and-true, and-false, cond-elim, kept-at, kept-pair, upd-case, upd-same}
-use Rattle.claims.proofs.State.Every.{passed, with-cabinet, ok-join, ok-writePiece, ok-reportSaved}
+use Rattle.claims.proofs.State.Every.{passed, with-cabinet, ok-join, ok-writePiece, ok-reportSaved, ok-noteLost}
 use Rattle.claims.proofs.State.View.{View, Own, Side, used, ownOf, sideOf, view, setCabinet}
 use Rattle.claims.proofs.State.Shape.{Shaped, Lined, Pictured, shaped}
 use Rattle.claims.proofs.State.Sim.{Fit, view-cabinet}
 use Rattle.claims.proofs.State.Methods.{sOwed}
-use Rattle.claims.proofs.State.ViewMoves.{Room, vOwe, vRestored, sim-join, sim-owe, sim-restored}
+use Rattle.claims.proofs.State.ViewMoves.{Room, vOwe, vRestored, sim-join, sim-owe, sim-restored, sim-note}
 use Rattle.claims.proofs.Answers.Tests.{in-state}
 use Rattle.claims.proofs.Invariant.States.{saving-works, restoring-works}
 use Rattle.claims.proofs.Invariant.Facts.{Ghost}
@@ -203,5 +205,9 @@ module _ (total : ℕ) (g : Group) (γ : Ghost) (w : Fit g) (i : Inv (g .n) tota
         let states : (c : ℕ) → view r .own c .state ≡ v .own c .state = λ c. ap (λ (x : View). x .own c .state) noted ∙ kept-at (λ (x : Own). x .state) (v .own) chief (v .own chief) refl c in
         let sides : (d : ℕ) → used (view r .side chief d) ≡ used (v .side chief d) = λ d. ap (λ (x : View). used (x .side chief d)) noted ∙ kept-pair used (v .side) chief a _ refl chief d in
         let lines : (c d : ℕ) → view r .lines c d ≡ v .lines c d = λ c d. ap (λ (x : View). x .lines c d) noted in
+        let n = sim-note r fit chief in
         cond-elim (λ (x : Group). Puts (view x)) (isIn (stateOf r chief) Recovered && covers (cabinet r chief .noted .restored) (cabinet r chief .table .cabinets))
-        (λ _. normal-puts r fit chief chief-works away states sides lines _) (λ _. report-puts r fit chief chief-works away states sides lines)
+        (λ _. normal-puts (noteLost r chief) (ok-noteLost Shaped Lined Pictured shaped r chief fit) chief chief-works away
+        (λ c. ap (λ (o : Own). o .state) (n .own c .1) ∙ states c) (λ d. ap used (n .sides chief d) ∙ sides d)
+        (λ c d. ap (λ (f : ℕ → ℕ → List Packet). f c d) (n .lines) ∙ lines c d) _)
+        (λ _. report-puts r fit chief chief-works away states sides lines)

@@ -19,7 +19,7 @@ use Rattle.state.specs.declared.Version.{Version}
 use Rattle.state.specs.declared.Version.the-variants.{Known, Unknown}
 use Rattle.cabinet.specs.declared.Alarm.the-variants.{Fault as At}
 use Rattle.image.specs.declared.Image.{Image}
-use Rattle.state.specs.State.{isIn, works, inRecovery, inSaving, isUnknown}
+use Rattle.state.specs.State.{isIn, works, inRecovery, inSaving, isUnknown, bitOf}
 use Rattle.image.specs.Image.{booked}
 use Rattle.claims.proofs.State.View.{Own, Side, used}
 use Rattle.claims.proofs.State.Shape.{Pictured}
@@ -312,6 +312,8 @@ pub record Node (b : Big) (c : ℕ) (o : Own) (m : Mind) (z : Bool → Image) : 
   pub slotPrev : b .adopted ≡ false → m .tab ≡ true → (c ≡ b .chief → m .done ≡ false) → z (not (b .topv)) ≡ m .prev
   pub slotCut : b .alive ≡ true → m .wrote ≡ true → z (not (b .topv)) ≡ m .cut
   pub slotPieces : b .alive ≡ true → unaware b o ≡ true → o .state ≡ Checkpointing → SameTo (8 * o .pieces) (z (not (b .topv))) (m .cut)
+  -- E5: once the recovery from its fail has ended, a failed cabinet's version names the slot that has its image
+  pub noted : m .tab ≡ false → z (bitOf (o .version)) ≡ m .top
   -- images have their 32 octets
   pub sizes : Pictured (m .cut) × (Pictured (m .top) × Pictured (m .prev))
 

@@ -4,7 +4,7 @@ use mathlib.Core.Path.{_≡_, refl, sym, ap, _∙_, subst}
 use mathlib.Core.Logic.{inl, inr, ⊎-elim}
 use mathlib.Core.Bool.{Bool, true, false, cond, not, _&&_, _||_, true≢false, false≢true}
 use mathlib.Core.List.{List, []}
-use mathlib.Core.Option.{Option, none, some}
+use mathlib.Core.Option.{none, some}
 use lib.ListN.{getD}
 use lib.Dec.{ltb, eqb}
 use borrow.Author.Tests.{ltb-true, ltb-false, lt-ltb}
@@ -20,24 +20,23 @@ use Rattle.state.specs.declared.Version.{Version}
 use Rattle.state.specs.declared.Version.the-variants.{Known, Unknown}
 use Rattle.image.specs.declared.Image.{Image}
 use Rattle.cabinet.specs.declared.Cabinet.{Cabinet}
-use Rattle.state.specs.State.{isIn, works, inSaving, isUnknown}
+use Rattle.state.specs.State.{isIn, works, inSaving, isUnknown, bitOf}
 use Rattle.image.specs.Image.{booked}
 use Rattle.cabinet.specs.Cabinet.{absent}
 use Rattle.group.specs.declared.Group.{Group}
 use Rattle.group.specs.Group.{cabinet, slot, rowsOf, sum}
 use Rattle.load.specs.Load.{present, feederTotal}
 use Rattle.load.specs.Starts.{Starts}
-use Rattle.protocol.specs.History.{Cut, atStart, startCut}
-use Rattle.protocol.specs.Restored.{sentIn, takenIn}
+use Rattle.protocol.specs.History.{Cut, atStart, bareCut}
 use Rattle.marks.proofs.Lists.{getD-in}
-use Rattle.claims.proofs.State.Fun.{never, and-true, cond-elim, sum-zero, sum-tail}
+use Rattle.claims.proofs.State.Fun.{never, and-true, sum-zero, sum-tail}
 use Rattle.claims.proofs.State.View.{Own, Side, view, content}
 use Rattle.claims.proofs.State.Shape.{Pictured}
 use Rattle.claims.proofs.State.Sim.{Fit}
 use Rattle.claims.proofs.State.Methods.{no-marks, all-start}
 use Rattle.claims.proofs.Invariant.Facts.{Big, Mind, Wire, Ghost, Pair, Node, Stream, unaware, behind, closed, amountsIn, count, checkpLast, Amounts, amount, same, isCheckp}
 use Rattle.claims.proofs.Invariant.Whole.{Inv, PairAt, NodeAt, BooksAt, GroundOf, PlacesOf, ChainOf, workOf, outOf, gotOf}
-use Rattle.claims.proofs.Invariant.Past.{Past}
+use Rattle.claims.proofs.Invariant.Past.{Past, bare-balanced}
 use Rattle.claims.proofs.Invariant.Logs.{check-none, no-checkp-end, count-none}
 use Rattle.claims.proofs.Invariant.Words.{un-works}
 use Rattle.claims.proofs.Invariant.Reaching.{reach-group}
@@ -151,7 +150,7 @@ module _ (c d : ℕ) (o p : Own) (x y : Image) (s t : Side) (to td lk : Bool) (r
     small = (tt, (tt, tt));
   }
 
-module _ (c : ℕ) (o : Own) (x : Image) (t : Bool) (z : Bool → Image) (r : Ready t o) (slot : t ≡ true → z false ≡ x) (size : Pictured x) where
+module _ (c : ℕ) (o : Own) (x : Image) (t : Bool) (z : Bool → Image) (r : Ready t o) (slot : z false ≡ x) (size : Pictured x) where
   not-in : {A : Type 0} (s : State) → isIn Normal s ≡ false → isIn Failed s ≡ false → isIn s s ≡ true → o .state ≡ s → A
   not-in s n f y e = absurd (never (ap (λ (q : State). isIn q s) e ∙ y) (only t o r (λ q. isIn q s ≡ false) n f))
 
@@ -190,10 +189,11 @@ module _ (c : ℕ) (o : Own) (x : Image) (t : Bool) (z : Bool → Image) (r : Re
     waits = λ e. absurd (true≢false e);
     cutImage = λ a e. absurd (false≢true e);
     gone = λ e. (refl, λ f. refl);
-    slotTop = slot;
+    slotTop = λ e. slot;
     slotPrev = λ e. absurd (true≢false e);
     slotCut = λ a e. absurd (false≢true e);
     slotPieces = λ a u e. not-in Checkpointing refl refl refl e;
+    noted = λ e. ap (λ (y : Version). z (bitOf y)) (r .version) ∙ slot;
     sizes = (size, (size, size));
   }
     where
@@ -259,8 +259,14 @@ module _ (f : List ℕ) (g : Group) (st : Starts f g) (fit : Fit g) where
       (start-pair c d (view g .own c) (view g .own d) (cabinet g c .image) (cabinet g d .image) (view g .side c d) (view g .side d c) (tab₀ c) (tab₀ d)
       (mark (rowsOf (g .links)) c d) (ready₀ c) (ready₀ d) (clear₀ c d) (clear₀ d c) (tables₀ c d))
 
+  slots₀ : (c : ℕ) → slot g c false ≡ cabinet g c .image
+  slots₀ c = elim (decLt c (g .n)) [
+    | yes l ↦ st .slot-zero c l
+    | no m ↦ st .slot-past c false (omega arith) ∙ ap (λ (x : Cabinet). x .image) (sym (st .past c (omega arith)))
+  ]
+
   nodes₀ : (c : ℕ) → NodeAt (view g) γ₀ c
-  nodes₀ c = start-node c (view g .own c) (cabinet g c .image) (tab₀ c) (slot g c) (ready₀ c) (λ e. st .slot-zero c (below c e)) (fit .cabs c .image)
+  nodes₀ c = start-node c (view g .own c) (cabinet g c .image) (tab₀ c) (slot g c) (ready₀ c) (slots₀ c) (fit .cabs c .image)
 
   nothing-out : (c : ℕ) → outOf γ₀ c ≡ 0
   nothing-out c = sum-zero (λ d. 0) 8 (λ j l. refl)
@@ -341,12 +347,6 @@ module _ (f : List ℕ) (g : Group) (st : Starts f g) (fit : Fit g) where
         works₀ d ∙ sym (tables₀ c d (sym (works₀ c) ∙ w) .0) ∙ and-true {s = view g .side c d .link} u .1;
   }
 
-  start-taken : (c d : ℕ) → takenIn (startCut g d) c ≡ []
-  start-taken c d = cond-elim (λ (x : Option Cut). takenIn x c ≡ []) (ltb d (g .n)) (λ _. refl) (λ _. refl)
-
-  start-sent : (c d : ℕ) → sentIn (startCut g c) d ≡ []
-  start-sent c d = cond-elim (λ (x : Option Cut). sentIn x d ≡ []) (ltb c (g .n)) (λ _. refl) (λ _. refl)
-
   abbrev first : ℕ → Cut
   first c = record { image = cabinet g c .image; sent = λ j. []; taken = λ j. [] }
 
@@ -358,8 +358,8 @@ module _ (f : List ℕ) (g : Group) (st : Starts f g) (fit : Fit g) where
     cuts = λ e c d. absurd (false≢true d);
     noCut = λ e b. absurd (false≢true b);
     known = refl;
-    tops = λ c l. inr (refl, (first c, ap (λ (t : Bool). cond t (some (first c)) none) (lt-ltb c (g .n) l), refl));
-    balanced = λ c d. start-taken c d ∙ sym (start-sent c d);
+    tops = λ c l. inr (refl, (first c, ap (λ (t : Bool). bareCut (cond t (some (cabinet g c .image)) none)) (lt-ltb c (g .n) l), refl));
+    balanced = bare-balanced (λ i. cond (ltb i (g .n)) (some (cabinet g i .image)) none);
     present = λ c e. refl;
     gone = λ c l e. absurd (never (lt-ltb c (g .n) l) e);
     beyond = image-past;

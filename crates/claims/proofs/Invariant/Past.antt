@@ -3,7 +3,7 @@ use Prim.Native.Nat.{ℕ, _<_, _≤_}
 use mathlib.Core.Path.{_≡_, refl, sym, ap, _∙_, fun-ext}
 use mathlib.Core.Logic.{_≢_, _⊎_, inl, ⊎-elim}
 use mathlib.Core.Bool.{Bool, true, false, cond, not, _&&_, true≢false}
-use mathlib.Core.List.{List, _∷_}
+use mathlib.Core.List.{List, [], _∷_}
 use mathlib.Core.Option.{Option, none, some}
 use native.Mathlib.Omega.{arith}
 use Rattle.state.specs.declared.State.{State}
@@ -14,8 +14,8 @@ use Rattle.image.specs.Image.{booked}
 use Rattle.group.specs.declared.Group.{Group}
 use Rattle.group.specs.Group.{stateOf, sum}
 use Rattle.protocol.specs.declared.Step.{Step}
-use Rattle.protocol.specs.History.{Cut, Save, History, upd, latest, newest, withCuts, observe, noteCuts, cutIn}
-use Rattle.protocol.specs.Restored.{Balanced, Restored}
+use Rattle.protocol.specs.History.{Cut, Save, History, upd, bareCut, bareSave, latest, newest, savedImage, imageIn, withCuts, observe, noteCuts, cutIn}
+use Rattle.protocol.specs.Restored.{sentIn, takenIn, Balanced, Restored}
 use Rattle.claims.proofs.State.Fun.{never, is-false, and-true, or-left, or-right, upd-elim, kept-at, sum-tail}
 use Rattle.claims.proofs.State.View.{View, Own, view}
 use Rattle.claims.proofs.Invariant.States.{apart}
@@ -56,6 +56,21 @@ pub record Past (n : ℕ) (v : View) (γ : Ghost) (h : History) : Type 0 where
   pub waits : (c : ℕ) → isIn (v .own c .state) Checkpointed ≡ true → γ .mind c .joined ≡ false → Stands h
 
 -- ---- the save that the rule gives
+
+pub held-now : (lost : Option Image) (cut : Option Cut) (m : Image) → HeldIn lost cut m → savedImage lost (imageIn cut) ≡ some m
+held-now lost cut m = ⊎-elim (λ e. rw e) (λ e. rw (e .0, e .1 .1, e .1 .2))
+
+-- where nothing counts as sent or taken
+pub bare-balanced : (images : ℕ → Option Image) → Balanced (bareSave images)
+bare-balanced images c d = none-taken (images d) ∙ sym (none-sent (images c))
+  where
+    none-taken : (m : Option Image) → takenIn (bareCut m) c ≡ []
+    none-taken none = refl
+    none-taken (some m) = refl
+
+    none-sent : (m : Option Image) → sentIn (bareCut m) d ≡ []
+    none-sent none = refl
+    none-sent (some m) = refl
 
 -- a working cabinet has its cut in it
 pub cut-held : {n total : ℕ} {v : View} {γ : Ghost} {h : History} → Inv n total v γ → Past n v γ h → (c : ℕ) → workOf v c ≡ true

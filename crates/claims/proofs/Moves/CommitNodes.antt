@@ -117,6 +117,7 @@ module _ (b : Big) (c : ℕ) (o : Own) (m : Mind) (z : Bool → Image) (h : Node
         slotPrev = λ e t d. old-top t;
         slotCut = λ a e. absurd (false≢true e);
         slotPieces = λ a u e. absurd (other-state (now-saved u) refl e);
+        noted = λ e. h .noted e ∙ kept-gone e .1;
         sizes = new-sizes;
       }
 
@@ -165,6 +166,7 @@ module _ (b : Big) (c : ℕ) (o : Own) (m : Mind) (z : Bool → Image) (h : Node
         slotPrev = λ e t d. old-top t;
         slotCut = λ a e. absurd (false≢true e);
         slotPieces = λ a u e. absurd (other-state refl refl e);
+        noted = λ e. absurd (never (h .placed (un-works b o un)) e);
         sizes = new-sizes;
       }
 

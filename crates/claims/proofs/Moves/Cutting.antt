@@ -199,6 +199,7 @@ module _ (b : Big) (c : ℕ) (o : Own) (m : Mind) (z : Bool → Image) (h : Node
     slotPrev = λ a e d. h .slotPrev a e (λ q. absurd (true≢false (d q)));
     slotCut = λ a e. absurd (never e unwritten);
     slotPieces = λ a u e i l. absurd (omega (arith, no-pieces));
+    noted = h .noted;
     sizes = (whole, h .sizes .1);
   }
 

@@ -8,7 +8,7 @@ use Rattle.state.specs.declared.State.{State}
 use Rattle.state.specs.declared.State.the-variants.{Failed, Normal, CheckpBegin, Checkpointing, Checkpointed, Error, Recovering, Recovered}
 use Rattle.state.specs.declared.Version.the-variants.{Unknown}
 use Rattle.image.specs.declared.Image.{Image}
-use Rattle.state.specs.State.{isIn, works, isUnknown}
+use Rattle.state.specs.State.{isIn, works, isUnknown, bitOf}
 use Rattle.claims.proofs.State.Fun.{never}
 use Rattle.claims.proofs.State.View.{Own}
 use Rattle.claims.proofs.Invariant.States.{failed-state, other-state}
@@ -42,9 +42,20 @@ module _ (b : Big) (k c : ℕ) (o : Own) (m : Mind) (z : Bool → Image) (h : No
   abbrev m′ : Mind
   m′ = mEnd m (works (o .state))
 
+  -- a failed one's version names its slot: who failed since the last recovery's end has the note of this one
+  abbrev Note : Type 0
+  Note = m .tab ≡ true → works (o .state) ≡ false → bitOf (o .version) ≡ b .topv
+
+  named : Note → works (o .state) ≡ false → z (bitOf (o .version)) ≡ m .top
+  named note e = go (m .tab) refl
+    where
+      go : (t : Bool) → m .tab ≡ t → z (bitOf (o .version)) ≡ m .top
+      go true t = ap z (note t e) ∙ h .slotTop t
+      go false t = h .noted t
+
   -- another than the coordinator
-  pub ended-node : c ≢ k → Node b′ c o m′ z
-  ended-node other =
+  pub ended-node : Note → c ≢ k → Node b′ c o m′ z
+  ended-node note other =
       let wo : unaware b′ o ≡ true → works (o .state) ≡ true = un-works b′ o in
       record {
         placed = λ w. w;
@@ -81,6 +92,7 @@ module _ (b : Big) (k c : ℕ) (o : Own) (m : Mind) (z : Bool → Image) (h : No
         slotPrev = λ e. absurd (true≢false e);
         slotCut = λ a e. absurd (false≢true e);
         slotPieces = λ a u e. absurd (not-in Checkpointing refl (wo u) e);
+        noted = named note;
         sizes = h .sizes;
       }
 
@@ -127,6 +139,7 @@ module _ (b : Big) (k c : ℕ) (o : Own) (m : Mind) (z : Bool → Image) (h : No
     slotPrev = λ e. absurd (true≢false e);
     slotCut = λ a e. absurd (false≢true e);
     slotPieces = λ a u e. clash Checkpointing refl e refl;
+    noted = λ e. absurd (never w e);
     sizes = h .sizes;
   }
 

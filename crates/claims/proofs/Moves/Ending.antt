@@ -18,7 +18,7 @@ use Rattle.state.specs.declared.State.the-variants.{Error, Recovered}
 use Rattle.cabinet.specs.declared.Alarm.{Alarm}
 use Rattle.cabinet.specs.declared.Alarm.the-variants.{Quiet, Fault as At}
 use Rattle.cabinet.specs.Alarm.{isFor}
-use Rattle.state.specs.State.{isIn, works, isUnknown}
+use Rattle.state.specs.State.{isIn, works, isUnknown, bitOf}
 use Rattle.protocol.specs.History.{upd}
 use Rattle.claims.proofs.State.Fun.{never, is-false, and-true, and-intro, sum-zero, upd-same, upd-other, upd-elim, kept}
 use Rattle.claims.proofs.State.View.{View, Own, Side, used}
@@ -72,7 +72,7 @@ module _ (n total : ℕ) (v : View) (γ : Ghost) (i : Inv n total v γ) (k : ℕ
   abbrev b : Big
   b = γ .big
 
-  the-place : (q : Place) × (v .own k .alarm ≡ At q)
+  pub the-place : (q : Place) × (v .own k .alarm ≡ At q)
   the-place = i .core .nodes k .placeKnown aw
 
   abbrev q : Place
@@ -119,7 +119,7 @@ module _ (n total : ℕ) (v : View) (γ : Ghost) (i : Inv n total v γ) (k : ℕ
   at-place = i .places .fromOne k aw q (the-place .1)
 
   -- the tables are who works and which links stand
-  tabs-at : (d : ℕ) → (γ .mind d .tab && not (hitsCabinet q d)) ≡ workOf v d
+  pub tabs-at : (d : ℕ) → (γ .mind d .tab && not (hitsCabinet q d)) ≡ workOf v d
   tabs-at d = go (workOf v d) refl (γ .mind d .tab) refl
     where
       go : (w : Bool) → workOf v d ≡ w → (t : Bool) → γ .mind d .tab ≡ t → (t && not (hitsCabinet q d)) ≡ w
@@ -235,14 +235,7 @@ module _ (n total : ℕ) (v : View) (γ : Ghost) (i : Inv n total v γ) (k : ℕ
       (ended-to c (v .own c) (γ′ .mind c) (v .side c k) (v .lines c k) (calmed c k)))
       c d)
 
-  -- ---- all facts together; k is the lowest that works
-
-  ended-nodes : (c : ℕ) → NodeAt v′ γ′ c
-  ended-nodes c =
-      subst (λ (δ : Ghost). NodeAt v′ δ c) (same-ghost γ′ k)
-      (move-nodes v γ′ (bEnd b k) k o′ (γ′ .mind k) s′ lines′ (v .slots) (γ′ .wire) (λ j n. refl)
-      (λ j n. ended-node b k j (v .own j) (γ .mind j) (v .slots j) (i .core .nodes j) (all-aware j) (all-recovered j) n)
-      (ended-chief b k k (v .own k) (γ .mind k) (v .slots k) (i .core .nodes k) (all-aware k) (all-recovered k) wk) c)
+  -- ---- all facts together
 
   nothing-out : (c : ℕ) → outOf γ′ c ≡ 0
   nothing-out c = sum-zero (λ d. 0) 8 (λ j l. refl)
@@ -265,7 +258,16 @@ module _ (n total : ℕ) (v : View) (γ : Ghost) (i : Inv n total v γ) (k : ℕ
   work-same : workOf v′ ≡ workOf v
   work-same = kept (λ (x : Own). works (x .state)) (v .own) k o′ (sym wk)
 
-  module _ (least : (j : ℕ) → workOf v j ≡ true → k ≤ j) where
+  -- k is the lowest that works, and the version of who failed since the last recovery's end names its slot
+  module _ (least : (j : ℕ) → workOf v j ≡ true → k ≤ j)
+      (note : (d : ℕ) → γ .mind d .tab ≡ true → workOf v d ≡ false → bitOf (v .own d .version) ≡ γ .big .topv) where
+    ended-nodes : (c : ℕ) → NodeAt v′ γ′ c
+    ended-nodes c =
+        subst (λ (δ : Ghost). NodeAt v′ δ c) (same-ghost γ′ k)
+        (move-nodes v γ′ (bEnd b k) k o′ (γ′ .mind k) s′ lines′ (v .slots) (γ′ .wire) (λ j n. refl)
+        (λ j n. ended-node b k j (v .own j) (γ .mind j) (v .slots j) (i .core .nodes j) (all-aware j) (all-recovered j) (note j) n)
+        (ended-chief b k k (v .own k) (γ .mind k) (v .slots k) (i .core .nodes k) (all-aware k) (all-recovered k) wk) c)
+
     self-apart : (c : ℕ) → v .sound c c ≡ false
     self-apart c = is-false (v .sound c c) (λ e. never (i .core .ground .soundLinks c c e) (i .core .ground .linkOther c))
 

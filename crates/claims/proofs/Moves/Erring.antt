@@ -223,6 +223,7 @@ module _ (b : Big) (c : ℕ) (o : Own) (m : Mind) (z : Bool → Image) (h : Node
         slotPrev = h .slotPrev;
         slotCut = h .slotCut;
         slotPieces = λ a. no;
+        noted = h .noted;
         sizes = h .sizes;
       }
     where

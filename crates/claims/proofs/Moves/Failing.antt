@@ -154,6 +154,7 @@ module _ (b : Big) (c : ℕ) (o : Own) (m : Mind) (z : Bool → Image) (h : Node
     slotPrev = h .slotPrev;
     slotCut = h .slotCut;
     slotPieces = λ e u. absurd (false≢true u);
+    noted = h .noted;
     sizes = h .sizes;
   }
 

@@ -278,6 +278,7 @@ module _ (b : Big) (c : ℕ) (o : Own) (m : Mind) (z : Bool → Image) (h : Node
         slotPrev = λ e. no-first e;
         slotCut = h .slotCut;
         slotPieces = λ a. none-calm;
+        noted = h .noted;
         sizes = h .sizes;
       }
 

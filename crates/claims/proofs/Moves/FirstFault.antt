@@ -146,6 +146,7 @@ flip-node b c o m z h r =
       slotPrev = h .slotPrev;
       slotCut = h .slotCut;
       slotPieces = λ a u. h .slotPieces a (un u);
+      noted = h .noted;
       sizes = h .sizes;
     }
 

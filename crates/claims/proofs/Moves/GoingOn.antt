@@ -191,6 +191,7 @@ module _ (b : Big) (c : ℕ) (o : Own) (m : Mind) (z : Bool → Image) (h : Node
         slotPrev = h .slotPrev;
         slotCut = h .slotCut;
         slotPieces = λ a. no;
+        noted = λ e. absurd (never (h .placed w) e);
         sizes = h .sizes;
       }
     where

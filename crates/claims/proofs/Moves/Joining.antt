@@ -333,6 +333,7 @@ module _ (b : Big) (c : ℕ) (o : Own) (m : Mind) (z : Bool → Image) (h : Node
     slotPrev = h .slotPrev;
     slotCut = h .slotCut;
     slotPieces = λ a u e. not-state Checkpointing refl e;
+    noted = h .noted;
     sizes = h .sizes;
   }
 

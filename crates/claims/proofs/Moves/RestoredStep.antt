@@ -9,6 +9,8 @@ use native.Mathlib.Omega.{arith}
 use native.Mathlib.Decide.{ℕ-discrete, decLt}
 use Rattle.marks.specs.Marks.{Marks, marked, covers}
 use Rattle.marks.specs.MarksLaws.{covers-has, lowest-le-marked}
+use Rattle.packet.specs.declared.Place.{Place}
+use Rattle.cabinet.specs.declared.Alarm.the-variants.{Fault as At}
 use Rattle.state.specs.declared.State.{State}
 use Rattle.state.specs.declared.State.the-variants.{Normal, Checkpointing, Error, Recovering, Recovered, Checkpointed}
 use Rattle.state.specs.declared.Version.{Version}
@@ -18,18 +20,18 @@ use Rattle.state.specs.State.{isIn, works, inRestoring, bitOf}
 use Rattle.image.specs.Image.{booked}
 use Rattle.cabinet.specs.Cabinet.{inUse, coordinator}
 use Rattle.group.specs.declared.Group.{Group}
-use Rattle.group.specs.Group.{cabinet, stateOf}
-use Rattle.protocol.specs.Moves.{endRecovery}
+use Rattle.group.specs.Group.{cabinet, withCabinet, stateOf}
+use Rattle.protocol.specs.Moves.{endRecovery, noteLost}
 use Rattle.protocol.specs.Kinds.{mayReport, restoredRefusal, reportRestored, endIfAll}
 use Rattle.protocol.specs.History.{Cut, History, latest, imageIn, lostNow, noteEnd, noteCuts, ends, goes}
 use Rattle.protocol.specs.Restored.{Restored, counted, amperes}
-use Rattle.claims.proofs.State.Fun.{never, is-false, and-true, and-intro, cond-elim, upd-elim, upd-same, upd-other, sum-cong, kept-at}
-use Rattle.claims.proofs.State.Every.{passed, with-cabinet}
+use Rattle.claims.proofs.State.Fun.{never, is-true, is-false, and-true, and-intro, cond-elim, upd-elim, upd-same, upd-other, sum-cong, kept-at}
+use Rattle.claims.proofs.State.Every.{passed, with-cabinet, ok-noteLost}
 use Rattle.claims.proofs.State.View.{View, Own, Side, view, used}
 use Rattle.claims.proofs.State.Shape.{Shaped, Lined, Pictured, shaped}
 use Rattle.claims.proofs.State.Sim.{Fit, in-use}
-use Rattle.claims.proofs.State.Methods.{sCleared}
-use Rattle.claims.proofs.State.ViewMoves.{Room, vResumed, vRestored, sim-restored, sim-resume}
+use Rattle.claims.proofs.State.Methods.{sCleared, hitsCabinet}
+use Rattle.claims.proofs.State.ViewMoves.{Room, vResumed, vRestored, sim-restored, sim-resume, Versions, sim-note}
 use Rattle.claims.proofs.Answers.Tests.{in-state}
 use Rattle.claims.proofs.Invariant.States.{restoring-one, restoring-works, known-is-known}
 use Rattle.claims.proofs.Invariant.Facts.{Mind, Ghost, unaware}
@@ -40,7 +42,8 @@ use Rattle.claims.proofs.Invariant.Marking.{past-mind}
 use Rattle.claims.proofs.Moves.Rousing.{oResumed, roused, seen-roused}
 use Rattle.claims.proofs.Moves.Restoring.{gReady, ready-inv, marked-inv, mReady}
 use Rattle.claims.proofs.Moves.EndPairs.{bEnd, mEnd, wEnd}
-use Rattle.claims.proofs.Moves.Ending.{tabled, ended-inv, all-aware, all-recovered}
+use Rattle.claims.proofs.Moves.Remembering.{Remembered, remembered}
+use Rattle.claims.proofs.Moves.Ending.{the-place, tabs-at, tabled, ended-inv, all-aware, all-recovered}
 
 past-row : (m : Marks) (j : ℕ) → length m ≡ 8 → marked m j ≡ true → j < 8
 past-row m j e t = elim (decLt j 8) [ yes l ↦ l | no n ↦ absurd (never t (List·getD-eq-default m false {n = j} (omega arith))) ]
@@ -122,6 +125,10 @@ module _ (total : ℕ) (g : Group) (h : History) (γ : Ghost) (w : Fit g) (i : I
   unfolding reportRestored
   fit1 = with-cabinet Shaped Lined Pictured shaped g k _ (shaped .restoredFor (cabinet g k) a (w .cabs k)) w
 
+  n1 : g1 .n ≡ g .n
+  unfolding reportRestored withCabinet
+  n1 = refl
+
   -- ---- where the report was not the last one
 
   pub reported-only : Kept total g γ g1 (noteCuts h g g1)
@@ -138,66 +145,121 @@ module _ (total : ℕ) (g : Group) (h : History) (γ : Ghost) (w : Fit g) (i : I
   last = isIn (stateOf g1 k) Recovered && covers (cabinet g1 k .noted .restored) (cabinet g1 k .table .cabinets)
 
   module _ (e : last ≡ true) where
-    recovered-k : stateOf g1 k ≡ Recovered
-    recovered-k = in-state (stateOf g1 k) Recovered .0 (and-true {s = isIn (stateOf g1 k) Recovered} e .0)
+    recovered-1 : stateOf g1 k ≡ Recovered
+    recovered-1 = in-state (stateOf g1 k) Recovered .0 (and-true {s = isIn (stateOf g1 k) Recovered} e .0)
 
-    all-reported : (j : ℕ) → view g1 .side k j .cab ≡ true → view g1 .side k j .restored ≡ true
-    all-reported j c =
+    reported-1 : (j : ℕ) → view g1 .side k j .cab ≡ true → view g1 .side k j .restored ≡ true
+    reported-1 j c =
         covers-has (cabinet g1 k .noted .restored) (cabinet g1 k .table .cabinets) (and-true {s = isIn (stateOf g1 k) Recovered} e .1) j
         (past-row (cabinet g1 k .table .cabinets) j (fit1 .cabs k .cabs) c) c
 
-    aware1 : awareOf (view g1) γ1 k ≡ true
-    aware1 = and-intro faulted (rw recovered-k)
+    aware-1 : awareOf (view g1) γ1 k ≡ true
+    aware-1 = and-intro faulted (rw recovered-1)
 
-    tabled1 : (c d : ℕ) → workOf (view g1) c ≡ true → view g1 .side c d .cab ≡ workOf (view g1) d
-    tabled1 c d x = tabled (g .n) total (view g1) γ1 inv1 k aware1 all-reported c d x .0
+    -- the place that k entered error for, and its note
 
-    work-a : workOf (view g1) a ≡ true
-    work-a = ap works (state1 a) ∙ works-a
+    abbrev at : (q : Place) × (view g1 .own k .alarm ≡ At q)
+    at = the-place (g .n) total (view g1) γ1 inv1 k aware-1 reported-1
 
-    least : (j : ℕ) → workOf (view g1) j ≡ true → k ≤ j
-    least j x = lowest-le-marked (cabinet g a .table .cabinets) j (sym (cab1 a j) ∙ tabled1 a j work-a ∙ x)
+    abbrev gN : Group
+    gN = noteLost g1 k
 
-    work-k : workOf (view g1) k ≡ true
+    seenN : Versions (view g1) (view gN)
+    seenN = sim-note g1 fit1 k
+
+    noteN : Remembered (g .n) total (view g1) γ1 k (at .0) (view gN)
+    noteN =
+        subst (λ (m : ℕ). Remembered m total (view g1) γ1 k (at .0) (view gN)) n1
+        (remembered total g1 γ1 fit1 (subst (λ (m : ℕ). Inv m total (view g1) γ1) (sym n1) inv1) k aware-1 (at .0) (at .1))
+
+    invN : Inv (g .n) total (view gN) γ1
+    invN = noteN .inv
+
+    fitN : Fit gN
+    fitN = ok-noteLost Shaped Lined Pictured shaped g1 k fit1
+
+    state-1 : (c : ℕ) → stateOf gN c ≡ stateOf g1 c
+    state-1 c = ap (λ (o : Own). o .state) (seenN .own c .1)
+
+    stateN : (c : ℕ) → stateOf gN c ≡ stateOf g c
+    stateN c = state-1 c ∙ state1 c
+
+    pastN : Past (g .n) (view gN) γ1 h
+    pastN = past-same state-1 past1
+
+    cabN : (c j : ℕ) → view gN .side c j .cab ≡ view g .side c j .cab
+    cabN c j = ap (λ (s : Side). s .cab) (seenN .sides c j) ∙ cab1 c j
+
+    recovered-k : stateOf gN k ≡ Recovered
+    recovered-k = state-1 k ∙ recovered-1
+
+    all-reported : (j : ℕ) → view gN .side k j .cab ≡ true → view gN .side k j .restored ≡ true
+    all-reported j c =
+        ap (λ (s : Side). s .restored) (seenN .sides k j) ∙ reported-1 j (ap (λ (s : Side). s .cab) (sym (seenN .sides k j)) ∙ c)
+
+    awareN : awareOf (view gN) γ1 k ≡ true
+    awareN = and-intro faulted (rw recovered-k)
+
+    -- who failed since the last recovery's end is that place, and k knows the version of the save
+    note : (d : ℕ) → γ1 .mind d .tab ≡ true → workOf (view gN) d ≡ false → bitOf (view gN .own d .version) ≡ γ1 .big .topv
+    note d t w =
+        let hit = tabs-at (g .n) total (view g1) γ1 inv1 k aware-1 reported-1 d ∙ sym (ap works (state-1 d)) ∙ w in
+        let y = known-is-known (view g1 .own k .version) (inv1 .core .nodes k .unknownAware aware-1 ∙ ap (λ (s : State). isIn s Error) recovered-1) in
+        ap bitOf (noteN .note d (hit-of t hit))
+        ∙ inv1 .core .nodes k .known (ap works recovered-1) (bitOf (view g1 .own k .version)) y
+      where
+        hit-of : γ1 .mind d .tab ≡ true → (γ1 .mind d .tab && not (hitsCabinet (at .0) d)) ≡ false → hitsCabinet (at .0) d ≡ true
+        hit-of t f = is-true (hitsCabinet (at .0) d) (λ n. never (and-intro t (ap not n)) f)
+
+    tabledN : (c d : ℕ) → workOf (view gN) c ≡ true → view gN .side c d .cab ≡ workOf (view gN) d
+    tabledN c d x = tabled (g .n) total (view gN) γ1 invN k awareN all-reported c d x .0
+
+    work-a : workOf (view gN) a ≡ true
+    work-a = ap works (stateN a) ∙ works-a
+
+    least : (j : ℕ) → workOf (view gN) j ≡ true → k ≤ j
+    least j x = lowest-le-marked (cabinet g a .table .cabinets) j (sym (cabN a j) ∙ tabledN a j work-a ∙ x)
+
+    work-k : workOf (view gN) k ≡ true
     work-k = rw recovered-k
 
     abbrev x : Version
-    x = cabinet g1 k .phase .version
+    x = cabinet gN k .phase .version
 
     abbrev g2 : Group
-    g2 = endRecovery g1 k
+    g2 = endRecovery gN k
 
-    room1 : Room (vResumed (view g1) k x) k
-    room1 d u =
-        room-aware (g .n) total (view g1) γ1 (inv1 .core) k aware1 d
-        (sym (ap (λ (f : ℕ → Side). used (f d)) (upd-same (view g1 .side) k (λ b. sCleared (view g1 .side k b)))) ∙ u)
+    roomN : Room (vResumed (view gN) k x) k
+    roomN d u =
+        room-aware (g .n) total (view gN) γ1 (invN .core) k awareN d
+        (sym (ap (λ (f : ℕ → Side). used (f d)) (upd-same (view gN .side) k (λ b. sCleared (view gN .side k b)))) ∙ u)
 
-    seen2 : view g2 ≡ roused (view g1) k x
+    seen2 : view g2 ≡ roused (view gN) k x
     unfolding endRecovery
-    seen2 = sim-resume g1 fit1 k x lk room1 ∙ seen-roused (view g1) k x
+    seen2 = sim-resume gN fitN k x lk roomN ∙ seen-roused (view gN) k x
 
     abbrev γ2 : Ghost
-    γ2 = record { big = bEnd (γ .big) k; mind = λ c. mEnd (γ1 .mind c) (workOf (view g1) c); wire = λ c d. wEnd (view g1 .sound c d) }
+    γ2 = record { big = bEnd (γ .big) k; mind = λ c. mEnd (γ1 .mind c) (workOf (view gN) c); wire = λ c d. wEnd (view gN .sound c d) }
 
     inv2 : Inv (g .n) total (view g2) γ2
     inv2 =
         subst (λ (y : View). Inv (g .n) total y γ2) (sym seen2)
-        (ended-inv (g .n) total (view g1) γ1 inv1 k aware1 all-reported least)
+        (ended-inv (g .n) total (view gN) γ1 invN k awareN all-reported least note)
 
     state2 : (c : ℕ) → c ≢ k → stateOf g2 c ≡ stateOf g c
-    state2 c d = ap (λ (y : View). y .own c .state) seen2 ∙ ap (λ (o : Own). o .state) (upd-other (view g1 .own) k (oResumed (view g1 .own k) x) c d) ∙ state1 c
+    state2 c d = ap (λ (y : View). y .own c .state) seen2 ∙ ap (λ (o : Own). o .state) (upd-other (view gN .own) k (oResumed (view gN .own k) x) c d) ∙ stateN c
 
     normal-k : stateOf g2 k ≡ Normal
-    normal-k = ap (λ (y : View). y .own k .state) seen2 ∙ ap (λ (o : Own). o .state) (upd-same (view g1 .own) k (oResumed (view g1 .own k) x))
+    normal-k = ap (λ (y : View). y .own k .state) seen2 ∙ ap (λ (o : Own). o .state) (upd-same (view gN .own) k (oResumed (view gN .own k) x))
 
-    work2 : (c : ℕ) → works (stateOf g2 c) ≡ workOf (view g1) c
+    work2 : (c : ℕ) → works (stateOf g2 c) ≡ workOf (view gN) c
     work2 c = elim (ℕ-discrete c k) [
-      | yes f ↦ ap (λ (j : ℕ). works (stateOf g2 j)) f ∙ ap works normal-k ∙ sym work-k ∙ ap (workOf (view g1)) (sym f)
-      | no d ↦ ap works (state2 c d ∙ sym (state1 c))
+      | yes f ↦ ap (λ (j : ℕ). works (stateOf g2 j)) f ∙ ap works normal-k ∙ sym work-k ∙ ap (workOf (view gN)) (sym f)
+      | no d ↦ ap works (state2 c d ∙ sym (stateN c))
     ]
 
     ending : ends g g2 a ≡ true
-    ending = and-intro (ap (λ (s : State). isIn s Recovered) (sym (state1 k) ∙ recovered-k)) (ap (λ (s : State). isIn s Normal) normal-k)
+    ending = and-intro (ap (λ (s : State). isIn s Recovered) (sym (stateN k) ∙ recovered-k)) (ap (λ (s : State). isIn s Normal) normal-k)
 
     abbrev h2 : History
     h2 = noteEnd true h g2
@@ -231,24 +293,24 @@ module _ (total : ℕ) (g : Group) (h : History) (γ : Ghost) (w : Fit g) (i : I
     lost-now : (c : ℕ) (m : Image) → HeldIn (h .lost c) (latest h .cut c) m → works (stateOf g2 c) ≡ false → h2 .lost c ≡ some m
     lost-now c m f v = ⊎-elim (λ y. absurd (true≢false (sym (y .0)))) (λ y. y .1) (lost-held c m f false v)
 
-    none-lost : (c : ℕ) → workOf (view g1) c ≡ true → h2 .lost c ≡ none
+    none-lost : (c : ℕ) → workOf (view gN) c ≡ true → h2 .lost c ≡ none
     none-lost c v =
-        ap (lostNow h g2 c) (past1 .present c (inv1 .core .nodes c .placed v))
+        ap (lostNow h g2 c) (pastN .present c (invN .core .nodes c .placed v))
         ∙ ap (λ (t : Bool). cond t none (imageIn (latest h .cut c))) (work2 c ∙ v)
 
-    aware-at : (c : ℕ) → workOf (view g1) c ≡ true → awareOf (view g1) γ1 c ≡ true
-    aware-at = all-aware (g .n) total (view g1) γ1 inv1 k aware1 all-reported
+    aware-at : (c : ℕ) → workOf (view gN) c ≡ true → awareOf (view gN) γ1 c ≡ true
+    aware-at = all-aware (g .n) total (view gN) γ1 invN k awareN all-reported
 
-    recovered-at : (c : ℕ) → workOf (view g1) c ≡ true → view g1 .own c .state ≡ Recovered
-    recovered-at = all-recovered (g .n) total (view g1) γ1 inv1 k aware1 all-reported
+    recovered-at : (c : ℕ) → workOf (view gN) c ≡ true → view gN .own c .state ≡ Recovered
+    recovered-at = all-recovered (g .n) total (view gN) γ1 invN k awareN all-reported
 
-    kept2 : {A : Type 0} (f : Own → A) → f (oResumed (view g1 .own k) x) ≡ f (view g1 .own k) → (c : ℕ) → f (view g2 .own c) ≡ f (view g1 .own c)
-    kept2 f r c = ap (λ (y : View). f (y .own c)) seen2 ∙ kept-at f (view g1 .own) k (oResumed (view g1 .own k) x) r c
+    kept2 : {A : Type 0} (f : Own → A) → f (oResumed (view gN .own k) x) ≡ f (view gN .own k) → (c : ℕ) → f (view g2 .own c) ≡ f (view gN .own c)
+    kept2 f r c = ap (λ (y : View). f (y .own c)) seen2 ∙ kept-at f (view gN .own) k (oResumed (view gN .own k) x) r c
 
     none-waits : (c : ℕ) → isIn (stateOf g2 c) Checkpointed ≡ true → ⊥
     none-waits c s =
         let e = sym (kept2 (λ (o : Own). isIn (o .state) Checkpointed) (rw recovered-k) c) ∙ s in
-        never e (ap (λ (y : State). isIn y Checkpointed) (recovered-at c (ap works (in-state (view g1 .own c .state) Checkpointed .0 e))))
+        never e (ap (λ (y : State). isIn y Checkpointed) (recovered-at c (ap works (in-state (view gN .own c .state) Checkpointed .0 e))))
 
     past2 : Past (g .n) (view g2) γ2 h2
     past2 = record {
@@ -257,12 +319,12 @@ module _ (total : ℕ) (g : Group) (h : History) (γ : Ghost) (w : Fit g) (i : I
       hurt = refl;
       cuts = λ y c d. absurd (false≢true d);
       noCut = λ y f. absurd (false≢true f);
-      known = past1 .known ∙ inv1 .core .nodes k .restored aware1 recovered-k .1;
-      tops = λ c l. held-now c (γ1 .mind c .top) (past1 .tops c l);
-      balanced = past1 .balanced;
+      known = pastN .known ∙ invN .core .nodes k .restored awareN recovered-k .1;
+      tops = λ c l. held-now c (γ1 .mind c .top) (pastN .tops c l);
+      balanced = pastN .balanced;
       present = none-lost;
-      gone = λ c l t. lost-now c (γ1 .mind c .top) (past1 .tops c l) (work2 c ∙ t);
-      beyond = past1 .beyond;
+      gone = λ c l t. lost-now c (γ1 .mind c .top) (pastN .tops c l) (work2 c ∙ t);
+      beyond = pastN .beyond;
       below = λ f. absurd (true≢false f);
       begun = ⊎-elim (λ f. absurd (false≢true f)) (λ f. absurd (true≢false f));
       waits = λ c s _. absurd (none-waits c s);
@@ -270,25 +332,25 @@ module _ (total : ℕ) (g : Group) (h : History) (γ : Ghost) (w : Fit g) (i : I
 
     -- ---- demand 3 at the recovery's end
 
-    one-version : (c : ℕ) → workOf (view g1) c ≡ true → cabinet g2 c .phase .version ≡ Known (γ .big .topv)
+    one-version : (c : ℕ) → workOf (view gN) c ≡ true → cabinet g2 c .phase .version ≡ Known (γ .big .topv)
     one-version c v =
-        let y = known-is-known (view g1 .own c .version) (inv1 .core .nodes c .unknownAware (aware-at c v) ∙ ap (λ (s : State). isIn s Error) (recovered-at c v)) in
-        kept2 (λ (o : Own). o .version) refl c ∙ y ∙ ap Known (inv1 .core .nodes c .known v (bitOf (view g1 .own c .version)) y)
+        let y = known-is-known (view gN .own c .version) (invN .core .nodes c .unknownAware (aware-at c v) ∙ ap (λ (s : State). isIn s Error) (recovered-at c v)) in
+        kept2 (λ (o : Own). o .version) refl c ∙ y ∙ ap Known (invN .core .nodes c .known v (bitOf (view gN .own c .version)) y)
 
-    image-top : (c : ℕ) → workOf (view g1) c ≡ true → cabinet g2 c .image ≡ γ1 .mind c .top
-    image-top c v = kept2 (λ (o : Own). o .image) refl c ∙ inv1 .core .nodes c .restored (aware-at c v) (recovered-at c v) .0
+    image-top : (c : ℕ) → workOf (view gN) c ≡ true → cabinet g2 c .image ≡ γ1 .mind c .top
+    image-top c v = kept2 (λ (o : Own). o .image) refl c ∙ invN .core .nodes c .restored (aware-at c v) (recovered-at c v) .0
 
     counts : (c : ℕ) → c < g .n → amperes (counted h2 g2 c) ≡ booked (γ1 .mind c .top)
-    counts c l = go (workOf (view g1) c) refl
+    counts c l = go (workOf (view gN) c) refl
       where
-        go : (t : Bool) → workOf (view g1) c ≡ t → amperes (counted h2 g2 c) ≡ booked (γ1 .mind c .top)
+        go : (t : Bool) → workOf (view gN) c ≡ t → amperes (counted h2 g2 c) ≡ booked (γ1 .mind c .top)
         go true v =
-            let y = cut-held inv1 past1 c v in
+            let y = cut-held invN pastN c v in
             ap (λ (t : Bool). amperes (cond t (imageIn (latest h .cut c)) (h2 .lost c))) (work2 c ∙ v)
             ∙ ap (λ (o : Option Cut). amperes (imageIn o)) (y .1) ∙ ap booked (y .2)
         go false v =
             ap (λ (t : Bool). amperes (cond t (imageIn (latest h .cut c)) (h2 .lost c))) (work2 c ∙ v)
-            ∙ ap amperes (lost-now c (γ1 .mind c .top) (past1 .tops c l) (work2 c ∙ v))
+            ∙ ap amperes (lost-now c (γ1 .mind c .top) (pastN .tops c l) (work2 c ∙ v))
 
     demand-three : Restored (g .n) total h2 g2
     demand-three = record {
@@ -296,11 +358,11 @@ module _ (total : ℕ) (g : Group) (h : History) (γ : Ghost) (w : Fit g) (i : I
       known = λ c l v. one-version c (sym (work2 c) ∙ v);
       held = λ c l v.
           let u = sym (work2 c) ∙ v in
-          let y = cut-held inv1 past1 c u in
+          let y = cut-held invN pastN c u in
           (y .0, y .1, image-top c u ∙ sym (y .2));
-      balanced = past1 .balanced;
-      lost = λ c l v. (γ1 .mind c .top, lost-now c (γ1 .mind c .top) (past1 .tops c l) v);
-      adds = sum-cong _ _ (g .n) (λ c l. counts c l) ∙ tops-add inv1 past1;
+      balanced = pastN .balanced;
+      lost = λ c l v. (γ1 .mind c .top, lost-now c (γ1 .mind c .top) (pastN .tops c l) v);
+      adds = sum-cong _ _ (g .n) (λ c l. counts c l) ∙ tops-add invN pastN;
     }
 
     pub ended-next : Next total g γ g2 (noteCuts (noteEnd (ends g g2 a) h g2) g g2)

@@ -207,6 +207,7 @@ module _ (b : Big) (c : ℕ) (o : Own) (m : Mind) (z : Bool → Image) (h : Node
     slotPrev = λ e. absurd (true≢false e);
     slotCut = λ a. absurd (false≢true a);
     slotPieces = λ a. absurd (false≢true a);
+    noted = λ e. h .noted e ∙ sym (h .gone e .1 not-yet);
     sizes = (h .sizes .1 .0, (h .sizes .1 .1, h .sizes .1 .1));
   }
 

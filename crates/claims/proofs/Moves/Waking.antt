@@ -137,6 +137,7 @@ module _ (b : Big) (c : ℕ) (o : Own) (m : Mind) (z : Bool → Image) (h : Node
     slotPrev = λ e. absurd (true≢false e);
     slotCut = h .slotCut;
     slotPieces = λ a u. not-normal Checkpointing refl;
+    noted = λ e. absurd (never (h .placed was-working) e);
     sizes = h .sizes;
   }
 

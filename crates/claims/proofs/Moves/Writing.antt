@@ -174,6 +174,9 @@ module _ (b : Big) (c : ℕ) (o : Own) (m : Mind) (z y : Bool → Image) (h : No
   not-before : {A : Type 0} → b .adopted ≡ false → (c ≡ b .chief → m .done ≡ false) → A
   not-before e d = not-waiting e (λ q. never (has .0) (d q))
 
+  not-gone : {A : Type 0} → m .tab ≡ false → A
+  not-gone e = absurd (never (h .placed (un-works b o un)) e)
+
   pub part-node : o .pieces < 3 → (b .alive ≡ true → SameTo (8 * (o .pieces + 1)) (y (not (b .topv))) (m .cut)) → Node b c (oPieces o (o .pieces + 1)) m y
   part-node few more =
       let ib : unaware b o ≡ true → o .state ≡ CheckpBegin → (m .joined ≡ true) × (m .done ≡ false) × (o .pieces + 1 ≡ 0) = λ u e. absurd (other-state at refl e) in
@@ -184,6 +187,7 @@ module _ (b : Big) (c : ℕ) (o : Own) (m : Mind) (z y : Bool → Image) (h : No
       let sp : b .adopted ≡ false → m .tab ≡ true → (c ≡ b .chief → m .done ≡ false) → y (not (b .topv)) ≡ m .prev = λ e t d. not-before e d in
       let sc : b .alive ≡ true → m .wrote ≡ true → y (not (b .topv)) ≡ m .cut = λ e f. absurd (never f (has .1)) in
       let sl : b .alive ≡ true → unaware b o ≡ true → o .state ≡ Checkpointing → SameTo (8 * (o .pieces + 1)) (y (not (b .topv))) (m .cut) = λ e f k. more e in
+      let sn : m .tab ≡ false → y (bitOf (o .version)) ≡ m .top = not-gone in
       search
 
   module _ (x : Version) (mine : c ≡ b .chief → x ≡ Known (b .topv)) (other : c ≢ b .chief → x ≡ Unknown (b .topv)) where
@@ -241,6 +245,7 @@ module _ (b : Big) (c : ℕ) (o : Own) (m : Mind) (z y : Bool → Image) (h : No
       slotPrev = λ e t d. not-before e d;
       slotCut = λ a e. all a;
       slotPieces = λ a u e. absurd (other-state refl refl e);
+      noted = not-gone;
       sizes = h .sizes;
     }
 

@@ -8,7 +8,7 @@ use lib.Dec.{eqb, ltb}
 use Rattle.marks.specs.Marks.{marked, covers}
 use Rattle.marks.specs.Reach.{struck, connected}
 use Rattle.packet.specs.declared.Place.{Place}
-use Rattle.packet.specs.declared.Place.the-variants.{Cabinet as AtCabinet}
+use Rattle.packet.specs.declared.Place.the-variants.{Cabinet as AtCabinet, Link as AtLink}
 use Rattle.packet.specs.declared.Packet.{Packet}
 use Rattle.packet.specs.declared.Packet.the-variants.{Empty, Normal as NormalPacket, Checkp, Resume, Recover, Fault, Invalid}
 use Rattle.packet.specs.Packet.{isNormal, sameCheck, startCheck, linkPlace, damaged}
@@ -16,6 +16,8 @@ use Rattle.line.specs.Line.{oldest, rest, packetAt, replaced}
 use Rattle.state.specs.declared.State.the-variants.{Normal, CheckpBegin, Checkpointed, Error, Recovered}
 use Rattle.state.specs.declared.Version.{Version}
 use Rattle.state.specs.declared.Version.the-variants.{Known, Unknown}
+use Rattle.cabinet.specs.declared.Alarm.{Alarm}
+use Rattle.cabinet.specs.declared.Alarm.the-variants.{Quiet, Fault as At}
 use Rattle.cabinet.specs.Alarm.{isFor}
 use Rattle.state.specs.State.{isIn, inRecovery}
 use Rattle.cabinet.specs.Cabinet.{inUse}
@@ -26,7 +28,7 @@ use Rattle.protocol.specs.declared.Step.{Step}
 use Rattle.protocol.specs.declared.Step.the-variants.{Send, Note, Begin, Deliver, Write, Saved, Fetch, Restored, WaitOver, Fail, Damage}
 use Rattle.protocol.specs.declared.Decoded.{Decoded}
 use Rattle.protocol.specs.declared.Decoded.the-variants.{Malformed, Unused, Taken}
-use Rattle.protocol.specs.Moves.{broadcast, join, cutIfAll, takeCheckp, resumeWith, commit, adopt, recoverWith, recoverIfKnown, raise, enterError, hear, findLinkFault, emptiedTo, markFailed, neighbours, enterErrorIf, alarmTo, endRecovery}
+use Rattle.protocol.specs.Moves.{broadcast, join, cutIfAll, takeCheckp, resumeWith, commit, adopt, recoverWith, recoverIfKnown, raise, enterError, hear, findLinkFault, emptiedTo, markFailed, neighbours, enterErrorIf, alarmTo, endRecovery, noteAt, noteFor, noteLost}
 use Rattle.protocol.specs.Receive.{serving, takesFrom, joinIf, resumesFrom, receiveNormal, receiveCheckp, receiveResume, receiveRecover, receiveFault, receiveInvalid, receive}
 use Rattle.protocol.specs.Kinds.{orRefuse, sendStep, sendRefusal, sent, noteStep, noteRefusal, beginStep, beginRefusal, deliverStep, deliverRefusal, delivered, writeStep, writeRefusal, writePiece, oweIf, savedStep, savedRefusal, reportSaved, commitIfAll, fetchStep, fetchRefusal, fetchPiece, restoredStep, restoredRefusal, reportRestored, endIfAll, waitOverStep, waitOverRefusal, failStep, failCrashes, hurtIf, hurt, damageStep, damageRefusal}
 use Rattle.protocol.specs.Entry.{step, stepDecoded, perform, entryRefusal, decode}
@@ -41,6 +43,19 @@ join-n g i = refl
 resume-n : (g : Group) (i : ℕ) (v : Version) → resumeWith g i v .n ≡ g .n
 unfolding resumeWith broadcast withOutgoing withCabinet
 resume-n g i v = refl
+
+note-at-n : (p : Place) (g : Group) (v : Version) → noteAt p g v .n ≡ g .n
+unfolding withCabinet
+note-at-n (AtCabinet x) g v = refl
+note-at-n (AtLink x y) g v = refl
+
+note-for-n : (a : Alarm) (g : Group) (v : Version) → noteFor a g v .n ≡ g .n
+note-for-n Quiet g v = refl
+note-for-n (At p) g v = note-at-n p g v
+
+note-n : (g : Group) (k : ℕ) → noteLost g k .n ≡ g .n
+unfolding noteLost
+note-n g k = note-for-n (cabinet g k .phase .alarm) g (cabinet g k .phase .version)
 
 recover-n : (g : Group) (i : ℕ) (v : Bool) → recoverWith g i v .n ≡ g .n
 unfolding recoverWith broadcast withOutgoing withCabinet
@@ -155,7 +170,7 @@ module _ (g : Group) where
   unfolding restoredStep reportRestored endIfAll endRecovery withCabinet
   restored-n a =
       refused (restoredRefusal g a) _
-      (cond-elim (λ (x : Group). x .n ≡ g .n) (isIn (stateOf _ _) Recovered && covers (cabinet _ _ .noted .restored) (cabinet _ _ .table .cabinets)) (λ _. resume-n _ _ _) (λ _. refl))
+      (cond-elim (λ (x : Group). x .n ≡ g .n) (isIn (stateOf _ _) Recovered && covers (cabinet _ _ .noted .restored) (cabinet _ _ .table .cabinets)) (λ _. resume-n _ _ _ ∙ note-n _ _) (λ _. refl))
 
   damage-n : (a b p q : ℕ) → Kept (damageStep g a b p q)
   unfolding damageStep hurt withLine withOutgoing withCabinet

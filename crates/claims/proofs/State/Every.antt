@@ -13,7 +13,7 @@ use Rattle.marks.specs.Reach.{struck, connected}
 use Rattle.packet.specs.declared.Payload.{Payload}
 use Rattle.packet.specs.declared.Check.{Check}
 use Rattle.packet.specs.declared.Place.{Place}
-use Rattle.packet.specs.declared.Place.the-variants.{Cabinet as AtCabinet}
+use Rattle.packet.specs.declared.Place.the-variants.{Cabinet as AtCabinet, Link as AtLink}
 use Rattle.packet.specs.declared.Packet.{Packet}
 use Rattle.packet.specs.declared.Packet.the-variants.{Empty, Normal as NormalPacket, Checkp, Resume, Recover, Fault, Invalid}
 use Rattle.line.specs.declared.Cell.{Cell}
@@ -25,11 +25,13 @@ use Rattle.state.specs.declared.State.the-variants.{Failed, Normal, CheckpBegin
 use Rattle.state.specs.declared.Version.{Version}
 use Rattle.state.specs.declared.Version.the-variants.{Known, Unknown}
 use Rattle.image.specs.declared.Image.{Image}
+use Rattle.cabinet.specs.declared.Alarm.{Alarm}
+use Rattle.cabinet.specs.declared.Alarm.the-variants.{Quiet, Fault as At}
 use Rattle.cabinet.specs.declared.Cabinet.{Cabinet}
 use Rattle.cabinet.specs.Alarm.{isFor}
 use Rattle.state.specs.State.{isIn, works, inRecovery, bitOf}
 use Rattle.image.specs.Image.{booked, withOctet, withPiece}
-use Rattle.cabinet.specs.Cabinet.{absent, inUse, withImage, withState, sending, taking, hurtFrom, beginning, comparing, cutting, wrote, owing, savedFor, resuming, alarmed, hearing, recovering, fetched, restoredFor, crashing}
+use Rattle.cabinet.specs.Cabinet.{absent, inUse, withImage, withState, withVersion, sending, taking, hurtFrom, beginning, comparing, cutting, wrote, owing, savedFor, resuming, alarmed, hearing, recovering, fetched, restoredFor, crashing}
 use Rattle.outgoing.specs.declared.Outgoing.{Outgoing}
 use Rattle.group.specs.declared.Slots.{Slots}
 use Rattle.group.specs.declared.Group.{Group}
@@ -40,7 +42,7 @@ use Rattle.protocol.specs.declared.Step.{Step}
 use Rattle.protocol.specs.declared.Step.the-variants.{Send, Note, Begin, Deliver, Write, Saved, Fetch, Restored, WaitOver, Fail, Damage}
 use Rattle.protocol.specs.declared.Decoded.{Decoded}
 use Rattle.protocol.specs.declared.Decoded.the-variants.{Malformed, Unused, Taken}
-use Rattle.protocol.specs.Moves.{broadcast, join, cutIfAll, takeCheckp, resumeWith, commit, adopt, recoverWith, recoverIfKnown, raise, enterError, hear, findLinkFault, emptiedTo, markFailed, neighbours, enterErrorIf, alarmTo, endRecovery}
+use Rattle.protocol.specs.Moves.{broadcast, join, cutIfAll, takeCheckp, resumeWith, commit, adopt, recoverWith, recoverIfKnown, raise, enterError, hear, findLinkFault, emptiedTo, markFailed, neighbours, enterErrorIf, alarmTo, endRecovery, noteAt, noteFor, noteLost}
 use Rattle.protocol.specs.Receive.{serving, takesFrom, receiveNormal, joinIf, receiveCheckp, resumesFrom, receiveResume, receiveRecover, receiveFault, receiveInvalid, receive}
 use Rattle.protocol.specs.Kinds.{need, orRefuse, sendRefusal, sent, sendStep, noteRefusal, noteStep, beginStep, beginRefusal, deliverRefusal, delivered, deliverStep, writeRefusal, writePiece, oweIf, writeStep, savedRefusal, reportSaved, commitIfAll, savedStep, fetchRefusal, fetchPiece, fetchStep, restoredRefusal, reportRestored, endIfAll, restoredStep, waitOverRefusal, waitOverStep, failCrashes, failStep, hurtIf, hurt, damageRefusal, damageStep}
 use Rattle.protocol.specs.Entry.{step, stepDecoded, perform, entryRefusal, decode, fieldsOf, aloneOf}
@@ -144,6 +146,7 @@ pub record Closed (C : Cabinet → Type 0) (L : Line → Type 0) (I : Image → 
   pub beginning : (c : Cabinet) → C c → C (beginning c)
   pub comparing : (c : Cabinet) (j : ℕ) → C c → C (comparing c j)
   pub stated : (c : Cabinet) (s : State) → C c → C (withState c s)
+  pub versioned : (c : Cabinet) (v : Version) → C c → C (withVersion c v)
   pub wrote : (c : Cabinet) (i : ℕ) → C c → C (wrote c i)
   pub owing : (c : Cabinet) (j : ℕ) (o : Bool) → C c → C (owing c j o)
   pub savedFor : (c : Cabinet) (j : ℕ) → C c → C (savedFor c j)
@@ -510,11 +513,23 @@ module _ (C : Cabinet → Type 0) (L : Line → Type 0) (I : Image → Type 0) (
       (h .cabs a))
       h
 
+  ok-noteAt : (p : Place) (g : Group) (v : Version) → Ok g → Ok (noteAt p g v)
+  ok-noteAt (AtCabinet x) g v h = with-cabinet g x _ (k .versioned _ v (h .cabs x)) h
+  ok-noteAt (AtLink x y) g v h = h
+
+  ok-noteFor : (a : Alarm) (g : Group) (v : Version) → Ok g → Ok (noteFor a g v)
+  ok-noteFor Quiet g v h = h
+  ok-noteFor (At p) g v h = ok-noteAt p g v h
+
+  pub ok-noteLost : (g : Group) (i : ℕ) → Ok g → Ok (noteLost g i)
+  unfolding noteLost
+  ok-noteLost g i h = ok-noteFor (cabinet g i .phase .alarm) g (cabinet g i .phase .version) h
+
   pub ok-endIfAll : (g : Group) (i : ℕ) → Ok g → Ok (endIfAll g i)
   unfolding endIfAll
   ok-endIfAll g i h =
       cond-elim Ok (isIn (stateOf g i) Recovered && covers (cabinet g i .noted .restored) (cabinet g i .table .cabinets))
-      (λ _. ok-endRecovery g i h) (λ _. h)
+      (λ _. ok-endRecovery (noteLost g i) i (ok-noteLost g i h)) (λ _. h)
 
   pub ok-hurtIf : (t : Bool) (g : Group) (a b : ℕ) → Ok g → Ok (hurtIf t g a b)
   ok-hurtIf true g a b h = with-cabinet g b _ (k .hurtFrom _ a (h .cabs b)) h

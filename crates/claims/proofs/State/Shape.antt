@@ -284,6 +284,7 @@ shaped = record {
   beginning = λ c h. let r = length-restart 8 (inUse c) (c .registers .sent) ∙ h .sent in search;
   comparing = λ c j h. search length-set;
   stated = λ c s h. search;
+  versioned = λ c v h. search;
   wrote = shaped-wrote;
   owing = λ c j o h. search length-set;
   savedFor = λ c j h. search length-set;

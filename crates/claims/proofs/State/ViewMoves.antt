@@ -4,6 +4,7 @@ use mathlib.Core.Path.{_≡_, refl, sym, ap, _∙_, fun-ext, subst}
 use mathlib.Core.Logic.{_≢_}
 use mathlib.Core.Bool.{Bool, true, false, cond, _&&_}
 use mathlib.Core.List.{List, [], _∷_, _++_}
+use lib.Seq.{set-out}
 use lib.ListN.{length, getD, replicate, getD-replicate}
 use lib.Dec.{eqb, ltb}
 use borrow.Author.Tests.{lt-ltb, le-ltb, eq-eqb, ne-eqb}
@@ -15,6 +16,7 @@ use Rattle.packet.specs.declared.Payload.{Payload}
 use Rattle.packet.specs.declared.Packet.{Packet}
 use Rattle.packet.specs.declared.Packet.the-variants.{Normal as NormalPacket, Checkp, Resume, Recover, Fault}
 use Rattle.packet.specs.declared.Place.{Place}
+use Rattle.packet.specs.declared.Place.the-variants.{Cabinet as AtCabinet, Link as AtLink}
 use Rattle.line.specs.declared.Cell.{Cell}
 use Rattle.packet.specs.Packet.{isEmpty, startCheck, stepCheck}
 use Rattle.line.specs.declared.Line.{Line}
@@ -28,16 +30,16 @@ use Rattle.cabinet.specs.declared.Alarm.the-variants.{Quiet, Fault as At}
 use Rattle.image.specs.declared.Image.{Image}
 use Rattle.cabinet.specs.declared.Cabinet.{Cabinet}
 use Rattle.image.specs.Image.{booked, withBooked}
-use Rattle.cabinet.specs.Cabinet.{inUse, sending, taking, hurtFrom, beginning, comparing, owing, savedFor, resuming, alarmed, recovering, restoredFor, withState}
+use Rattle.cabinet.specs.Cabinet.{inUse, sending, taking, hurtFrom, beginning, comparing, owing, savedFor, resuming, alarmed, recovering, restoredFor, withState, withVersion}
 use Rattle.group.specs.declared.Group.{Group}
 use Rattle.outgoing.specs.Lines.{putAll, putCheckps, checkps, emptyLines, lineTo}
-use Rattle.group.specs.Group.{cabinet, withCabinet, outgoing, withOutgoing, line, withLine}
+use Rattle.group.specs.Group.{cabinet, withCabinets, withCabinet, outgoing, withOutgoing, line, withLine}
 use Rattle.protocol.specs.History.{upd}
-use Rattle.protocol.specs.Moves.{broadcast, join, resumeWith, recoverWith, raise, hear, emptiedTo, markFailed}
+use Rattle.protocol.specs.Moves.{broadcast, join, resumeWith, recoverWith, raise, hear, emptiedTo, markFailed, noteAt, noteFor, noteLost}
 use Rattle.protocol.specs.Kinds.{sent}
 use Rattle.claims.proofs.State.Fun.{upd-elim, upd-same, and-false}
 use Rattle.claims.proofs.State.Every.{getD-repeated, with-cabinet, with-outgoing, put-checkps, out-of, no-packets, ok-emptied}
-use Rattle.claims.proofs.State.View.{View, Own, ownOf, used, content, view, setCabinet, setLines, setLine}
+use Rattle.claims.proofs.State.View.{View, Own, Side, ownOf, used, content, view, setCabinet, setLines, setLine}
 use Rattle.claims.proofs.State.Cells.{content-oldest}
 use Rattle.claims.proofs.State.Shape.{Shaped, Lined, Pictured, shaped}
 use Rattle.claims.proofs.State.Sim.{Fit, contents, put-content, view-line, view-cabinet, view-outgoing, in-use, past-use, row-content}
@@ -362,3 +364,47 @@ vCut v i = setCabinet v i (oPhase (v .own i) Checkpointing (v .own i .version) (
 
 pub sim-cut : (g : Group) → Fit g → (i : ℕ) → i < 8 → view (withCabinet g i (withState (cabinet g i) Checkpointing)) ≡ vCut (view g) i
 sim-cut g w i l = view-cabinet g (w .frame) i _ l
+
+-- ---- the note of a failed cabinet's slot: a version changes, if anything does
+
+abbrev pub oVersion : Own → Version → Own
+oVersion o y = oPhase o (o .state) y (o .alarm)
+
+pub record Versions (v u : View) : Type 0 where
+  pub own : (c : ℕ) → (y : Version) × (u .own c ≡ oVersion (v .own c) y)
+  pub sides : (c d : ℕ) → u .side c d ≡ v .side c d
+  pub lines : u .lines ≡ v .lines
+  pub sound : u .sound ≡ v .sound
+
+same-versions : (v : View) → Versions v v
+same-versions v = record { own = λ c. (v .own c .version, refl); sides = λ c d. refl; lines = refl; sound = refl }
+
+no-cabinet : (g : Group) → Fit g → (x : ℕ) (c : Cabinet) → 8 ≤ x → withCabinet g x c ≡ g
+unfolding withCabinet
+no-cabinet g w x c l = λ t. withCabinets g (set-out (g .cabinets) x c (omega (arith, w .frame .cabinets)) t)
+
+pub sim-version : (g : Group) → Fit g → (x : ℕ) (y : Version) → x < 8
+    → view (withCabinet g x (withVersion (cabinet g x) y)) ≡ setCabinet (view g) x (oVersion (view g .own x) y) (view g .side x)
+sim-version g w x y l = view-cabinet g (w .frame) x (withVersion (cabinet g x) y) l
+
+note-at : (p : Place) (g : Group) (y : Version) → Fit g → Versions (view g) (view (noteAt p g y))
+note-at (AtLink x z) g y w = same-versions (view g)
+note-at (AtCabinet x) g y w = elim (decLt x 8) [
+  | no n ↦ subst (λ (u : Group). Versions (view g) (view u)) (sym (no-cabinet g w x (withVersion (cabinet g x) y) (omega arith))) (same-versions (view g))
+  | yes l ↦ subst (Versions (view g)) (sym (sim-version g w x y l)) (record {
+    own = λ c. upd-elim (λ (o : Own). (z : Version) × (o ≡ oVersion (view g .own c) z)) (view g .own) x (oVersion (view g .own x) y) c
+        (λ e. (y, ap (λ (j : ℕ). oVersion (view g .own j) y) (sym e))) (λ n. (view g .own c .version, refl));
+    sides = λ c d. upd-elim (λ (s : ℕ → Side). s d ≡ view g .side c d) (view g .side) x (view g .side x) c
+        (λ e. ap (λ (j : ℕ). view g .side j d) (sym e)) (λ n. refl);
+    lines = refl;
+    sound = refl;
+  })
+]
+
+note-for : (a : Alarm) (g : Group) (y : Version) → Fit g → Versions (view g) (view (noteFor a g y))
+note-for Quiet g y w = same-versions (view g)
+note-for (At p) g y w = note-at p g y w
+
+pub sim-note : (g : Group) → Fit g → (k : ℕ) → Versions (view g) (view (noteLost g k))
+unfolding noteLost
+sim-note g w k = note-for (cabinet g k .phase .alarm) g (cabinet g k .phase .version) w

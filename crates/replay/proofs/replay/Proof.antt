@@ -2,10 +2,13 @@
 use borrow.Author.Needs.{needs}
 use mathlib.Core.Path.{ap, _∙_}
 use lib.ListN.{length}
-use lib.Seq.{length-sets}
+use lib.Seq.{sets, length-sets}
+use Rattle.points.specs.Points.{noPoints}
 use Rattle.protocol.specs.Entry.{answersFrom}
+use Rattle.protocol.specs.History.{stepping, steps}
 use Rattle.replay.specs.Replay.{recordsIn}
-use Rattle.replay.proofs.Moments.{accepted, answered, refused, unanswered, ends-well}
+use Rattle.replay.proofs.Steps.{steps-groups, steps-answers}
+use Rattle.replay.proofs.Moments.{accepted, answered, refused, unanswered, all-octets, ends-well}
 use Rattle.replay.proofs.replay.Statement.{statement}
 use Rattle.replay.proofs.replay.Tie as tie
 
@@ -24,21 +27,24 @@ replay-spec = tie.close (tie.spec
     let load = test .before .before in
     let known = load .before .before in
     let a = known .before .before .args in
+    let rs = recordsIn (a .list .now) in
+    let g = load .load .result .group in
     let o = load .load .ensures in (
-      accepted (a .file .now) (recordsIn (a .list .now)) o (test .if1 .taken) (run .run .ensures .0),
+      accepted (a .file .now) (steps rs) o (test .if1 .taken) (run .run .ensures .0 ∙ steps-groups rs g noPoints),
       (
-        answered (a .file .now) (recordsIn (a .list .now)) o (a .answers .now) (test .if1 .taken) (run .run .ensures .1),
-        ends-well (a .file .now) (a .list .now) (known .before .shared-slice-known .given) (known .shared-slice-known2 .given),
+        answered (a .file .now) (steps rs) o (a .answers .now) (test .if1 .taken) (run .run .ensures .1 ∙ ap (sets (a .answers .now) 0) (steps-answers rs g noPoints)),
+        ends-well (a .file .now) (known .before .shared-slice-known .given) (steps rs) (all-octets stepping (λ r q. q) 6 (length (a .list .now)) (a .list .now) (known .shared-slice-known2 .given)),
       ),
     ))
     (λ c.
     let load = c .before .before in
     let known = load .before .before in
     let a = known .before .before .args in
+    let rs = recordsIn (a .list .now) in
     let o = load .load .ensures in (
-      refused (a .file .now) (recordsIn (a .list .now)) o (c .if1 .left),
+      refused (a .file .now) (steps rs) o (c .if1 .left),
       (
-        unanswered (a .file .now) (recordsIn (a .list .now)) o (a .answers .now) (c .if1 .left),
-        ends-well (a .file .now) (a .list .now) (known .before .shared-slice-known .given) (known .shared-slice-known2 .given),
+        unanswered (a .file .now) (steps rs) o (a .answers .now) (c .if1 .left),
+        ends-well (a .file .now) (known .before .shared-slice-known .given) (steps rs) (all-octets stepping (λ r q. q) 6 (length (a .list .now)) (a .list .now) (known .shared-slice-known2 .given)),
       ),
     )))

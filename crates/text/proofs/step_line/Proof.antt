@@ -1,6 +1,5 @@
--- `step_line`: its parts in order.
+-- `step_line`: the word is `step`.
 use borrow.Author.Needs.{needs}
-use Rattle.buffer.proofs.Texts.{then}
 use Rattle.text.proofs.step_line.Statement.{statement}
 use Rattle.text.proofs.step_line.Tie as tie
 
@@ -8,13 +7,5 @@ pub step-line-spec : {M : Type 1} → statement M
 step-line-spec = tie.close (tie.spec
     (λ c. search needs)
     (λ c κs. search needs)
-    (λ c κs. search needs)
-    (λ c κs. search needs)
-    (λ c κs. search needs)
     (λ c. search needs)
-    (λ c.
-    let end = c .before .before in
-    let answer = end .before .before .before .before in
-    let k = answer .before .before .before .before in
-    let head = k .before .before .before .before in
-    then (then (then (head .word .ensures) (k .number .ensures)) (answer .number2 .ensures)) (end .end-line .ensures)))
+    (λ c. c .before .before .answer-line .ensures))

@@ -1,8 +1,8 @@
--- What holds in every run, from every group file and for every list of records: the sizes of rows, lines and images.
+-- The sizes of rows, lines and images in a group as a file is loaded to it.
 use Prim.Native.Nat.{ℕ, zero, suc, _+_, _-_, _*_, _<_}
 use mathlib.Core.Path.{_≡_, refl, ap, _∙_}
 use mathlib.Core.Bool.{Bool, true, cond}
-use mathlib.Core.List.{List, [], _∷_}
+use mathlib.Core.List.{List, []}
 use lib.ListN.{length, getD, set, replicate, length-set}
 use lib.Seq.{set-out}
 use lib.Dec.{eqb, ltb}
@@ -20,14 +20,10 @@ use Rattle.outgoing.specs.Lines.{emptyLines, lineTo}
 use Rattle.group.specs.Group.{cabinet, outgoing, line, slot, blankSlots}
 use Rattle.marks.proofs.Lists.{getD-in}
 use Rattle.load.specs.Load.{load, loadRefusal, groupOf, noGroup, cabinetCount, cabinetOf, cabinetsOf, imageOf, slotsOf, storeOf, linked, linkRows, linkCount, rowsIn, lowerOf, higherOf}
-use Rattle.protocol.specs.History.{World, advance, run, opening}
-use Rattle.protocol.specs.Restored.{Octets, Records}
 use Rattle.claims.proofs.State.Fun.{cond-elim}
-use Rattle.claims.proofs.State.Every.{getD-set, getD-each, getD-repeated, every-step}
+use Rattle.claims.proofs.State.Every.{getD-set, getD-each, getD-repeated}
 use Rattle.claims.proofs.State.Shape.{Shaped, Lined, Pictured, shaped}
 use Rattle.claims.proofs.State.Sim.{Fit}
-
--- ---- a loaded group
 
 abbrev Eight : Marks → Type 0
 Eight m = length m ≡ 8
@@ -122,13 +118,3 @@ module _ (f : List ℕ) (o : (i : ℕ) → getD f i 0 < 256) where
   pub loaded-fit : Fit (load f .group)
   unfolding load
   loaded-fit = cond-elim (λ (x : Outcome). Fit (x .group)) (eqb (loadRefusal f) 0) (λ _. fit-group) (λ _. fit-none)
-
--- ---- every run
-
-run-fit : (rs : List (List ℕ)) (w : World) → Records rs → Fit (w .group) → Fit (run w rs .group)
-unfolding run advance
-run-fit [] w o h = h
-run-fit (r ∷ rs) w o h = run-fit rs _ (o .1) (every-step Shaped Lined Pictured shaped (w .group) r (o .0) h)
-
-pub every-run : (f : List ℕ) → Octets f → (rs : List (List ℕ)) → Records rs → Fit (run (opening (load f .group)) rs .group)
-every-run f of rs o = run-fit rs (opening (load f .group)) o (loaded-fit f of)

@@ -1,7 +1,7 @@
 -- `state_word`, by the nine states.
 use borrow.Author.Needs.{needs}
-use Rattle.text.proofs.state_word.Statement.{statement}
-use Rattle.text.proofs.state_word.Tie as tie
+use Rattle.words.proofs.state_word.Statement.{statement}
+use Rattle.words.proofs.state_word.Tie as tie
 
 pub state-word-spec : {M : Type 1} → statement M
 state-word-spec = tie.close (tie.spec

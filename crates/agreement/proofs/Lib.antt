@@ -1,0 +1,2 @@
+-- A text that the library stores.
+mod Stored

@@ -1,0 +1,2 @@
+-- The records of a plan one after the other.
+pub mod Operations

@@ -1,0 +1,2 @@
+-- The name in a record.
+mod Names

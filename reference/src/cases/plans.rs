@@ -1,0 +1,743 @@
+//! Random plans: steps with points and returns between them. A plan is made of scenes, such as
+//! a save as far as its commit, and mostly the group is brought to rest before a point or a
+//! return. Most plans end where the bookings tell which save or point came back.
+
+use super::{damaged_group_file, record, Case, Dice, GroupDraft, Record, Run, Wishes, LONG};
+use crate::evening::PLAN_RECORD_LENGTH;
+use crate::model::{self, Event, Group, Number, Outcome, State, TAKEN};
+use crate::points::{Name, Points, NAME_LENGTH};
+
+pub fn make_plan_case(seed: u64, wishes: Wishes) -> Case {
+    let mut dice = Dice::new(seed);
+    let draft = draft_that_can_lose_some(&mut dice, wishes.cabinets);
+    let damaged = wishes.cabinets.is_none() && dice.per_thousand(40);
+    let group = if damaged { damaged_group_file(&mut dice, draft) } else { draft.octets() };
+    let mut plan = match model::load(&group) {
+        Ok(group) => Planner::new(&mut dice, group, wishes).make(),
+        Err(_) => (0..PLAN_RECORD_LENGTH * dice.below(4)).map(|_| dice.below(4) as u8).collect(),
+    };
+    if dice.per_thousand(100) {
+        add_short_record(&mut dice, &mut plan);
+    }
+    Case { group, steps: plan }
+}
+
+/// Mostly a larger group, some cabinets of which may fail without a crash.
+fn draft_that_can_lose_some(dice: &mut Dice, cabinets: Option<usize>) -> GroupDraft {
+    let n = cabinets.unwrap_or_else(|| dice.between(2, 8).max(dice.between(2, 8)));
+    let wanted = dice.below(n - 1);
+    let mut draft = GroupDraft::sound(dice, Some(n));
+    for _ in 0..4 {
+        if cabinets_free_to_fail(&draft) >= wanted {
+            break;
+        }
+        draft = GroupDraft::sound(dice, Some(n));
+    }
+    draft
+}
+
+fn cabinets_free_to_fail(draft: &GroupDraft) -> usize {
+    let Ok(group) = model::load(&draft.octets()) else {
+        return 0;
+    };
+    group.numbers().filter(|&a| group.crash_by_failing(a).is_none()).count()
+}
+
+/// The start of a record that would be one if it were longer.
+fn add_short_record(dice: &mut Dice, plan: &mut Vec<u8>) {
+    let whole = [dice.below(4) as u8, dice.between(1, 11) as u8, 1, 2, 0, 0, 1, 0, 0];
+    plan.extend_from_slice(&whole[..dice.between(1, PLAN_RECORD_LENGTH - 1)]);
+}
+
+/// Up to seven names, some of them nearly the same.
+fn some_names(dice: &mut Dice) -> Vec<Name> {
+    let first: Name = std::array::from_fn(|_| dice.octet());
+    let mut names = vec![first];
+    for _ in 0..dice.between(1, 6) {
+        let mut name = dice.pick(&names);
+        match dice.below(6) {
+            0 => name = [0; NAME_LENGTH],
+            1 => name = [0xFF; NAME_LENGTH],
+            2 => name = std::array::from_fn(|_| dice.octet()),
+            _ => name[dice.below(NAME_LENGTH)] ^= 1 << dice.below(8),
+        }
+        names.push(name);
+    }
+    names
+}
+
+// ---------------------------------------------------------------- scenes
+
+#[derive(Clone, Copy, PartialEq, Eq, Debug)]
+enum Scene {
+    Point,
+    Return,
+    UnguidedPointOrReturn,
+    Trade,
+    Save,
+    HalfSave,
+    StrikeAtCommit,
+    Fail,
+    Damage,
+    HurtOverReturn,
+    Crash,
+    Probe,
+    Wander,
+    Malformed,
+}
+
+/// How often each scene comes; drawn anew for each plan.
+fn drawn_weights(dice: &mut Dice, damage: bool) -> Vec<(Scene, usize)> {
+    vec![
+        (Scene::Point, dice.pick(&[4, 6, 10])),
+        (Scene::Return, dice.pick(&[4, 6, 10])),
+        (Scene::UnguidedPointOrReturn, dice.pick(&[0, 2, 4])),
+        (Scene::Trade, dice.pick(&[4, 8])),
+        (Scene::Save, dice.pick(&[2, 4, 8])),
+        (Scene::HalfSave, dice.pick(&[0, 1, 2])),
+        (Scene::StrikeAtCommit, dice.pick(&[0, 1, 3])),
+        (Scene::Fail, dice.pick(&[0, 1, 3])),
+        (Scene::Damage, if damage { dice.pick(&[0, 2, 4]) } else { 0 }),
+        (Scene::HurtOverReturn, if damage { dice.pick(&[0, 1, 2]) } else { 0 }),
+        (Scene::Crash, dice.pick(&[0, 0, 0, 0, 1])),
+        (Scene::Probe, dice.pick(&[1, 3])),
+        (Scene::Wander, dice.pick(&[0, 1, 3])),
+        (Scene::Malformed, dice.pick(&[0, 0, 1, 3])),
+    ]
+}
+
+/// Far more steps than any save or recovery needs.
+const ENOUGH_STEPS: usize = 1000;
+
+struct Planner<'a> {
+    run: Run<'a>,
+    points: Points,
+    names: Vec<Name>,
+    weights: Vec<(Scene, usize)>,
+    /// Chance per thousand of a send or note while a save or recovery goes on.
+    chatter: usize,
+    plan: Vec<u8>,
+}
+
+impl Planner<'_> {
+    fn new(dice: &mut Dice, group: Group, wishes: Wishes) -> Planner<'_> {
+        let names = some_names(dice);
+        let weights = drawn_weights(dice, wishes.damage);
+        let chatter = dice.pick(&[0, 50, 150]);
+        let run = Run::new(dice, group, wishes);
+        Planner { run, points: Points::default(), names, weights, chatter, plan: Vec::new() }
+    }
+
+    fn make(mut self) -> Vec<u8> {
+        let length = self.drawn_length();
+        while self.records() < length && (length >= LONG || self.worth_going_on()) {
+            let scene = self.next_scene();
+            self.play(scene);
+        }
+        if self.run.group.crashed() {
+            self.after_crash();
+        } else if length < LONG {
+            self.ending();
+        }
+        self.plan
+    }
+
+    /// Mostly up to 500 records; once in a while more than are read.
+    fn drawn_length(&mut self) -> usize {
+        if self.run.dice.per_thousand(2) {
+            return LONG + self.run.dice.below(5);
+        }
+        self.run.dice.between(10, 500)
+    }
+
+    fn records(&self) -> usize {
+        self.plan.len() / PLAN_RECORD_LENGTH
+    }
+
+    /// A crashed group does nothing more, and one cabinet alone not much.
+    fn worth_going_on(&mut self) -> bool {
+        let alone = self.run.group.working_cabinets().len() == 1;
+        !self.run.group.crashed() && (!alone || self.run.dice.per_thousand(800))
+    }
+
+    fn next_scene(&mut self) -> Scene {
+        let sum = self.weights.iter().map(|(_, weight)| weight).sum();
+        let mut ticket = self.run.dice.below(sum);
+        for &(scene, weight) in &self.weights {
+            if ticket < weight {
+                return scene;
+            }
+            ticket -= weight;
+        }
+        Scene::Wander
+    }
+
+    fn play(&mut self, scene: Scene) {
+        match scene {
+            Scene::Point => self.point_scene(),
+            Scene::Return => self.return_scene(),
+            Scene::UnguidedPointOrReturn => self.unguided_scene(),
+            Scene::Trade => self.trade_scene(),
+            Scene::Save => self.save_scene(),
+            Scene::HalfSave => self.half_save_scene(),
+            Scene::StrikeAtCommit => self.strike_scene(),
+            Scene::Fail => self.fail_scene(),
+            Scene::Damage => self.damage_scene(),
+            Scene::HurtOverReturn => self.hurt_over_return_scene(),
+            Scene::Crash => self.crash_scene(),
+            Scene::Probe => self.probe_scene(),
+            Scene::Wander => self.wander_scene(),
+            Scene::Malformed => self.malformed_record(),
+        }
+    }
+}
+
+// ---------------------------------------------------------------- records of a plan
+
+impl Planner<'_> {
+    fn step(&mut self, record: Record) -> Outcome {
+        self.plan.push(0);
+        self.plan.extend_from_slice(&record);
+        self.plan.extend_from_slice(&[0, 0]);
+        let outcome = self.run.group.step(&record, self.run.wishes.highest_kind);
+        self.run.last_event = outcome.event;
+        outcome
+    }
+
+    fn take_point(&mut self, name: Name) {
+        self.plan.push(1);
+        self.plan.extend_from_slice(&name);
+        self.points.take(&self.run.group, name);
+    }
+
+    fn return_to(&mut self, name: Name) {
+        self.plan.push(2);
+        self.plan.extend_from_slice(&name);
+        self.points.return_to(&mut self.run.group, name);
+    }
+
+    /// A step with something behind it, or behind a first octet that names nothing.
+    fn malformed_record(&mut self) {
+        let step = self.run.next_record();
+        let dice = &mut self.run.dice;
+        let first = dice.pick(&[0, 0, 3, 4, 128, 255]);
+        let tail = dice.pick(&[[0, 1], [1, 0], [255, 255]]);
+        self.plan.push(first);
+        self.plan.extend_from_slice(&step);
+        self.plan.extend_from_slice(if first == 0 { &tail } else { &[0, 0] });
+    }
+
+    fn chance(&mut self, per_thousand: usize) -> bool {
+        self.run.dice.per_thousand(per_thousand)
+    }
+}
+
+// ---------------------------------------------------------------- bringing a group on
+
+impl Planner<'_> {
+    /// A step that brings a packet, a save or a recovery on, if there is one.
+    fn driving_record(&mut self) -> Option<Record> {
+        let lines = self.run.filled_lines().into_iter();
+        let mut ready: Vec<Record> = lines.map(|(a, b)| record(4, a, b, 0, 0)).collect();
+        for a in self.run.group.numbers() {
+            let kind = kind_for(self.run.group.cabinet(a).state);
+            ready.extend(kind.map(|kind| record(kind, a, 0, 0, 0)));
+            ready.push(record(6, a, 0, 0, 0));
+        }
+        let start = self.run.dice.below(ready.len());
+        ready.rotate_left(start);
+        ready.into_iter().find(|record| self.run.taken(record))
+    }
+
+    /// Drives on until nothing is left to do; then the group is quiet or crashed.
+    fn settle(&mut self) {
+        for _ in 0..ENOUGH_STEPS {
+            let Some(record) = self.driving_record() else {
+                return;
+            };
+            self.step(record);
+        }
+    }
+
+    fn settle_mostly(&mut self) {
+        if self.chance(850) {
+            self.settle();
+        }
+    }
+
+    /// Drives on for some steps, with a send or note here and there.
+    fn drive(&mut self, steps: usize) {
+        for _ in 0..steps {
+            self.drive_once();
+        }
+    }
+
+    fn drive_once(&mut self) -> Option<Outcome> {
+        let chatter = self.chatter;
+        if self.chance(chatter) {
+            let kind = self.run.dice.pick(&[1, 1, 2]);
+            if let Some(record) = self.run.sensible_record(kind) {
+                return Some(self.step(record));
+            }
+        }
+        let record = self.driving_record()?;
+        Some(self.step(record))
+    }
+
+    fn begin(&mut self) -> bool {
+        let coordinator = self.run.group.working_cabinets().first().copied();
+        coordinator.is_some_and(|a| self.step(record(3, a, 0, 0, 0)).answer == TAKEN)
+    }
+
+    /// Begins a save and drives it on; answers whether it committed in the last step.
+    fn save_up_to_commit(&mut self) -> bool {
+        if !self.begin() {
+            return false;
+        }
+        for _ in 0..ENOUGH_STEPS {
+            match self.drive_once() {
+                Some(outcome) if outcome.event == Event::Commit => return true,
+                Some(_) => {}
+                None => return false,
+            }
+        }
+        false
+    }
+}
+
+/// The kind of step that a cabinet in this state waits for.
+fn kind_for(state: State) -> Option<u8> {
+    match state {
+        State::Checkpointing => Some(5),
+        State::Recovering => Some(7),
+        State::Recovered => Some(8),
+        State::Error => Some(9),
+        _ => None,
+    }
+}
+
+// ---------------------------------------------------------------- points and returns
+
+impl Planner<'_> {
+    fn any_name(&mut self) -> Name {
+        self.run.dice.pick(&self.names)
+    }
+
+    /// Mostly a name that a point has.
+    fn name_to_return_to(&mut self) -> Name {
+        let held = self.points.names();
+        match self.run.dice.pick_any(&held) {
+            Some(name) if self.chance(850) => name,
+            _ => self.any_name(),
+        }
+    }
+
+    fn point_scene(&mut self) {
+        self.settle_mostly();
+        let name = self.any_name();
+        self.take_point(name);
+    }
+
+    /// A return to nothing shows little, so mostly there is a point before it.
+    fn have_a_point(&mut self) {
+        if self.points.names().is_empty() && self.chance(800) {
+            self.settle();
+            let name = self.any_name();
+            self.take_point(name);
+            self.trade_scene();
+        }
+    }
+
+    fn return_scene(&mut self) {
+        self.have_a_point();
+        self.settle_mostly();
+        let name = self.name_to_return_to();
+        self.return_to(name);
+        if self.chance(200) {
+            self.probe_scene();
+        }
+    }
+
+    /// Whatever the group is about.
+    fn unguided_scene(&mut self) {
+        let known = self.name_to_return_to();
+        let any = self.any_name();
+        let name = self.run.dice.pick(&[known, any]);
+        if self.chance(500) {
+            self.take_point(name);
+        } else {
+            self.return_to(name);
+        }
+    }
+
+    fn after_crash(&mut self) {
+        for _ in 0..self.run.dice.below(5) {
+            self.unguided_scene();
+            if self.chance(300) {
+                let record = self.run.foolish_record();
+                self.step(record);
+            }
+            if self.chance(200) {
+                self.malformed_record();
+            }
+        }
+    }
+}
+
+// ---------------------------------------------------------------- scenes of steps
+
+impl Planner<'_> {
+    /// Sends that change the bookings, mostly delivered.
+    fn trade_scene(&mut self) {
+        if self.chance(700) {
+            self.settle();
+        }
+        for _ in 0..self.run.dice.between(1, 6) {
+            self.send_some();
+            if self.chance(200) {
+                let note = self.run.sensible_note();
+                note.map(|record| self.step(record));
+            }
+        }
+        if self.chance(700) {
+            self.settle();
+        }
+    }
+
+    /// Answers the line that was sent on, if the send was taken.
+    fn send_some(&mut self) -> Option<(Number, Number)> {
+        let from = self.run.any_cabinet();
+        let neighbours = self.run.group.cabinet(from).neighbours();
+        let to = self.run.dice.pick_any(&neighbours)?;
+        self.send_on(from, to).then_some((from, to))
+    }
+
+    fn send_on(&mut self, from: Number, to: Number) -> bool {
+        let booking = usize::from(self.run.group.cabinet(from).booking());
+        let amount = self.run.dice.between(1, 1 + booking / 2) as u16;
+        let record = record(1, from, to, 0, amount);
+        self.run.taken(&record) && self.step(record).answer == TAKEN
+    }
+
+    fn save_scene(&mut self) {
+        self.settle_mostly();
+        self.save_up_to_commit();
+        if self.chance(500) {
+            self.settle();
+        }
+    }
+
+    /// A save that something comes in the way of.
+    fn half_save_scene(&mut self) {
+        self.settle_mostly();
+        if self.begin() {
+            let steps = self.run.dice.between(1, 60);
+            self.drive(steps);
+            self.fail_scene();
+        }
+    }
+
+    /// The coordinator fails right after its commit, or when few have taken the resume.
+    fn strike_scene(&mut self) {
+        self.settle_mostly();
+        if !self.save_up_to_commit() {
+            return;
+        }
+        if self.chance(250) {
+            let steps = self.run.dice.between(1, 3);
+            self.drive(steps);
+        }
+        if self.chance(150) {
+            self.unguided_scene();
+        }
+        if let Some(record) = self.run.strike_at_commit() {
+            self.step(record);
+        }
+        self.settle_mostly();
+    }
+
+    fn fail_scene(&mut self) {
+        if let Some(cabinet) = self.run.some_failing_with(|crash| crash.is_none()) {
+            self.step(record(10, cabinet, 0, 0, 0));
+        }
+        if self.chance(200) {
+            let steps = self.run.dice.between(1, 20);
+            self.drive(steps);
+        } else {
+            self.settle();
+        }
+    }
+
+    /// A packet is hurt: of the lines as they are, or of a save begun for it.
+    fn damage_scene(&mut self) {
+        if self.chance(400) {
+            self.send_some();
+        } else if self.chance(800) {
+            self.settle();
+            self.begin();
+            let steps = self.run.dice.below(6);
+            self.drive(steps);
+        }
+        let from = self.run.any_cabinet();
+        if let Some(record) = self.run.damage_on_lines_from(from) {
+            self.step(record);
+        }
+        self.settle_mostly();
+    }
+
+    /// A packet hurt before a return is still found after it: by damage on the same line, which
+    /// is refused, or by the next save.
+    fn hurt_over_return_scene(&mut self) {
+        self.have_a_point();
+        self.settle();
+        let Some((from, to)) = self.send_some() else {
+            return;
+        };
+        let pattern = self.run.dice.between(1, 65_535) as u16;
+        self.step(record(11, from, to, 0, pattern));
+        self.settled_return();
+        if self.chance(500) && self.send_on(from, to) {
+            self.step(record(11, from, to, 0, pattern));
+        }
+        if self.chance(500) {
+            self.save_up_to_commit();
+            self.settle();
+        }
+    }
+
+    fn crash_scene(&mut self) {
+        let record = self.run.crashing_fail();
+        record.map(|record| self.step(record));
+    }
+
+    /// One ampere more than a booking, refused, and then all of it: the answers tell it.
+    fn probe_scene(&mut self) {
+        let from = self.run.any_cabinet();
+        let booking = self.run.group.cabinet(from).booking();
+        let neighbours = self.run.group.cabinet(from).neighbours();
+        let Some(to) = self.run.dice.pick_any(&neighbours) else {
+            return;
+        };
+        if let Some(more) = booking.checked_add(1) {
+            self.step(record(1, from, to, 0, more));
+        }
+        if self.chance(700) {
+            self.step(record(1, from, to, 0, booking));
+        }
+    }
+
+    /// Steps as in a case without a plan.
+    fn wander_scene(&mut self) {
+        for _ in 0..self.run.dice.between(1, 40) {
+            let record = self.run.next_record();
+            self.step(record);
+        }
+    }
+}
+
+// ---------------------------------------------------------------- endings
+
+impl Planner<'_> {
+    /// Mostly a return or a recovery, after which the bookings tell what came back.
+    fn ending(&mut self) {
+        match self.run.dice.below(8) {
+            0 => {}
+            1 => self.settled_return(),
+            2 => {
+                self.save_and_settle();
+                self.recovery_after_trade();
+            }
+            3 => {
+                self.settled_return();
+                self.save_and_settle();
+                self.recovery_after_trade();
+            }
+            4 | 5 => {
+                self.settled_return();
+                self.trade_scene();
+                self.settle();
+                self.strike_scene();
+                self.settle();
+            }
+            _ => {
+                self.settled_return();
+                self.recovery_after_trade();
+            }
+        }
+    }
+
+    fn settled_return(&mut self) {
+        self.have_a_point();
+        self.settle();
+        let name = self.name_to_return_to();
+        self.return_to(name);
+    }
+
+    fn save_and_settle(&mut self) {
+        self.trade_scene();
+        self.settle();
+        self.save_up_to_commit();
+        self.settle();
+    }
+
+    fn recovery_after_trade(&mut self) {
+        self.trade_scene();
+        let fails: Option<Number> = self.run.some_failing_with(|crash| crash.is_none());
+        match fails {
+            Some(cabinet) => {
+                self.step(record(10, cabinet, 0, 0, 0));
+                self.settle();
+            }
+            None if self.run.wishes.damage => self.damage_scene(),
+            None => {}
+        }
+    }
+}
+
+// ---------------------------------------------------------------- tests
+
+#[cfg(test)]
+mod tests {
+    use super::*;
+    use crate::cases::case_seed;
+    use crate::evening::{counted_evening, operation, Operation, Sight};
+    use crate::listing::Tally;
+    use crate::model::Image;
+
+    fn wishes(damage: bool) -> Wishes {
+        Wishes { damage, highest_kind: 11, cabinets: None }
+    }
+
+    #[test]
+    fn a_seed_makes_the_same_case_again() {
+        assert_eq!(make_plan_case(5, wishes(true)), make_plan_case(5, wishes(true)));
+    }
+
+    #[test]
+    fn without_damage_no_step_has_kind_11() {
+        for index in 0..200 {
+            let case = make_plan_case(case_seed(3, index), wishes(false));
+            let mut operations = case.steps.chunks(PLAN_RECORD_LENGTH).filter_map(operation);
+            assert!(!operations.any(|op| matches!(op, Operation::Step([11, ..]))));
+        }
+    }
+
+    #[test]
+    fn the_plans_reach_every_answer_and_sight() {
+        let mut tally = Tally::default();
+        for index in 0..600 {
+            let case = make_plan_case(case_seed(7, index), wishes(true));
+            tally.add(&counted_evening(&case.group, &case.steps, 11).1);
+        }
+        assert!(tally.point_answers.keys().eq(&[0, 10, 22, 23]));
+        assert!(tally.return_answers.keys().eq(&[0, 10, 21, 22]));
+        assert!(tally.sights.keys().eq(&Sight::ALL));
+    }
+
+    /// The saves as the documents tell them: images at the cuts, points returned to, and what
+    /// failed cabinets left behind. It never looks at a slot after the start.
+    struct Told {
+        saves: Vec<Vec<Image>>,
+        cuts: Vec<Image>,
+        left_behind: Vec<Option<Image>>,
+    }
+
+    impl Told {
+        fn at_start(group: &Group) -> Told {
+            let start: Vec<Image> = group.numbers().map(|c| *group.slot(c, 0)).collect();
+            Told { left_behind: vec![None; start.len()], cuts: start.clone(), saves: vec![start] }
+        }
+
+        fn note_cuts(&mut self, before: &Group, group: &Group) {
+            let state = |group: &Group, c: Number| group.cabinet(c).state;
+            for c in group.numbers() {
+                let cut = state(group, c) == State::Checkpointing;
+                if cut && state(before, c) != State::Checkpointing {
+                    self.cuts[c - 1] = group.cabinet(c).image;
+                }
+            }
+        }
+
+        fn note_event(&mut self, event: Event, group: &Group) {
+            match event {
+                Event::Commit => self.saves.push(self.cuts.clone()),
+                Event::RecoveryEnd { save_passed_over } => {
+                    if save_passed_over {
+                        self.saves.pop();
+                    }
+                    for c in group.numbers().filter(|&c| !group.cabinet(c).working()) {
+                        let image = self.saves[self.saves.len() - 1][c - 1];
+                        self.left_behind[c - 1].get_or_insert(image);
+                    }
+                }
+                _ => {}
+            }
+        }
+
+        fn note_return(&mut self, images: &[Image], group: &Group) {
+            self.saves.push(images.to_vec());
+            for c in group.numbers().filter(|&c| !group.cabinet(c).working()) {
+                self.left_behind[c - 1] = Some(images[c - 1]);
+            }
+        }
+
+        fn image(&self, group: &Group, c: Number) -> Option<Image> {
+            let save = &self.saves[self.saves.len() - 1];
+            if group.cabinet(c).working() {
+                Some(save[c - 1])
+            } else {
+                self.left_behind[c - 1]
+            }
+        }
+    }
+
+    /// Takes one operation and tells it.
+    fn take(told: &mut Told, group: &mut Group, points: &mut Points, operation: Operation) {
+        match operation {
+            Operation::Step(record) => {
+                let before = group.clone();
+                let event = group.step(&record, 11).event;
+                told.note_cuts(&before, group);
+                told.note_event(event, group);
+            }
+            Operation::Point(name) => {
+                points.take(group, name);
+            }
+            Operation::Return(name) => {
+                if points.return_to(group, name) == TAKEN {
+                    told.note_return(points.images(name).unwrap_or_default(), group);
+                }
+            }
+        }
+    }
+
+    fn total(images: impl Iterator<Item = Image>) -> u32 {
+        images.map(|image| u32::from(u16::from_be_bytes([image[0], image[1]]))).sum()
+    }
+
+    fn check_against_told(case: &Case) {
+        let Ok(mut group) = model::load(&case.group) else {
+            return;
+        };
+        let mut told = Told::at_start(&group);
+        let mut points = Points::default();
+        let start = total(told.saves[0].iter().copied());
+        for operation in case.steps.chunks(PLAN_RECORD_LENGTH).filter_map(operation) {
+            take(&mut told, &mut group, &mut points, operation);
+            if group.quiet() {
+                let kept = |c: Number| group.committed_image(c);
+                assert!(group.numbers().all(|c| kept(c) == told.image(&group, c)));
+                assert_eq!(total(group.numbers().filter_map(kept)), start);
+            }
+        }
+    }
+
+    /// What a point would keep in each quiet moment is the save that the documents name, with
+    /// failed cabinets' images, and adds up to the feeder's total; damage or not.
+    #[test]
+    fn points_keep_the_saves_that_the_documents_name() {
+        for index in 0..400 {
+            check_against_told(&make_plan_case(case_seed(9, index), wishes(index % 2 == 0)));
+        }
+    }
+}

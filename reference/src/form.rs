@@ -1,0 +1,87 @@
+//! The two forms of a case: a group file with steps, for the listing, or with a plan, for the
+//! program `evening`.
+
+use crate::cases::plans::make_plan_case;
+use crate::cases::{make_case, Case, Wishes};
+use crate::evening::{counted_evening, PLAN_RECORD_LENGTH};
+use crate::listing::{counted_listing, Tally};
+use crate::model::RECORD_LENGTH;
+use std::path::Path;
+use std::{fs, io};
+
+#[derive(Clone, Copy, PartialEq, Eq, Debug)]
+pub enum Form {
+    Steps,
+    Plan,
+}
+
+impl Form {
+    /// The file beside group.dat.
+    pub fn records_file(self) -> &'static str {
+        match self {
+            Form::Steps => "steps.dat",
+            Form::Plan => "plan.dat",
+        }
+    }
+
+    /// The file with the expected text in a case folder.
+    fn text_file(self) -> &'static str {
+        match self {
+            Form::Steps => "expected",
+            Form::Plan => "evening",
+        }
+    }
+
+    pub fn record_length(self) -> usize {
+        match self {
+            Form::Steps => RECORD_LENGTH,
+            Form::Plan => PLAN_RECORD_LENGTH,
+        }
+    }
+
+    pub fn make_case(self, seed: u64, wishes: Wishes) -> Case {
+        match self {
+            Form::Steps => make_case(seed, wishes),
+            Form::Plan => make_plan_case(seed, wishes),
+        }
+    }
+
+    /// The model's text and its counts.
+    pub fn counted_text(self, case: &Case, highest_kind: u8) -> (String, Tally) {
+        match self {
+            Form::Steps => counted_listing(&case.group, &case.steps, highest_kind),
+            Form::Plan => counted_evening(&case.group, &case.steps, highest_kind),
+        }
+    }
+
+    pub fn text(self, case: &Case, highest_kind: u8) -> String {
+        self.counted_text(case, highest_kind).0
+    }
+
+    pub fn report(self, tally: &Tally) -> String {
+        match self {
+            Form::Steps => tally.report(),
+            Form::Plan => tally.report() + &tally.plan_report(),
+        }
+    }
+
+    /// A file that cannot be read counts as empty.
+    pub fn case_in_folder(self, folder: &Path) -> Case {
+        let octets = |name: &str| fs::read(folder.join(name)).unwrap_or_default();
+        Case { group: octets("group.dat"), steps: octets(self.records_file()) }
+    }
+
+    pub fn expected_text(self, folder: &Path) -> io::Result<Vec<u8>> {
+        fs::read(folder.join(self.text_file()))
+    }
+
+    /// The form of the case that a folder holds, if it holds one.
+    pub fn of_folder(folder: &Path) -> Option<Form> {
+        let holds = |name: &str| folder.join(name).is_file();
+        if holds("plan.dat") && holds("evening") {
+            Some(Form::Plan)
+        } else {
+            holds("expected").then_some(Form::Steps)
+        }
+    }
+}
