@@ -3,7 +3,7 @@
 
 pub mod plans;
 
-use crate::model::{self, Crash, Event, Group, Number, Packet, State, CRASHED};
+use crate::model::{self, Crash, Ends, Event, Group, Number, Packet, State, CRASHED};
 
 pub type Record = [u8; 6];
 
@@ -109,7 +109,8 @@ fn steps_length(dice: &mut Dice, wishes: Wishes) -> usize {
 struct CabinetDraft {
     home: u8,
     mark: u8,
-    booking: u16,
+    /// A's and B's.
+    bookings: [u16; 2],
 }
 
 #[derive(Clone)]
@@ -127,7 +128,7 @@ impl GroupDraft {
         let cabinet = |index: usize| CabinetDraft {
             home: dice.pick(&stores),
             mark: u8::from(marks[index]),
-            booking: bookings[index],
+            bookings: bookings[index],
         };
         let cabinets = (0..n).map(cabinet).collect();
         let links = connected_links(dice, n as u8);
@@ -135,7 +136,7 @@ impl GroupDraft {
     }
 
     fn octets(&self) -> Vec<u8> {
-        let link_table = 10 + 4 * self.cabinets.len();
+        let link_table = 10 + 6 * self.cabinets.len();
         let length = link_table + 2 * self.links.len();
         let header = [self.cabinets.len(), self.links.len(), 10, link_table, length];
         let mut file = Vec::new();
@@ -144,7 +145,7 @@ impl GroupDraft {
         }
         for cabinet in &self.cabinets {
             file.extend_from_slice(&[cabinet.home, cabinet.mark]);
-            file.extend_from_slice(&cabinet.booking.to_be_bytes());
+            file.extend(cabinet.bookings.iter().flat_map(|booking| booking.to_be_bytes()));
         }
         for &(low, high) in &self.links {
             file.extend_from_slice(&[low, high]);
@@ -168,22 +169,32 @@ fn store_marks(dice: &mut Dice, n: usize) -> Vec<bool> {
     marks
 }
 
-fn bookings(dice: &mut Dice, n: usize) -> Vec<u16> {
-    let total = match dice.below(4) {
+/// Mostly at both outlets; now and then one of them has nothing anywhere.
+fn bookings(dice: &mut Dice, n: usize) -> Vec<[u16; 2]> {
+    let total = match dice.below(8) {
         0 => 65_535,
-        1 => dice.below(500),
+        1 => 65_534,
+        2 | 3 => dice.below(500),
         _ => dice.below(65_536),
     };
-    let even_share = total / n;
+    match dice.below(12) {
+        0 => shares(dice, total, n).into_iter().map(|share| [share, 0]).collect(),
+        1 => shares(dice, total, n).into_iter().map(|share| [0, share]).collect(),
+        _ => shares(dice, total, 2 * n).chunks(2).map(|pair| [pair[0], pair[1]]).collect(),
+    }
+}
+
+fn shares(dice: &mut Dice, total: usize, parts: usize) -> Vec<u16> {
+    let even_share = total / parts;
     let mut left = total;
-    let mut shares: Vec<u16> = (1..n)
+    let mut shares: Vec<u16> = (1..parts)
         .map(|_| {
             let share = dice.below(2 * even_share + 1).min(left);
             left -= share;
             share as u16
         })
         .collect();
-    shares.insert(dice.below(n), left as u16);
+    shares.insert(dice.below(parts), left as u16);
     shares
 }
 
@@ -268,15 +279,20 @@ fn disconnect(dice: &mut Dice, draft: &mut GroupDraft) {
     draft.links.retain(|&(low, high)| low != lonely && high != lonely);
 }
 
-/// One ampere too many, or far too many.
+/// One ampere too many, or far too many at one outlet or both.
 fn overbook(dice: &mut Dice, draft: &mut GroupDraft) {
-    let total: u32 = draft.cabinets.iter().map(|cabinet| u32::from(cabinet.booking)).sum();
+    let booked = draft.cabinets.iter().flat_map(|cabinet| cabinet.bookings);
+    let total: u32 = booked.map(u32::from).sum();
     let index = dice.below(draft.cabinets.len());
-    let others = total - u32::from(draft.cabinets[index].booking);
+    let booking = &mut draft.cabinets[index].bookings[dice.below(2)];
+    let others = total - u32::from(*booking);
     if dice.per_thousand(500) && (1..=65_536).contains(&others) {
-        draft.cabinets[index].booking = (65_536 - others) as u16;
-    } else {
-        draft.cabinets.iter_mut().for_each(|cabinet| cabinet.booking = 50_000);
+        *booking = (65_536 - others) as u16;
+        return;
+    }
+    let (first, last) = dice.pick(&[(0, 0), (1, 1), (0, 1)]);
+    for cabinet in &mut draft.cabinets {
+        cabinet.bookings[first..=last].fill(50_000);
     }
 }
 
@@ -546,15 +562,49 @@ impl Run<'_> {
 
     fn sensible_send(&mut self) -> Option<Record> {
         let (from, to) = self.line_to_send_on()?;
-        let booking = usize::from(self.group.cabinet(from).booking());
+        let p = self.p_to_send_with(from);
+        let amount = self.amount_to_send(from, p);
+        if self.dice.per_thousand(10) {
+            return Some(record(1, from, to, self.p_that_names_nothing(), amount));
+        }
+        let record = record(1, from, to, p, amount);
+        (self.taken(&record) || self.dice.per_thousand(100)).then_some(record)
+    }
+
+    /// Any outlets, but seldom from one that has nothing.
+    fn p_to_send_with(&mut self, from: Number) -> u8 {
+        let p = self.dice.below(4) as u8;
+        let other_sender = p ^ 2;
+        if self.booking_behind(from, p) == 0 && self.dice.per_thousand(900) {
+            other_sender
+        } else {
+            p
+        }
+    }
+
+    fn p_that_names_nothing(&mut self) -> u8 {
+        let any = self.dice.between(4, 255) as u8;
+        self.dice.pick(&[4, 5, 6, 7, 128, 255, any, any])
+    }
+
+    /// The booking of the outlet that p sends from.
+    fn booking_behind(&self, from: Number, p: u8) -> u16 {
+        let ends = Ends::of(p).expect("p is drawn from 0 to 3");
+        self.group.cabinet(from).booking(ends.sending())
+    }
+
+    /// About the booking now and then; above it also what the other outlet would have covered.
+    fn amount_to_send(&mut self, from: Number, p: u8) -> u16 {
+        let booking = usize::from(self.booking_behind(from, p));
+        let both: usize = self.group.cabinet(from).bookings().map(usize::from).iter().sum();
         let amount = match self.dice.below(30) {
             0 => booking,
             1 => booking + 1,
-            2..=9 => self.dice.between(0, booking),
+            2 => self.dice.between(booking + 1, both + 1),
+            3..=10 => self.dice.between(0, booking),
             _ => self.dice.between(1, 1 + booking / 8),
         };
-        let record = record(1, from, to, 0, amount.min(65_535) as u16);
-        (self.taken(&record) || self.dice.per_thousand(100)).then_some(record)
+        amount.min(65_535) as u16
     }
 
     fn line_to_send_on(&mut self) -> Option<(Number, Number)> {
@@ -570,8 +620,12 @@ impl Run<'_> {
     }
 
     fn sensible_note(&mut self) -> Option<Record> {
-        let octet = self.dice.between(2, 31) as u8;
         let value = u16::from(self.dice.octet());
+        if self.dice.per_thousand(50) {
+            let octet_of_b = self.dice.between(2, 3) as u8;
+            return Some(record(2, self.any_cabinet(), 0, octet_of_b, value));
+        }
+        let octet = self.dice.between(4, 31) as u8;
         let record = record(2, self.any_cabinet(), 0, octet, value);
         self.taken(&record).then_some(record)
     }
@@ -717,7 +771,7 @@ impl Run<'_> {
         }
         let (names_b, names_p, names_q) = model::fields_named(kind);
         let b = if names_b { self.any_cabinet() } else { 0 };
-        let p = if names_p { self.strange_octet_place() } else { 0 };
+        let p = if names_p { self.strange_p(kind) } else { 0 };
         let q = if names_q { self.strange_value() } else { 0 };
         if kind == 11 && self.group.recovery_under_way() && !self.dice.per_thousand(100) {
             return record(11, self.any_cabinet(), b, 12, q);
@@ -725,10 +779,14 @@ impl Run<'_> {
         record(kind, self.any_cabinet(), b, p, q)
     }
 
-    fn strange_octet_place(&mut self) -> u8 {
+    /// The outlets of a send, the octet of a note or the place of a damage.
+    fn strange_p(&mut self, kind: u8) -> u8 {
+        if kind == 1 && self.dice.per_thousand(700) {
+            return self.dice.below(4) as u8;
+        }
         let any = self.dice.octet();
         let small = self.dice.below(12) as u8;
-        self.dice.pick(&[0, 1, 2, 31, 32, 255, small, small, any])
+        self.dice.pick(&[0, 1, 2, 3, 4, 31, 32, 255, small, small, any])
     }
 
     fn strange_value(&mut self) -> u16 {
@@ -768,6 +826,8 @@ impl Run<'_> {
 mod tests {
     use super::*;
     use crate::listing::{counted_listing, Tally};
+    use crate::model::Outlet;
+    use crate::outlets::Cover;
 
     fn wishes(damage: bool) -> Wishes {
         Wishes { damage, highest_kind: 11, cabinets: None }
@@ -806,5 +866,18 @@ mod tests {
         assert_eq!(tally.crashes.len(), 6);
         assert!(tally.commits > 0 && tally.recoveries_ended > 0);
         assert!(tally.saves_passed_over > 0 && tally.link_faults > 0);
+    }
+
+    #[test]
+    fn the_cases_reach_what_two_outlets_bring() {
+        let counts = tally_of(600, wishes(true)).outlets;
+        assert!(counts.sends_taken.keys().eq(&[Ends::AA, Ends::AB, Ends::BA, Ends::BB]));
+        assert!(counts.packets_taken.keys().eq(&[Outlet::A, Outlet::B]));
+        let covers = [Cover::OtherOutlet, Cover::BothTogether];
+        assert!(counts.sends_otherwise_covered.keys().eq(&covers));
+        assert!(counts.notes_refused_at.keys().eq(&[2, 3]));
+        assert!(counts.sends_refused_for_p > 0 && counts.recoveries_changing_b > 0);
+        assert!(counts.faults_by_comparison.keys().eq(&[Outlet::A, Outlet::B]));
+        assert!(counts.loads_refused_for_b > 0);
     }
 }

@@ -1,8 +1,8 @@
 //! The program `evening`: the text printed for a group file and a plan file, whose records are
 //! steps, points taken and returns, and counts of what happened on the way.
 
-use crate::listing::{list_cabinets, Tally, RECORDS_READ};
-use crate::model::{self, Event, Group, Number, TAKEN};
+use crate::listing::{count, list_cabinets, Counter, Tally, RECORDS_READ};
+use crate::model::{self, booking_in, Event, Group, Number, Outlet, TAKEN};
 use crate::points::{Name, Points};
 use std::collections::{BTreeMap, BTreeSet};
 use std::fmt::Write;
@@ -49,13 +49,13 @@ pub struct Evening {
     pub points: Points,
     highest_kind: u8,
     watch: Watch,
-    tally: Tally,
+    counter: Counter,
 }
 
 impl Evening {
     pub fn new(group: Group, highest_kind: u8) -> Evening {
         let (points, watch) = (Points::default(), Watch::default());
-        Evening { group, points, highest_kind, watch, tally: Tally::of_one_case() }
+        Evening { group, points, highest_kind, watch, counter: Counter::new() }
     }
 
     /// The answer to one record of the plan.
@@ -63,7 +63,7 @@ impl Evening {
         match operation(record) {
             Some(operation) => self.take(operation),
             None => {
-                self.tally.count_sights(vec![Sight::MalformedRecord]);
+                self.count_sights(vec![Sight::MalformedRecord]);
                 MALFORMED
             }
         }
@@ -79,18 +79,20 @@ impl Evening {
 
     fn step(&mut self, record: &[u8]) -> u8 {
         self.watch.before_step(&self.group);
-        let outcome = self.group.step(record, self.highest_kind);
-        self.tally.count_step(record, outcome);
-        self.tally.count_sights(self.watch.after_step(&self.group, outcome.event));
+        let outcome = self.counter.step(&mut self.group, record, self.highest_kind);
+        let sights = self.watch.after_step(&self.group, outcome.event);
+        self.count_sights(sights);
         outcome.answer
     }
 
     fn take_point(&mut self, name: Name) -> u8 {
         let replaces = self.points.images(name).is_some();
         let answer = self.points.take(&self.group, name);
-        *self.tally.point_answers.entry(answer).or_default() += 1;
+        count(&mut self.counter.tally.point_answers, answer);
         if answer == TAKEN {
-            self.tally.count_sights(self.watch.after_point(&self.group, name, replaces));
+            let sights = self.watch.after_point(&self.group, name, replaces);
+            self.count_sights(sights);
+            self.count_sights(seen(&[(Sight::PointWithB, self.keeps_b(name))]));
         }
         answer
     }
@@ -98,24 +100,43 @@ impl Evening {
     fn return_to(&mut self, name: Name) -> u8 {
         let before = bookings(&self.group);
         let answer = self.points.return_to(&mut self.group, name);
-        *self.tally.return_answers.entry(answer).or_default() += 1;
+        count(&mut self.counter.tally.return_answers, answer);
         if answer == TAKEN {
-            let changes = bookings(&self.group) != before;
-            self.tally.count_sights(self.watch.after_return(&self.group, name, changes));
+            let after = bookings(&self.group);
+            let sights = self.watch.after_return(&self.group, name, after != before);
+            self.count_sights(sights);
+            let changes_b = before.iter().zip(&after).any(|(old, new)| old[1] != new[1]);
+            self.count_sights(seen(&[
+                (Sight::ReturnWithB, self.keeps_b(name)),
+                (Sight::ReturnChangesB, changes_b),
+            ]));
         }
         answer
     }
+
+    /// Whether the point of this name has something booked at B.
+    fn keeps_b(&self, name: Name) -> bool {
+        let images = self.points.images(name).unwrap_or_default();
+        images.iter().any(|image| booking_in(image, Outlet::B) != 0)
+    }
+
+    fn count_sights(&mut self, sights: Vec<Sight>) {
+        self.counter.tally.count_sights(sights);
+    }
 }
 
-fn bookings(group: &Group) -> Vec<u16> {
-    group.numbers().map(|number| group.cabinet(number).booking()).collect()
+fn bookings(group: &Group) -> Vec<[u16; 2]> {
+    group.numbers().map(|number| group.cabinet(number).bookings()).collect()
 }
 
 /// What `evening` prints, and its counts; kinds above `highest_kind` are unknown.
 pub fn counted_evening(group_file: &[u8], plan_file: &[u8], highest_kind: u8) -> (String, Tally) {
     let mut evening = match model::load(group_file) {
         Ok(group) => Evening::new(group, highest_kind),
-        Err(refusal) => return (format!("load {refusal}\n"), Tally::of_refused_load(refusal)),
+        Err(refusal) => {
+            let tally = Tally::of_refused_load(group_file, refusal);
+            return (format!("load {refusal}\n"), tally);
+        }
     };
     let mut text = String::new();
     let records = plan_file.chunks(PLAN_RECORD_LENGTH).take(RECORDS_READ);
@@ -124,7 +145,7 @@ pub fn counted_evening(group_file: &[u8], plan_file: &[u8], highest_kind: u8) ->
         let _ = writeln!(text, "{} {} {answer}", word(record), index + 1);
     }
     list_cabinets(&mut text, &evening.group);
-    (text, evening.tally)
+    (text, evening.counter.tally)
 }
 
 pub fn evening(group_file: &[u8], plan_file: &[u8], highest_kind: u8) -> String {
@@ -143,6 +164,10 @@ pub enum Sight {
     PointWithFailed,
     /// A failed cabinet has its image from a return, and a commit came since.
     PointWithSetImageAfterCommit,
+    /// Something is booked at B in an image of the point.
+    PointWithB,
+    ReturnWithB,
+    ReturnChangesB,
     ReturnChangesBookings,
     ReturnWithFailed,
     /// A cabinet failed between the point and the return.
@@ -160,12 +185,15 @@ pub enum Sight {
 }
 
 impl Sight {
-    pub const ALL: [Sight; 13] = [
+    pub const ALL: [Sight; 16] = [
         Sight::MalformedRecord,
         Sight::PointReplaced,
         Sight::PointOfTheStart,
         Sight::PointWithFailed,
         Sight::PointWithSetImageAfterCommit,
+        Sight::PointWithB,
+        Sight::ReturnWithB,
+        Sight::ReturnChangesB,
         Sight::ReturnChangesBookings,
         Sight::ReturnWithFailed,
         Sight::ReturnOverFail,
@@ -189,7 +217,7 @@ struct Watch {
     /// The failed cabinets when each point was taken.
     failed_at_point: BTreeMap<Name, BTreeSet<Number>>,
     /// The bookings of working cabinets before the recovery under way.
-    bookings_in_operation: Vec<u16>,
+    bookings_in_operation: Vec<[u16; 2]>,
 }
 
 fn failed_cabinets(group: &Group) -> BTreeSet<Number> {
@@ -229,7 +257,7 @@ impl Watch {
         let to_return = self.commits_at_return == Some(self.commits);
         let moved = |number: Number| {
             let cabinet = group.cabinet(number);
-            cabinet.working() && cabinet.booking() != self.bookings_in_operation[number - 1]
+            cabinet.working() && cabinet.bookings() != self.bookings_in_operation[number - 1]
         };
         let changes = group.numbers().any(moved);
         seen(&[
@@ -275,8 +303,9 @@ fn seen(sights: &[(Sight, bool)]) -> Vec<Sight> {
 mod tests {
     use super::*;
 
-    const GROUP: [u8; 20] = [0, 2, 0, 1, 0, 10, 0, 18, 0, 20, 1, 1, 0, 100, 1, 0, 0, 50, 1, 2];
-    const CABINETS: &str = "cab 1 normal 0 100\ncab 2 normal 0 50\n";
+    const GROUP: [u8; 24] =
+        [0, 2, 0, 1, 0, 10, 0, 22, 0, 24, 1, 1, 0, 100, 0, 10, 1, 0, 0, 50, 0, 5, 1, 2];
+    const CABINETS: &str = "cab 1 normal 0 100 10\ncab 2 normal 0 50 5\n";
 
     fn step(record: [u8; 6]) -> Vec<u8> {
         [&[0], &record[..], &[0, 0]].concat()
@@ -297,6 +326,17 @@ mod tests {
         let plan = [named(1, 7), send, named(2, 7), named(2, 8), deliver, named(2, 7)];
         let answers = "point 1 0\nstep 2 0\nreturn 3 22\nreturn 4 21\nstep 5 0\nreturn 6 0\n";
         assert_eq!(printed(&plan), format!("{answers}{CABINETS}"));
+    }
+
+    #[test]
+    fn a_return_brings_both_outlets_back() {
+        let sends = [0, 1, 2, 3].map(|p| step([1, 1, 2, p, 0, 3]));
+        let delivers = vec![step([4, 1, 2, 0, 0, 0]); 4];
+        let traded = [&[named(1, 7)], &sends[..], &delivers].concat();
+        let traded_text = printed(&traded);
+        assert!(traded_text.ends_with("cab 1 normal 0 94 4\ncab 2 normal 0 56 11\n"));
+        let returned_text = printed(&[&traded[..], &[named(2, 7)]].concat());
+        assert!(returned_text.ends_with(CABINETS));
     }
 
     #[test]

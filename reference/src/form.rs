@@ -2,9 +2,9 @@
 //! program `evening`.
 
 use crate::cases::plans::make_plan_case;
-use crate::cases::{make_case, Case, Wishes};
-use crate::evening::{counted_evening, PLAN_RECORD_LENGTH};
-use crate::listing::{counted_listing, Tally};
+use crate::cases::{make_case, Case, Record, Wishes};
+use crate::evening::{counted_evening, operation, Operation, PLAN_RECORD_LENGTH};
+use crate::listing::{counted_listing, Tally, RECORDS_READ};
 use crate::model::RECORD_LENGTH;
 use std::path::Path;
 use std::{fs, io};
@@ -37,6 +37,15 @@ impl Form {
             Form::Steps => RECORD_LENGTH,
             Form::Plan => PLAN_RECORD_LENGTH,
         }
+    }
+
+    /// For each record that is read its step, or none if it is no step.
+    pub fn steps(self, case: &Case) -> Vec<Option<Record>> {
+        let step = match self {
+            Form::Steps => |record: &[u8]| record.try_into().ok(),
+            Form::Plan => step_of_plan_record,
+        };
+        case.steps.chunks(self.record_length()).take(RECORDS_READ).map(step).collect()
     }
 
     pub fn make_case(self, seed: u64, wishes: Wishes) -> Case {
@@ -83,5 +92,12 @@ impl Form {
         } else {
             holds("expected").then_some(Form::Steps)
         }
+    }
+}
+
+fn step_of_plan_record(record: &[u8]) -> Option<Record> {
+    match operation(record)? {
+        Operation::Step(step) => Some(step),
+        Operation::Point(_) | Operation::Return(_) => None,
     }
 }

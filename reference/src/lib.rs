@@ -7,5 +7,7 @@ pub mod form;
 pub mod listing;
 pub mod model;
 pub mod ops;
+pub mod outlets;
 pub mod points;
 pub mod shrink;
+pub mod widened;

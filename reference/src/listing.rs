@@ -2,7 +2,8 @@
 //! what happened on the way.
 
 use crate::evening::Sight;
-use crate::model::{self, Crash, Event, Group, State, Version, RECORD_LENGTH, TAKEN};
+use crate::model::{self, Crash, Event, Group, Outcome, State, Version, RECORD_LENGTH, TAKEN};
+use crate::outlets::{OutletCounts, Watch};
 use std::collections::BTreeMap;
 use std::fmt::{Debug, Write};
 
@@ -21,6 +22,7 @@ pub struct Tally {
     pub saves_passed_over: u64,
     pub link_faults: u64,
     pub crashes: BTreeMap<Crash, u64>,
+    pub outlets: OutletCounts,
     pub point_answers: BTreeMap<u8, u64>,
     pub return_answers: BTreeMap<u8, u64>,
     pub sights: BTreeMap<Sight, u64>,
@@ -31,29 +33,30 @@ impl Tally {
         Tally { cases: 1, ..Tally::default() }
     }
 
-    pub(crate) fn of_refused_load(refusal: u8) -> Tally {
+    pub(crate) fn of_refused_load(group_file: &[u8], refusal: u8) -> Tally {
         let mut tally = Tally::of_one_case();
         tally.loads_refused.insert(refusal, 1);
+        tally.outlets.count_refused_load(group_file, refusal);
         tally
     }
 
     pub(crate) fn count_sights(&mut self, sights: Vec<Sight>) {
         for sight in sights {
-            *self.sights.entry(sight).or_default() += 1;
+            count(&mut self.sights, sight);
         }
     }
 
-    pub(crate) fn count_step(&mut self, record: &[u8], outcome: model::Outcome) {
+    fn count_step(&mut self, record: &[u8], outcome: Outcome) {
         self.steps += 1;
-        *self.answers.entry(outcome.answer).or_default() += 1;
+        count(&mut self.answers, outcome.answer);
         if outcome.answer == TAKEN {
-            *self.kinds_taken.entry(record[0]).or_default() += 1;
+            count(&mut self.kinds_taken, record[0]);
         }
         match outcome.event {
-            Event::Nothing => {}
+            Event::Nothing | Event::Added(_) => {}
             Event::Commit => self.commits += 1,
-            Event::LinkFault => self.link_faults += 1,
-            Event::Crash(cause) => *self.crashes.entry(cause).or_default() += 1,
+            Event::LinkFault { .. } => self.link_faults += 1,
+            Event::Crash(cause) => count(&mut self.crashes, cause),
             Event::RecoveryEnd { save_passed_over } => {
                 self.recoveries_ended += 1;
                 self.saves_passed_over += u64::from(save_passed_over);
@@ -72,6 +75,7 @@ impl Tally {
         add_counts(&mut self.answers, &other.answers);
         add_counts(&mut self.kinds_taken, &other.kinds_taken);
         add_counts(&mut self.crashes, &other.crashes);
+        self.outlets.add(&other.outlets);
         add_counts(&mut self.point_answers, &other.point_answers);
         add_counts(&mut self.return_answers, &other.return_answers);
         add_counts(&mut self.sights, &other.sights);
@@ -88,7 +92,7 @@ impl Tally {
         let _ = writeln!(text, "link faults found: {}", self.link_faults);
         let crashes: u64 = self.crashes.values().sum();
         let _ = writeln!(text, "crashes: {crashes} ({})", counts_text(&self.crashes));
-        text
+        text + &self.outlets.report()
     }
 
     /// What points and returns add to the report.
@@ -103,13 +107,38 @@ impl Tally {
     }
 }
 
-fn add_counts<K: Copy + Ord>(sum: &mut BTreeMap<K, u64>, more: &BTreeMap<K, u64>) {
+/// The steps of one case, counted.
+pub(crate) struct Counter {
+    pub(crate) tally: Tally,
+    watch: Watch,
+}
+
+impl Counter {
+    pub(crate) fn new() -> Counter {
+        Counter { tally: Tally::of_one_case(), watch: Watch::default() }
+    }
+
+    pub(crate) fn step(&mut self, group: &mut Group, record: &[u8], highest_kind: u8) -> Outcome {
+        self.watch.before_step(group);
+        let outcome = group.step(record, highest_kind);
+        self.watch.after_step(group, record, outcome);
+        self.tally.count_step(record, outcome);
+        self.tally.outlets.count_step(&self.watch, group, record, outcome);
+        outcome
+    }
+}
+
+pub(crate) fn count<K: Ord>(counts: &mut BTreeMap<K, u64>, key: K) {
+    *counts.entry(key).or_default() += 1;
+}
+
+pub(crate) fn add_counts<K: Copy + Ord>(sum: &mut BTreeMap<K, u64>, more: &BTreeMap<K, u64>) {
     for (&key, count) in more {
         *sum.entry(key).or_default() += count;
     }
 }
 
-fn counts_text<K: Debug>(counts: &BTreeMap<K, u64>) -> String {
+pub(crate) fn counts_text<K: Debug>(counts: &BTreeMap<K, u64>) -> String {
     let each = |(key, count): (&K, &u64)| format!("{key:?} x {count}");
     counts.iter().map(each).collect::<Vec<_>>().join(", ")
 }
@@ -118,18 +147,20 @@ fn counts_text<K: Debug>(counts: &BTreeMap<K, u64>) -> String {
 pub fn counted_listing(group_file: &[u8], steps_file: &[u8], highest_kind: u8) -> (String, Tally) {
     let mut group = match model::load(group_file) {
         Ok(group) => group,
-        Err(refusal) => return (format!("load {refusal}\n"), Tally::of_refused_load(refusal)),
+        Err(refusal) => {
+            let tally = Tally::of_refused_load(group_file, refusal);
+            return (format!("load {refusal}\n"), tally);
+        }
     };
-    let mut tally = Tally::of_one_case();
+    let mut counter = Counter::new();
     let mut text = String::new();
     let records = steps_file.chunks(RECORD_LENGTH).take(RECORDS_READ);
     for (index, record) in records.enumerate() {
-        let outcome = group.step(record, highest_kind);
+        let outcome = counter.step(&mut group, record, highest_kind);
         let _ = writeln!(text, "step {} {}", index + 1, outcome.answer);
-        tally.count_step(record, outcome);
     }
     list_cabinets(&mut text, &group);
-    (text, tally)
+    (text, counter.tally)
 }
 
 pub fn listing(group_file: &[u8], steps_file: &[u8], highest_kind: u8) -> String {
@@ -144,7 +175,8 @@ pub(crate) fn list_cabinets(text: &mut String, group: &Group) {
         } else {
             let state = cabinet.state.name();
             let version = version_text(cabinet.version);
-            writeln!(text, "cab {number} {state} {version} {}", cabinet.booking())
+            let [a, b] = cabinet.bookings();
+            writeln!(text, "cab {number} {state} {version} {a} {b}")
         };
     }
 }
@@ -160,7 +192,8 @@ fn version_text(version: Version) -> String {
 mod tests {
     use super::*;
 
-    const GROUP: [u8; 20] = [0, 2, 0, 1, 0, 10, 0, 18, 0, 20, 1, 1, 0, 100, 1, 0, 0, 50, 1, 2];
+    const GROUP: [u8; 24] =
+        [0, 2, 0, 1, 0, 10, 0, 22, 0, 24, 1, 1, 0, 100, 0, 0, 1, 0, 0, 50, 0, 0, 1, 2];
 
     #[test]
     fn the_worked_example() {
@@ -175,7 +208,7 @@ mod tests {
             [8, 1, 0, 0, 0, 0],
         ];
         let expected = "step 1 0\nstep 2 0\nstep 3 0\nstep 4 0\nstep 5 0\nstep 6 0\n\
-                        step 7 0\nstep 8 0\ncab 1 normal 0 100\ncab 2 failed\n";
+                        step 7 0\nstep 8 0\ncab 1 normal 0 100 0\ncab 2 failed\n";
         let (text, tally) = counted_listing(&GROUP, &steps.concat(), 11);
         assert_eq!(text, expected);
         assert_eq!(tally.recoveries_ended, 1);
@@ -184,9 +217,20 @@ mod tests {
     #[test]
     fn empty_files_and_short_records() {
         assert_eq!(listing(&[], &[], 11), "load 1\n");
-        let cabinets = "cab 1 normal 0 100\ncab 2 normal 0 50\n";
+        let cabinets = "cab 1 normal 0 100 0\ncab 2 normal 0 50 0\n";
         assert_eq!(listing(&GROUP, &[], 11), cabinets);
         assert_eq!(listing(&GROUP, &[4, 1, 2], 11), format!("step 1 8\n{cabinets}"));
+    }
+
+    #[test]
+    fn a_then_b_is_listed() {
+        let mut group = GROUP;
+        group[15] = 7;
+        group[20] = 1;
+        let steps = [[1, 1, 2, 1, 0, 30], [4, 1, 2, 0, 0, 0]];
+        let cabinets = "cab 1 normal 0 70 7\ncab 2 normal 0 50 286\n";
+        let expected = format!("step 1 0\nstep 2 0\n{cabinets}");
+        assert_eq!(listing(&group, &steps.concat(), 11), expected);
     }
 
     #[test]

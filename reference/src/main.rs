@@ -5,6 +5,8 @@ use reference::compare::{self, Row};
 use reference::form::Form;
 use reference::listing::{listing, Tally};
 use reference::ops;
+use reference::widened::{with_two_outlets, LeftOut};
+use std::collections::BTreeMap;
 use std::io::{self, Write};
 use std::path::{Path, PathBuf};
 use std::process::ExitCode;
@@ -16,7 +18,7 @@ const USAGE: &str = "usage:
   reference evening DIR [--kinds 10|11]
   reference compare PROGRAM [--plans] [--seed S] [--cases N] [--damage] [--kinds 10|11]
   reference make OUT [--plans] [--seed S] [--cases N] [--damage] [--kinds 10|11]
-  reference pack DIR OUT [--plans]
+  reference pack DIR OUT [--plans] [--from-01]
   reference vectors DIR
   reference bench [--seed S]";
 
@@ -28,6 +30,7 @@ struct Options {
     cases: u64,
     form: Form,
     damage: bool,
+    from_01: bool,
     highest_kind: u8,
 }
 
@@ -40,6 +43,7 @@ impl Options {
                 "--cases" => options.cases = arguments.next()?.parse().ok()?,
                 "--plans" => options.form = Form::Plan,
                 "--damage" => options.damage = true,
+                "--from-01" => options.from_01 = true,
                 "--kinds" => options.highest_kind = kinds(&arguments.next()?)?,
                 other if other.starts_with("--") => return None,
                 _ => options.words.push(argument),
@@ -63,6 +67,7 @@ impl Default for Options {
             cases: 1000,
             form: Form::Steps,
             damage: false,
+            from_01: false,
             highest_kind: 11,
         }
     }
@@ -156,13 +161,44 @@ fn pack(folder: &Path, file: &Path, options: &Options) -> io::Result<ExitCode> {
         eprintln!("no case folder with {} below {}", form.records_file(), folder.display());
         return Ok(ExitCode::from(2));
     }
+    let paths: Vec<PathBuf> = folders.into_iter().map(|(_, path)| path).collect();
+    if options.from_01 {
+        return pack_from_01(&paths, file, options);
+    }
     let mut out = io::BufWriter::new(fs::File::create(file)?);
-    for (_, path) in &folders {
+    for path in &paths {
         write_case(&mut out, &form.case_in_folder(path), &form.expected_text(path)?)?;
     }
     out.flush()?;
-    println!("{} cases packed", folders.len());
+    println!("{} cases packed", paths.len());
     Ok(ExitCode::SUCCESS)
+}
+
+/// Cases of document 01 as cases of card 2. The texts come from theirs and not from the model,
+/// which is asked beside them.
+fn pack_from_01(folders: &[PathBuf], file: &Path, options: &Options) -> io::Result<ExitCode> {
+    let form = options.form;
+    let mut out = io::BufWriter::new(fs::File::create(file)?);
+    let mut left_out: BTreeMap<LeftOut, u64> = BTreeMap::new();
+    let (mut packed, mut differ) = (0, Vec::new());
+    for folder in folders {
+        let text = String::from_utf8_lossy(&form.expected_text(folder)?).into_owned();
+        match with_two_outlets(form, &form.case_in_folder(folder), &text) {
+            Ok((case, text)) => {
+                write_case(&mut out, &case, text.as_bytes())?;
+                packed += 1;
+                if form.text(&case, options.highest_kind) != text {
+                    differ.push(folder);
+                }
+            }
+            Err(reason) => *left_out.entry(reason).or_default() += 1,
+        }
+    }
+    out.flush()?;
+    println!("{packed} cases packed, {} of them differ from the model", differ.len());
+    differ.iter().for_each(|folder| println!("{}", folder.display()));
+    println!("{} left out {left_out:?}", left_out.values().sum::<u64>());
+    Ok(if differ.is_empty() { ExitCode::SUCCESS } else { ExitCode::FAILURE })
 }
 
 // ---------------------------------------------------------------- vectors

@@ -3,6 +3,7 @@
 //! are 1 to n here, as they are there.
 
 use std::collections::{BTreeSet, VecDeque};
+use std::ops::{Range, RangeInclusive};
 
 pub type Number = usize;
 pub type Image = [u8; 32];
@@ -35,10 +36,89 @@ pub fn check_octets(register: u16, octets: &[u8]) -> u16 {
     octets.iter().fold(register, |r, &o| check_octet(r, o))
 }
 
-/// A normal packet runs through the check as 0x00 and its amount.
-fn check_normal_packet(register: u16, amount: u16) -> u16 {
-    let [high, low] = amount.to_be_bytes();
-    check_octets(register, &[0x00, high, low])
+/// A normal packet runs through the check as its outlet's octet and its amount.
+fn check_normal_packet(register: u16, charge: Charge) -> u16 {
+    let [high, low] = charge.amount.to_be_bytes();
+    check_octets(register, &[charge.outlet.octet(), high, low])
+}
+
+// ---------------------------------------------------------------- outlets
+
+/// A cabinet's outlets. Their bookings stand in front of its image, two octets each.
+#[derive(Clone, Copy, PartialEq, Eq, PartialOrd, Ord, Debug)]
+pub enum Outlet {
+    A,
+    B,
+}
+
+impl Outlet {
+    /// The first octet of a normal packet for this outlet.
+    fn octet(self) -> u8 {
+        match self {
+            Outlet::A => 0x00,
+            Outlet::B => 0x01,
+        }
+    }
+
+    fn place_in_image(self) -> Range<usize> {
+        match self {
+            Outlet::A => 0..2,
+            Outlet::B => 2..4,
+        }
+    }
+
+    pub fn other(self) -> Outlet {
+        match self {
+            Outlet::A => Outlet::B,
+            Outlet::B => Outlet::A,
+        }
+    }
+}
+
+const FIRST_NOTE: u8 = 4;
+const LAST_NOTE: u8 = 31;
+
+/// The outlets at the two ends of a send, the sender's first.
+#[derive(Clone, Copy, PartialEq, Eq, PartialOrd, Ord, Debug)]
+pub enum Ends {
+    AA,
+    AB,
+    BA,
+    BB,
+}
+
+impl Ends {
+    /// The outlets that a send's p names, if it names any.
+    pub fn of(p: u8) -> Option<Ends> {
+        match p {
+            0 => Some(Ends::AA),
+            1 => Some(Ends::AB),
+            2 => Some(Ends::BA),
+            3 => Some(Ends::BB),
+            _ => None,
+        }
+    }
+
+    pub fn sending(self) -> Outlet {
+        match self {
+            Ends::AA | Ends::AB => Outlet::A,
+            Ends::BA | Ends::BB => Outlet::B,
+        }
+    }
+
+    fn receiving(self) -> Outlet {
+        match self {
+            Ends::AA | Ends::BA => Outlet::A,
+            Ends::AB | Ends::BB => Outlet::B,
+        }
+    }
+}
+
+/// What a normal packet carries: the receiving outlet and an amount for it.
+#[derive(Clone, Copy, PartialEq, Eq, Debug)]
+pub struct Charge {
+    pub outlet: Outlet,
+    pub amount: u16,
 }
 
 // ---------------------------------------------------------------- parts of a group
@@ -101,7 +181,7 @@ pub enum Place {
 
 #[derive(Clone, Copy, PartialEq, Eq, Debug)]
 pub enum Packet {
-    Normal(u16),
+    Normal(Charge),
     Checkp(u16),
     Resume,
     Recover(u8),
@@ -166,12 +246,17 @@ pub struct Cabinet {
 }
 
 impl Cabinet {
-    pub fn booking(&self) -> u16 {
-        u16::from_be_bytes([self.image[0], self.image[1]])
+    pub fn booking(&self, outlet: Outlet) -> u16 {
+        booking_in(&self.image, outlet)
     }
 
-    fn set_booking(&mut self, amperes: u16) {
-        self.image[..2].copy_from_slice(&amperes.to_be_bytes());
+    fn set_booking(&mut self, outlet: Outlet, amperes: u16) {
+        self.image[outlet.place_in_image()].copy_from_slice(&amperes.to_be_bytes());
+    }
+
+    /// A's booking and B's.
+    pub fn bookings(&self) -> [u16; 2] {
+        [Outlet::A, Outlet::B].map(|outlet| self.booking(outlet))
     }
 
     pub fn working(&self) -> bool {
@@ -212,6 +297,10 @@ impl Cabinet {
     }
 }
 
+pub fn booking_in(image: &Image, outlet: Outlet) -> u16 {
+    number_at(image, outlet.place_in_image().start) as u16
+}
+
 /// For the counts only: the last commit whose resume nobody took and from which nobody was
 /// restored, and whether the recovery under way passes over a save.
 #[derive(Clone, Default)]
@@ -250,14 +339,15 @@ fn connected(members: &BTreeSet<Number>, links: &BTreeSet<(Number, Number)>) -> 
 
 // ---------------------------------------------------------------- load
 
-const HEADER_LENGTH: usize = 10;
-const CABINET_ENTRY_LENGTH: usize = 4;
+pub(crate) const HEADER_LENGTH: usize = 10;
+pub(crate) const CABINET_ENTRY_LENGTH: usize = 6;
 const LINK_ENTRY_LENGTH: usize = 2;
 
 struct CabinetEntry {
     home: Number,
     mark: u8,
-    booking: u16,
+    booking_a: u16,
+    booking_b: u16,
 }
 
 fn number_at(octets: &[u8], offset: usize) -> usize {
@@ -286,7 +376,8 @@ fn cabinet_entries(table: &[u8]) -> Vec<CabinetEntry> {
     let entry = |octets: &[u8]| CabinetEntry {
         home: usize::from(octets[0]),
         mark: octets[1],
-        booking: u16::from_be_bytes([octets[2], octets[3]]),
+        booking_a: u16::from_be_bytes([octets[2], octets[3]]),
+        booking_b: u16::from_be_bytes([octets[4], octets[5]]),
     };
     table.chunks(CABINET_ENTRY_LENGTH).map(entry).collect()
 }
@@ -325,8 +416,8 @@ pub fn load(file: &[u8]) -> Result<Group, u8> {
     if !connected(&(1..=n).collect(), &links) {
         return Err(6);
     }
-    let total: u32 = entries.iter().map(|entry| u32::from(entry.booking)).sum();
-    if total > 65_535 {
+    let booked = |entry: &CabinetEntry| u32::from(entry.booking_a) + u32::from(entry.booking_b);
+    if entries.iter().map(booked).sum::<u32>() > 65_535 {
         return Err(7);
     }
     Ok(starting_group(&entries, links))
@@ -368,7 +459,8 @@ fn starting_cabinet(
         trouble: None,
         left_behind: None,
     };
-    cabinet.set_booking(entry.booking);
+    cabinet.set_booking(Outlet::A, entry.booking_a);
+    cabinet.set_booking(Outlet::B, entry.booking_b);
     cabinet
 }
 
@@ -376,7 +468,7 @@ fn starting_cabinet(
 
 #[derive(Clone, Copy, PartialEq, Eq, Debug)]
 pub enum Step {
-    Send { from: Number, to: Number, amount: u16 },
+    Send { from: Number, to: Number, outlets: u8, amount: u16 },
     Note { at: Number, octet: u8, value: u16 },
     Begin(Number),
     Deliver { from: Number, to: Number },
@@ -408,17 +500,16 @@ pub fn decode(record: &[u8], highest_kind: u8) -> Result<Step, u8> {
 /// Whether a kind names b, p and q. All kinds name a.
 pub fn fields_named(kind: u8) -> (bool, bool, bool) {
     match kind {
-        1 => (true, false, true),
+        1 | 11 => (true, true, true),
         2 => (false, true, true),
         4 => (true, false, false),
-        11 => (true, true, true),
         _ => (false, false, false),
     }
 }
 
 fn step_of_fields(kind: u8, a: Number, b: Number, p: u8, q: u16) -> Option<Step> {
     Some(match kind {
-        1 => Step::Send { from: a, to: b, amount: q },
+        1 => Step::Send { from: a, to: b, outlets: p, amount: q },
         2 => Step::Note { at: a, octet: p, value: q },
         3 => Step::Begin(a),
         4 => Step::Deliver { from: a, to: b },
@@ -466,9 +557,15 @@ impl Step {
 #[derive(Clone, Copy, PartialEq, Eq, Debug)]
 pub enum Event {
     Nothing,
+    /// An amount was added to this outlet's booking.
+    Added(Outlet),
     Commit,
-    RecoveryEnd { save_passed_over: bool },
-    LinkFault,
+    RecoveryEnd {
+        save_passed_over: bool,
+    },
+    LinkFault {
+        by_comparison: bool,
+    },
     Crash(Crash),
 }
 
@@ -496,7 +593,7 @@ impl Group {
         self.cabinets.len()
     }
 
-    pub fn numbers(&self) -> std::ops::RangeInclusive<Number> {
+    pub fn numbers(&self) -> RangeInclusive<Number> {
         1..=self.size()
     }
 
@@ -573,7 +670,9 @@ impl Group {
 
     fn refusal_of_kind(&self, step: &Step) -> Option<u8> {
         match *step {
-            Step::Send { from, to, amount } => self.send_refusal(from, to, amount),
+            Step::Send { from, to, outlets, amount } => {
+                self.send_refusal(from, to, outlets, amount)
+            }
             Step::Note { at, octet, value } => self.note_refusal(at, octet, value),
             Step::Begin(a) => self.begin_refusal(a),
             Step::Deliver { from, to } => self.deliver_refusal(from, to),
@@ -589,13 +688,14 @@ impl Group {
         }
     }
 
-    fn send_refusal(&self, from: Number, to: Number, amount: u16) -> Option<u8> {
+    fn send_refusal(&self, from: Number, to: Number, outlets: u8, amount: u16) -> Option<u8> {
         let sender = self.cabinet(from);
+        let ends = Ends::of(outlets);
         first_refusal(&[
             (13, !sender.uses_line_to(to)),
             (14, sender.state != State::Normal),
-            (15, amount == 0),
-            (16, amount > sender.booking()),
+            (15, amount == 0 || ends.is_none()),
+            (16, ends.is_some_and(|ends| amount > sender.booking(ends.sending()))),
             (17, self.line(from, to).normal_packets() >= NORMAL_PLACES),
         ])
     }
@@ -603,7 +703,7 @@ impl Group {
     fn note_refusal(&self, at: Number, octet: u8, value: u16) -> Option<u8> {
         first_refusal(&[
             (14, self.cabinet(at).state != State::Normal),
-            (15, !(2..=31).contains(&octet) || value > 255),
+            (15, !(FIRST_NOTE..=LAST_NOTE).contains(&octet) || value > 255),
         ])
     }
 
@@ -715,7 +815,10 @@ impl Group {
 
     fn perform(&mut self, step: Step) -> Result<Event, Crash> {
         match step {
-            Step::Send { from, to, amount } => self.send(from, to, amount),
+            Step::Send { from, to, outlets, amount } => {
+                let ends = Ends::of(outlets).expect("a send that names no outlets is refused");
+                self.send(from, to, ends, amount);
+            }
             Step::Note { at, octet, value } => {
                 self.cabinet_mut(at).image[usize::from(octet)] = value as u8;
             }
@@ -749,12 +852,13 @@ impl Group {
         }
     }
 
-    fn send(&mut self, from: Number, to: Number, amount: u16) {
+    fn send(&mut self, from: Number, to: Number, ends: Ends, amount: u16) {
+        let charge = Charge { outlet: ends.receiving(), amount };
         let sender = self.cabinet_mut(from);
-        sender.set_booking(sender.booking() - amount);
+        sender.set_booking(ends.sending(), sender.booking(ends.sending()) - amount);
         let register = &mut sender.sent_check[to - 1];
-        *register = check_normal_packet(*register, amount);
-        self.line_mut(from, to).put(Packet::Normal(amount));
+        *register = check_normal_packet(*register, charge);
+        self.line_mut(from, to).put(Packet::Normal(charge));
     }
 }
 
@@ -792,10 +896,14 @@ impl Group {
     ) -> Result<Event, Crash> {
         let state = self.cabinet(to).state;
         match packet {
-            Packet::Normal(amount) if self.accepts_normal(from, to) => {
-                self.add_amount(from, to, amount);
+            Packet::Normal(charge) if self.accepts_normal(from, to) => {
+                self.add_amount(from, to, charge);
+                return Ok(Event::Added(charge.outlet));
             }
-            Packet::Normal(_) | Packet::Invalid => return self.find_link_fault(from, to),
+            Packet::Normal(_) | Packet::Invalid => {
+                self.find_link_fault(from, to)?;
+                return Ok(Event::LinkFault { by_comparison: false });
+            }
             Packet::Checkp(value) if matches!(state, State::Normal | State::CheckpBegin) => {
                 return self.receive_checkp(from, to, value);
             }
@@ -818,11 +926,12 @@ impl Group {
         }
     }
 
-    fn add_amount(&mut self, from: Number, to: Number, amount: u16) {
+    fn add_amount(&mut self, from: Number, to: Number, charge: Charge) {
+        let Charge { outlet, amount } = charge;
         let receiver = self.cabinet_mut(to);
-        receiver.set_booking(receiver.booking().wrapping_add(amount));
+        receiver.set_booking(outlet, receiver.booking(outlet).wrapping_add(amount));
         let register = &mut receiver.taken_check[from - 1];
-        *register = check_normal_packet(*register, amount);
+        *register = check_normal_packet(*register, charge);
     }
 
     fn receive_in_recovery(
@@ -870,7 +979,8 @@ impl Group {
 
     fn receive_checkp(&mut self, from: Number, to: Number, value: u16) -> Result<Event, Crash> {
         if self.cabinet(to).taken_check[from - 1] != value {
-            return self.find_link_fault(from, to);
+            self.find_link_fault(from, to)?;
+            return Ok(Event::LinkFault { by_comparison: true });
         }
         self.restart_receiver(from, to);
         if self.cabinet(to).state == State::Normal {
@@ -953,7 +1063,7 @@ impl Group {
     }
 }
 
-fn piece_range(piece: usize) -> std::ops::Range<usize> {
+fn piece_range(piece: usize) -> Range<usize> {
     piece * PIECE_LENGTH..(piece + 1) * PIECE_LENGTH
 }
 
@@ -980,14 +1090,14 @@ impl Group {
         Ok(())
     }
 
-    fn find_link_fault(&mut self, from: Number, to: Number) -> Result<Event, Crash> {
+    fn find_link_fault(&mut self, from: Number, to: Number) -> Result<(), Crash> {
         if self.crashes_without_link(from, to) {
             return Err(Crash::CutOffByLinkFault);
         }
         let (low, high) = link_between(from, to);
         self.sound_links.remove(&(low, high));
         self.enter_error(to, Place::Link(low, high));
-        Ok(Event::LinkFault)
+        Ok(())
     }
 
     fn enter_error(&mut self, a: Number, place: Place) {
@@ -1079,8 +1189,8 @@ impl Group {
             return Err(Crash::DamageInRecovery);
         }
         let line = self.line_mut(from, to);
-        if let Packet::Normal(amount) = line.packets[place] {
-            line.packets[place] = Packet::Normal(amount ^ pattern);
+        if let Packet::Normal(charge) = &mut line.packets[place] {
+            charge.amount ^= pattern;
             line.hurt = true;
         } else {
             line.packets[place] = Packet::Invalid;
@@ -1144,16 +1254,18 @@ impl Group {
 mod tests {
     use super::*;
 
+    use Outlet::{A, B};
+
     /// Cabinets in a row, each linked to the next; the last one is the store of all.
-    fn group_file(bookings: &[u16]) -> Vec<u8> {
+    fn group_file_of_both(bookings: &[[u16; 2]]) -> Vec<u8> {
         let n = bookings.len();
-        let link_table = 10 + 4 * n;
+        let link_table = 10 + 6 * n;
         let header = [n, n - 1, 10, link_table, link_table + 2 * (n - 1)];
         let mut file: Vec<u8> =
             header.iter().flat_map(|&number| (number as u16).to_be_bytes()).collect();
-        for (index, booking) in bookings.iter().enumerate() {
+        for (index, booked) in bookings.iter().enumerate() {
             file.extend_from_slice(&[n as u8, u8::from(index + 1 == n)]);
-            file.extend_from_slice(&booking.to_be_bytes());
+            file.extend(booked.iter().flat_map(|booking| booking.to_be_bytes()));
         }
         for low in 1..n as u8 {
             file.extend_from_slice(&[low, low + 1]);
@@ -1161,8 +1273,26 @@ mod tests {
         file
     }
 
+    /// With nothing booked at any outlet B.
+    fn group_file(bookings: &[u16]) -> Vec<u8> {
+        let both: Vec<[u16; 2]> = bookings.iter().map(|&booking| [booking, 0]).collect();
+        group_file_of_both(&both)
+    }
+
+    fn loaded(file: &[u8]) -> Group {
+        load(file).unwrap_or_else(|refusal| panic!("load {refusal}"))
+    }
+
     fn group(bookings: &[u16]) -> Group {
-        load(&group_file(bookings)).unwrap_or_else(|refusal| panic!("load {refusal}"))
+        loaded(&group_file(bookings))
+    }
+
+    fn group_of_both(bookings: &[[u16; 2]]) -> Group {
+        loaded(&group_file_of_both(bookings))
+    }
+
+    fn bookings(group: &Group) -> Vec<[u16; 2]> {
+        group.numbers().map(|number| group.cabinet(number).bookings()).collect()
     }
 
     fn answers(group: &mut Group, records: &[Record]) -> Vec<u8> {
@@ -1177,6 +1307,16 @@ mod tests {
 
     fn send(a: u8, b: u8, amount: u8) -> Record {
         [1, a, b, 0, 0, amount]
+    }
+
+    /// A send from 1 to 2 with the outlets that p names.
+    fn send_by(p: u8, amount: u16) -> Record {
+        let [high, low] = amount.to_be_bytes();
+        [1, 1, 2, p, high, low]
+    }
+
+    fn note(octet: u8) -> Record {
+        [2, 1, 0, octet, 0, 7]
     }
 
     fn deliver(a: u8, b: u8) -> Record {
@@ -1219,6 +1359,25 @@ mod tests {
     fn the_total_may_reach_65535() {
         assert!(load(&group_file(&[65_000, 535])).is_ok());
         assert_eq!(load(&group_file(&[65_000, 536])).err(), Some(7));
+        assert!(load(&group_file_of_both(&[[65_000, 300], [200, 35]])).is_ok());
+        assert_eq!(load(&group_file_of_both(&[[65_000, 300], [200, 36]])).err(), Some(7));
+        assert!(load(&group_file_of_both(&[[0, 65_535], [0, 0]])).is_ok());
+        assert_eq!(load(&group_file_of_both(&[[1, 65_535], [0, 0]])).err(), Some(7));
+    }
+
+    #[test]
+    fn a_starting_image_has_both_bookings_in_front() {
+        let group = group_of_both(&[[0x0102, 0x0304], [5, 6]]);
+        let image = group.cabinet(1).image;
+        assert_eq!(image[..5], [1, 2, 3, 4, 0]);
+        assert_eq!(*group.slot(1, 0), image);
+        assert_eq!(*group.slot(1, 1), [0; 32]);
+    }
+
+    #[test]
+    fn entries_of_four_octets_are_refused() {
+        let one_outlet = [0, 2, 0, 1, 0, 10, 0, 18, 0, 20, 2, 0, 0, 100, 2, 1, 0, 50, 1, 2];
+        assert_eq!(load(&one_outlet).err(), Some(3));
     }
 
     #[test]
@@ -1234,13 +1393,96 @@ mod tests {
         assert_eq!(changed(2, 0x80), Some(3));
         assert_eq!(changed(10, 1), Some(4));
         assert_eq!(changed(11, 2), Some(4));
-        assert_eq!(changed(22, 2), Some(5));
-        assert_eq!(changed(24, 1), None);
+        assert_eq!(changed(28, 2), Some(5));
+        assert_eq!(changed(30, 1), None);
     }
 
     #[test]
     fn all_of_a_booking_may_be_sent_and_no_more() {
         assert_eq!(answers(&mut group(&[100, 50]), &[send(1, 2, 101), send(1, 2, 100)]), [16, 0]);
+    }
+
+    #[test]
+    fn each_p_names_an_outlet_at_either_end() {
+        let moved = |p: u8| {
+            let mut group = group_of_both(&[[100, 200], [10, 20]]);
+            assert_eq!(answers(&mut group, &[send_by(p, 7), deliver(1, 2)]), [0, 0]);
+            bookings(&group)
+        };
+        assert_eq!(moved(0), [[93, 200], [17, 20]]);
+        assert_eq!(moved(1), [[93, 200], [10, 27]]);
+        assert_eq!(moved(2), [[100, 193], [17, 20]]);
+        assert_eq!(moved(3), [[100, 193], [10, 27]]);
+    }
+
+    #[test]
+    fn the_sending_outlet_alone_covers_a_send() {
+        for (p, left) in [(0, [0, 200]), (1, [0, 200]), (2, [100, 0]), (3, [100, 0])] {
+            let booking = if p < 2 { 100 } else { 200 };
+            let mut group = group_of_both(&[[100, 200], [10, 20]]);
+            let records = [send_by(p, booking + 1), send_by(p, booking)];
+            assert_eq!(answers(&mut group, &records), [16, 0]);
+            assert_eq!(bookings(&group), [left, [10, 20]]);
+        }
+    }
+
+    #[test]
+    fn outlets_that_no_p_names_are_refused_before_the_booking_is_asked() {
+        let mut group = group_of_both(&[[100, 200], [10, 20]]);
+        for p in [4, 7, 128, 255] {
+            assert_eq!(answers(&mut group, &[send_by(p, 1), send_by(p, 1000)]), [15, 15]);
+        }
+        assert_eq!(answers(&mut group, &[send_by(3, 0), send_by(3, 1000)]), [15, 16]);
+        assert_eq!(answers(&mut group, &[[1, 1, 9, 4, 0, 1], [1, 1, 1, 4, 0, 1]]), [11, 13]);
+        assert_eq!(answers(&mut group, &[one(3, 1), send_by(4, 1)]), [0, 14]);
+    }
+
+    #[test]
+    fn the_check_value_runs_over_the_receiving_outlet() {
+        for (p, outlet) in [(0, 0x00), (1, 0x01), (2, 0x00), (3, 0x01)] {
+            let mut group = group_of_both(&[[100, 200], [10, 20]]);
+            assert_eq!(answers(&mut group, &[send_by(p, 7), one(3, 1)]), [0, 0]);
+            let value = check_octets(CHECK_START, &[outlet, 0, 7]);
+            assert_eq!(group.line(1, 2).packets[1], Packet::Checkp(value));
+            assert_eq!(answers(&mut group, &[deliver(1, 2), deliver(1, 2)]), [0, 0]);
+            assert_eq!(group.cabinet(2).state, State::Checkpointing);
+        }
+    }
+
+    #[test]
+    fn damage_leaves_the_outlet_as_it_is() {
+        let mut group = group_of_both(&[[100, 200], [10, 20]]);
+        let hurt = [11, 1, 2, 0, 0x01, 0x01];
+        assert_eq!(answers(&mut group, &[send_by(1, 7), hurt]), [0, 0]);
+        let charge = Charge { outlet: B, amount: 7 ^ 0x0101 };
+        assert_eq!(group.line(1, 2).packets[0], Packet::Normal(charge));
+        assert_eq!(group.step(&deliver(1, 2), 11).event, Event::Added(B));
+        assert_eq!(bookings(&group)[1], [10, 20 + (7 ^ 0x0101)]);
+    }
+
+    #[test]
+    fn a_hurt_amount_wraps_in_its_own_outlet() {
+        let mut group = group_of_both(&[[100, 200], [10, 20]]);
+        let hurt = [11, 1, 2, 0, 0xFF, 0xFF];
+        assert_eq!(answers(&mut group, &[send_by(3, 7), hurt, deliver(1, 2)]), [0; 3]);
+        assert_eq!(bookings(&group)[1], [10, 20 - 8]);
+    }
+
+    #[test]
+    fn notes_begin_after_both_bookings() {
+        let mut group = group_of_both(&[[100, 200], [10, 20]]);
+        let records = [0, 1, 2, 3, 4, 31, 32].map(note);
+        assert_eq!(answers(&mut group, &records), [15, 15, 15, 15, 0, 0, 15]);
+        assert_eq!(bookings(&group)[0], [100, 200]);
+        assert_eq!(group.cabinet(1).image[3..6], [200, 7, 0]);
+    }
+
+    #[test]
+    fn the_places_of_a_line_are_for_both_outlets_together() {
+        let mut records: Vec<Record> = (0..8).map(|index| send_by(index % 4, 1)).collect();
+        records.extend([0, 1, 2, 3].map(|p| send_by(p, 1)));
+        let expected = [0, 0, 0, 0, 0, 0, 0, 0, 17, 17, 17, 17];
+        assert_eq!(answers(&mut group_of_both(&[[9, 9], [9, 9]]), &records), expected);
     }
 
     #[test]
@@ -1266,6 +1508,8 @@ mod tests {
         assert_eq!(group.step(&[11, 1, 2, 0, 0, 1], 11).answer, 18);
         assert_eq!(group.step(&[3, 9, 1, 0, 0, 0], 11).answer, 9);
         assert_eq!(group.step(&[3, 9, 0, 0, 0, 0], 11).answer, 11);
+        assert_eq!(group.step(&[4, 1, 2, 1, 0, 0], 11).answer, 9);
+        assert_eq!(group.step(&[1, 1, 2, 1, 0, 1], 11).answer, 0);
     }
 
     #[test]
@@ -1277,26 +1521,26 @@ mod tests {
 
     #[test]
     fn a_save_without_resume_taken_is_passed_over() {
-        let mut group = group(&[100, 50]);
-        answers(&mut group, &[send(1, 2, 30), deliver(1, 2)]);
+        let mut group = group_of_both(&[[100, 10], [50, 5]]);
+        answers(&mut group, &[send_by(0, 30), send_by(3, 3), deliver(1, 2), deliver(1, 2)]);
         commit_of_two(&mut group);
         let records = [one(10, 1), one(9, 2), one(7, 2), one(7, 2), one(7, 2), one(7, 2)];
         assert_eq!(answers(&mut group, &records), [0; 6]);
         let end = group.step(&one(8, 2), 11);
         assert_eq!(end.event, Event::RecoveryEnd { save_passed_over: true });
         assert_eq!(group.cabinet(2).version, Version::Known(0));
-        assert_eq!(group.cabinet(2).booking(), 50);
+        assert_eq!(group.cabinet(2).bookings(), [50, 5]);
     }
 
     #[test]
     fn a_save_with_resume_taken_is_restored() {
-        let mut group = group(&[100, 50]);
-        answers(&mut group, &[send(1, 2, 30), deliver(1, 2)]);
+        let mut group = group_of_both(&[[100, 10], [50, 5]]);
+        answers(&mut group, &[send_by(0, 30), send_by(3, 3), deliver(1, 2), deliver(1, 2)]);
         commit_of_two(&mut group);
         let records = [deliver(1, 2), send(2, 1, 9), one(10, 1), one(9, 2), one(7, 2)];
         assert_eq!(answers(&mut group, &records), [0, 0, 0, 14, 0]);
         assert_eq!(group.cabinet(2).version, Version::Known(1));
-        assert_eq!(group.cabinet(2).booking(), 80);
+        assert_eq!(group.cabinet(2).bookings(), [80, 8]);
     }
 
     #[test]
@@ -1305,7 +1549,7 @@ mod tests {
         let hurt = [11, 1, 2, 0, 0, 1];
         let records = [send(1, 2, 30), send(1, 2, 2), hurt, hurt, deliver(1, 2), deliver(1, 2)];
         assert_eq!(answers(&mut group, &records), [0, 0, 0, 20, 0, 0]);
-        assert_eq!(group.cabinet(2).booking(), 50 + 31 + 2);
+        assert_eq!(group.cabinet(2).booking(A), 50 + 31 + 2);
         assert_eq!(answers(&mut group, &[one(3, 1), deliver(1, 2)]), [0, 50]);
     }
 }

@@ -1,16 +1,17 @@
 -- One cabinet: what its table says, and each change that a rule of document 01 makes to it alone.
-use Prim.Native.Nat.{ℕ, _+_, _-_, _%_}
+use Prim.Native.Nat.{ℕ, _+_}
 use mathlib.Core.Bool.{Bool, true, false, cond}
 use lib.ListN.{set}
 use lib.Dec.{eqb, ltb}
 use Rattle.marks.specs.Marks.{Marks, covers, noMarks}
+use Rattle.outlet.specs.declared.Outlet.{Outlet}
 use Rattle.packet.specs.declared.Payload.{Payload}
 use Rattle.packet.specs.declared.Place.{Place}
 use Rattle.registers.specs.declared.Registers.{Registers}
 use Rattle.registers.specs.Registers.{startRegisters, runOverSent, runOverTaken, markHurt, restartSent, restartTaken}
 use Rattle.table.specs.declared.Table.{Table}
 use Rattle.table.specs.Table.{struckAt, inUse as tableInUse, coordinator as tableCoordinator}
-use Rattle.image.specs.Image.{blankImage, booked, withBooked}
+use Rattle.image.specs.Image.{blankImage, charged, credited}
 use Rattle.state.specs.declared.State.{State}
 use Rattle.state.specs.declared.State.the-variants.{Failed, Normal, CheckpBegin, Checkpointing, Checkpointed, Error, Recovering, Recovered, Crashed}
 use Rattle.state.specs.declared.Version.{Version}
@@ -96,15 +97,13 @@ coordinator c = tableCoordinator (c .table)
 
 -- ---- normal packets
 
--- a send taken: the amount leaves the booking, and the sender's register runs over the packet
-abbrev pub sending : Cabinet → ℕ → Payload → Cabinet
-sending c j p =
-    withImage (withRegisters c (runOverSent (c .registers) j p)) (withBooked (c .image) (booked (c .image) - p .amount))
+-- a send from outlet o taken: the amount leaves its booking, and the sender's register runs over the packet
+abbrev pub sending : Cabinet → ℕ → Outlet → Payload → Cabinet
+sending c j o p = withImage (withRegisters c (runOverSent (c .registers) j p)) (charged (c .image) o (p .amount))
 
--- "A receiver adds an amount modulo 65,536", and its register runs over the packet
+-- a packet taken: the amount joins the booking of the outlet that it names, and the receiver's register runs over the packet
 abbrev pub taking : Cabinet → ℕ → Payload → Cabinet
-taking c j p =
-    withImage (withRegisters c (runOverTaken (c .registers) j p)) (withBooked (c .image) ((booked (c .image) + p .amount) % 65536))
+taking c j p = withImage (withRegisters c (runOverTaken (c .registers) j p)) (credited (c .image) (p .outlet) (p .amount))
 
 -- a normal packet of the line from j was hurt
 abbrev pub hurtFrom : Cabinet → ℕ → Cabinet

@@ -1,6 +1,7 @@
 // One cabinet by value: its logical state, table, notes, check registers and image.
 // Cabinets are numbered 0 to 7 here: a cabinet's number in a file or a record, less one.
 use image::Image;
+use outlet::Outlet;
 use packet::Payload;
 use packet::Place;
 use registers::Registers;
@@ -9,7 +10,6 @@ use state::Version;
 use table::Table;
 ghost use mathlib.Core.Path.{_≡_};
 ghost use mathlib.Core.Bool.{cond};
-ghost use Prim.Native.Nat.{_-_};
 ghost use Rattle.marks.specs.Marks.{covers};
 ghost use Rattle.cabinet.specs.Alarm.{isFor};
 ghost use Rattle.state.specs.State.{doubted};
@@ -47,7 +47,7 @@ pub struct Cabinet {
     pub owed: [bool; 8],
 }
 
-// ---- versions, faults and amounts
+// ---- versions and faults
 
 // The version once all pieces are saved: it stays known at the coordinator.
 fn known_if(coordinates: bool, v: Version) -> Version
@@ -64,12 +64,6 @@ pub fn is_for(alarm: Alarm, place: Place) -> bool
         Alarm::Quiet => false,
         Alarm::Fault(known) => packet::same_place(known, place),
     }
-}
-
-fn minus(x: u16, y: u16) -> u16
-    ensures { λ r. ⌜ r ≡ x - y ⌝ }
-{
-    if y <= x { x - y } else { 0 }
 }
 
 // ---- starting values
@@ -217,26 +211,27 @@ impl Cabinet {
 
     // ---- normal packets
 
-    // A send to j taken: the amount leaves the booking, and the sender's register runs over the packet.
-    pub fn sending(self, j: u8, p: Payload) -> Cabinet
-        ensures { λ r. ⌜ r ≡ sending self j p ⌝ }
+    // A send from an outlet to j taken: the amount leaves its booking, and the sender's register runs over the packet.
+    pub fn sending(self, j: u8, outlet: Outlet, p: Payload) -> Cabinet
+        ensures { λ r. ⌜ r ≡ sending self j outlet p ⌝ }
     {
         let registers = self.registers;
         let image = self.image;
-        let left = minus(image.booked(), p.amount);
+        let paid = image.charged(outlet, p.amount);
         self.with_registers(registers.run_over_sent(j, p))
-            .with_image(image.with_booked(left))
+            .with_image(paid)
     }
 
-    // The amount of a packet from j added modulo 65,536, and the receiver's register runs over the packet.
+    // The amount of a packet from j added to the booking of the outlet that it names, and the receiver's register runs over the packet.
     pub fn taking(self, j: u8, p: Payload) -> Cabinet
         ensures { λ r. ⌜ r ≡ taking self j p ⌝ }
     {
         let registers = self.registers;
         let image = self.image;
-        let more = std::num::wrapping_add_u16(image.booked(), p.amount);
+        let outlet = p.outlet;
+        let richer = image.credited(outlet, p.amount);
         self.with_registers(registers.run_over_taken(j, p))
-            .with_image(image.with_booked(more))
+            .with_image(richer)
     }
 
     // A normal packet of the line from j was hurt.

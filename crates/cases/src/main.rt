@@ -78,7 +78,7 @@ fn judged(kind: Kind, file: &[u8], list: &[u8], text: &[u8], s: Sizes) -> Verdic
 // Reads and runs a case. Its records may be some more than the 10,000 that are read.
 fn sized_case(kind: Kind, fd: i32, s: Sizes) -> Verdict {
     let mut file = [0u8; 4096];
-    let mut list = [0u8; 90045];
+    let mut list = [0u8; 90180];
     let mut text = [0u8; 200200];
     if filled(fd, &mut file, s.file) {
         if filled(fd, &mut list, s.list) {
@@ -185,6 +185,7 @@ fn container(kind: Kind, name: &[u8], path: &[u8]) {
 fn main() {
     container(Kind::Listing, b"plain", b"plain.cases");
     container(Kind::Listing, b"damage", b"damage.cases");
+    container(Kind::Listing, b"outlets", b"outlets.cases");
     container(Kind::Listing, b"made", b"made.cases");
     container(Kind::Evening, b"points", b"points.cases");
     container(Kind::Evening, b"planned", b"planned.cases");

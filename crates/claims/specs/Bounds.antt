@@ -10,7 +10,7 @@ use Rattle.packet.specs.declared.Packet.{Packet}
 use Rattle.packet.specs.declared.Packet.the-variants.{Empty, Normal as NormalPacket, Checkp, Resume, Recover, Fault, Invalid}
 use Rattle.line.specs.declared.Cell.{Cell}
 use Rattle.line.specs.Line.{oldest, normals}
-use Rattle.image.specs.Image.{booked}
+use Rattle.image.specs.Image.{booking}
 use Rattle.group.specs.declared.Group.{Group}
 use Rattle.group.specs.Group.{cabinet, line, isCrashed}
 use Rattle.load.specs.Load.{load}
@@ -59,9 +59,9 @@ LinesBounded = Always (λ g h. (a b : ℕ) → (length (packets g a b) ≤ 12) �
 abbrev pub Undamaged : History → Type 0
 Undamaged h = h .hurt ≡ false
 
--- b's booking has room for the amount of p
+-- the outlet of b that p names has room for its amount
 abbrev pub HasRoom : Group → ℕ → Payload → Type 0
-HasRoom g b p = booked (cabinet g b .image) + p .amount < 65536
+HasRoom g b p = booking (p .outlet) (cabinet g b .image) + p .amount < 65536
 
 -- "A receiver adds an amount modulo 65,536; it is to be proved that this never wraps while .. ": b adds p, the oldest packet from a
 abbrev pub NeverWraps : Type 0

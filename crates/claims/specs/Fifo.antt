@@ -26,6 +26,7 @@ use Rattle.protocol.specs.declared.Step.{Step}
 use Rattle.protocol.specs.declared.Step.the-variants.{Send, Note, Begin, Deliver, Write, Saved, Fetch, Restored, WaitOver, Fail, Damage}
 use Rattle.protocol.specs.declared.Decoded.the-variants.{Taken}
 use Rattle.protocol.specs.Receive.{serving}
+use Rattle.protocol.specs.Kinds.{carried}
 use Rattle.protocol.specs.Entry.{decode, step}
 use Rattle.protocol.specs.History.{Operation}
 use Rattle.protocol.specs.Restored.{Octets, AllOctets, worldAfter}
@@ -39,7 +40,7 @@ isLine x y a b = eqb (x - 1) a && eqb (y - 1) b
 
 -- "deliver the oldest packet from a to b"; "damage the packet at place p (0 oldest) from a to b"; a send puts its packet last
 abbrev pub handled : Step → ℕ → ℕ → List Packet → List Packet
-handled (Send x y q) a b l = cond (isLine x y a b) (l ++ NormalPacket (record { amount = q }) ∷ []) l
+handled (Send x y p q) a b l = cond (isLine x y a b) (l ++ NormalPacket (carried p q) ∷ []) l
 handled (Note x p q) a b l = l
 handled (Begin x) a b l = l
 handled (Deliver x y) a b l = cond (isLine x y a b) (drop 1 l) l
@@ -84,7 +85,7 @@ recoverOf c′ = cond (isIn (c′ .phase .state) Recovering) (Recover (bitOf (c�
 
 -- "A cabinet in checkpointed that receives resume .. puts resume on its other lines": not back to b
 abbrev pub cameFrom : Step → ℕ → ℕ → Bool
-cameFrom (Send x y q) a b = false
+cameFrom (Send x y p q) a b = false
 cameFrom (Note x p q) a b = false
 cameFrom (Begin x) a b = false
 cameFrom (Deliver x y) a b = isLine x y b a

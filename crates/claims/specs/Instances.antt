@@ -2,7 +2,7 @@
 use Prim.Native.Nat.{ℕ}
 use mathlib.Core.Path.{_≡_}
 use mathlib.Core.Bool.{true, false}
-use mathlib.Core.List.{[], _∷_, _++_}
+use mathlib.Core.List.{List, [], _∷_, _++_}
 use lib.ListN.{getD}
 use Rattle.packet.specs.declared.Payload.{Payload}
 use Rattle.packet.specs.declared.Packet.the-variants.{Normal as NormalPacket, Resume}
@@ -14,7 +14,8 @@ use Rattle.protocol.specs.Marked.{twoCabinets, send, deliver, restored, fail}
 use Rattle.protocol.specs.Restored.{worldAfter}
 use Rattle.protocol.specs.History.{World, stepping, pointing, returning, steps, advance, run, ends, latest}
 use Rattle.protocol.specs.Returns.{named, pointAfterLoss, keptAfterLoss}
-use Rattle.protocol.specs.Examples.{damage, fetches, row, ring, ringCommitted, fourCabinets, fourSaved, thirdLost, threeCommitted}
+use Rattle.protocol.specs.Outlets.{sendAB, outletPair}
+use Rattle.protocol.specs.Examples.{toA, toB, damage, fetches, row, ring, ringCommitted, fourCabinets, fourSaved, thirdLost, threeCommitted}
 use Rattle.claims.specs.Bounds.{packets, Undamaged, HasRoom}
 use Rattle.claims.specs.Fifo.{lineAfter}
 use Rattle.claims.specs.Saves.{savedTotal, OfNewest}
@@ -22,15 +23,15 @@ use Rattle.claims.specs.Points.{KeptOf}
 
 -- ---- additions: with a damaged packet one would wrap, so that the premise of `NeverWraps` is wanted
 
--- damage makes 65,535 amperes of the 30 that 1 sends to 2, which has 50
-abbrev pub swollen : World
-swollen = worldAfter (twoCabinets 100 50) (steps (send 1 2 30 ∷ damage 1 2 0 65505 ∷ []))
+-- damage makes 65,535 amperes of the 30 that 1 sends to 2, which has 50 at outlet A and 20 at outlet B
+abbrev pub swollen : List ℕ → World
+swollen sending = worldAfter outletPair (steps (sending ∷ damage 1 2 0 65505 ∷ []))
 
-abbrev pub most : Payload
-most = record { amount = 65535 }
+abbrev pub WouldWrap : World → Payload → Type 0
+WouldWrap w p = (oldest (line (w .group) 0 1) ≡ NormalPacket p) × (HasRoom (w .group) 1 p → ⊥) × (Undamaged (w .history) → ⊥)
 
 abbrev pub Wraps : Type 0
-Wraps = (oldest (line (swollen .group) 0 1) ≡ NormalPacket most) × (HasRoom (swollen .group) 1 most → ⊥) × (Undamaged (swollen .history) → ⊥)
+Wraps = WouldWrap (swollen (send 1 2 30)) (toA 65535) × WouldWrap (swollen (sendAB 1 2 30)) (toB 65535)
 
 -- ---- lines: 2 takes the resume of 1, and puts one on its line to 3 and none on that back to 1
 

@@ -6,10 +6,8 @@ use Prim.Native.Nat.{ℕ, zero, suc, _+_, _*_, _/_, _%_, _^_, _<_}
 use native.Mathlib.Nat.{mul-one, mul-le-mul-left, pow-suc}
 use native.Mathlib.Omega.{arith}
 use lib.Bits.{bitXor, xor-add-and, xor-shr, xor-mod, xor-lt, xor-comm, xor-zero-r, xor-shifted}
-use lib.ListN.{length, getD}
-use lib.Seq.{ext-getD}
 use lib.Pow.{pow-pos, mod-pow-add}
-use Rattle.crc.specs.Crc.{polynomial, crcBit, crcBits, crcOctet, crcFrom, crc, amountOctets, amountsOctets}
+use Rattle.crc.specs.Crc.{polynomial, crcBit, crcBits, crcOctet, crcFrom, crc}
 use Rattle.crc.proofs.Xor.{xor-assoc, xor-swap, xor-cancel, xor-cancel-low, xor-shift}
 
 -- What an octet does to the register
@@ -104,41 +102,29 @@ amount-joins r m =
       xor-comm r m,
     )
 
--- a packet loses nothing of its amount
-pub amount-inj : (r m m′ : ℕ) → m < 65536 → m′ < 65536
-    → crcFrom r (amountOctets m) ≡ crcFrom r (amountOctets m′) → m ≡ m′
+-- nothing of the amount is lost, whatever follows
+amount-inj : (r m m′ : ℕ) (after : List ℕ) → m < 65536 → m′ < 65536
+    → crcFrom r (m / 256 ∷ m % 256 ∷ after) ≡ crcFrom r (m′ / 256 ∷ m′ % 256 ∷ after) → m ≡ m′
 unfolding crcFrom
-amount-inj r m m′ below below′ same =
-    let s = crcOctet r 0 in
-    let joined : crcBits 16 (bitXor m s) ≡ crcBits 16 (bitXor m′ s) = sym (amount-joins s m) ∙ same ∙ amount-joins s m′ in
-    omega (arith, xor-cancel-low 16 m m′ s (bits-inj 16 (bitXor m s) (bitXor m′ s) joined))
+amount-inj r m m′ after below below′ same =
+    let alike : crcOctet (crcOctet r (m / 256)) (m % 256) ≡ crcOctet (crcOctet r (m′ / 256)) (m′ % 256) =
+    from-inj after _ _ (octet-lt _ _) (octet-lt _ _) same
+    in
+    let joined : crcBits 16 (bitXor m r) ≡ crcBits 16 (bitXor m′ r) = sym (amount-joins r m) ∙ alike ∙ amount-joins r m′ in
+    omega (arith, xor-cancel-low 16 m m′ r (bits-inj 16 (bitXor m r) (bitXor m′ r) joined))
 
 -- Lists in parts
 
-pub from-append : (xs ys : List ℕ) (r : ℕ) → crcFrom r (xs ++ ys) ≡ crcFrom (crcFrom r xs) ys
+from-append : (xs ys : List ℕ) (r : ℕ) → crcFrom r (xs ++ ys) ≡ crcFrom (crcFrom r xs) ys
 unfolding crcFrom
 from-append [] ys r = refl
 from-append (x ∷ xs) ys r = from-append xs ys (crcOctet r x)
 
-pub amounts-append : (xs ys : List ℕ) → amountsOctets (xs ++ ys) ≡ amountsOctets xs ++ amountsOctets ys
-unfolding amountsOctets
-amounts-append [] ys = refl
-amounts-append (m ∷ ms) ys = ap (λ (l : List ℕ). amountOctets m ++ l) (amounts-append ms ys)
-
--- One hurt amount is always seen: lists of amounts that differ at place k alone have different check values
-pub one-differs : (xs ys : List ℕ) (k r : ℕ) → length xs ≡ length ys → k < length xs
-    → getD xs k 0 < 65536 → getD ys k 0 < 65536 → (getD xs k 0 ≡ getD ys k 0 → ⊥)
-    → ((j : ℕ) → (j ≡ k → ⊥) → getD xs j 0 ≡ getD ys j 0)
-    → crcFrom r (amountsOctets xs) ≡ crcFrom r (amountsOctets ys) → ⊥
-unfolding crcFrom amountsOctets
-one-differs [] ys k r long inside bx by hurt others same = omega arith
-one-differs (x ∷ xs) [] k r long inside bx by hurt others same = omega arith
-one-differs (x ∷ xs) (y ∷ ys) zero r long inside bx by hurt others same =
-    let rest : xs ≡ ys = ext-getD 0 xs ys (omega arith) (λ i h. others (suc i) (omega arith)) in
-    hurt (amount-inj r x y bx by (from-inj (amountsOctets xs) _ _ (octet-lt _ _) (octet-lt _ _) (rw (← rest) at same)))
-one-differs (x ∷ xs) (y ∷ ys) (suc k) r long inside bx by hurt others same =
-    one-differs xs ys k _ (omega arith) (omega arith) bx by hurt (λ j other. others (suc j) (λ e. other (omega arith)))
-    (rw (← others 0 (omega arith)) at same)
+-- One hurt amount is always seen: lists of octets that differ in one amount alone have different check values
+pub one-differs : (before after : List ℕ) (r m m′ : ℕ) → m < 65536 → m′ < 65536 → (m ≡ m′ → ⊥)
+    → crcFrom r (before ++ m / 256 ∷ m % 256 ∷ after) ≡ crcFrom r (before ++ m′ / 256 ∷ m′ % 256 ∷ after) → ⊥
+one-differs before after r m m′ below below′ hurt same =
+    hurt (amount-inj (crcFrom r before) m m′ after below below′ (sym (from-append before _ r) ∙ same ∙ from-append before _ r))
 
 -- The published values
 

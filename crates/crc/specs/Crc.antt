@@ -1,6 +1,6 @@
--- The check value of document 01, "Packets and the link check": CRC-16 bit by bit, and the octets that it runs over.
+-- The check value of document 01, "Packets and the link check": CRC-16 bit by bit.
 -- Assumes nothing.
-use mathlib.Core.List.{List, [], _∷_, _++_}
+use mathlib.Core.List.{List, [], _∷_}
 use Prim.Native.Nat.{ℕ, zero, suc, _*_, _/_, _%_}
 use lib.Bits.{bitXor}
 
@@ -33,12 +33,3 @@ crcFrom r (x ∷ xs) = crcFrom (crcOctet r x) xs
 -- "The check value" of a list of octets
 abbrev pub crc : List ℕ → ℕ
 crc xs = crcFrom start xs
-
--- "A normal packet is three octets: 0x00, then the amount", high octet first
-abbrev pub amountOctets : ℕ → List ℕ
-amountOctets m = 0 ∷ m / 256 ∷ m % 256 ∷ []
-
--- "It runs over the octets of normal packets": those of a list of amounts, in order
-unfoldable pub amountsOctets : List ℕ → List ℕ
-amountsOctets [] = []
-amountsOctets (m ∷ ms) = amountOctets m ++ amountsOctets ms

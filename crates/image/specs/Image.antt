@@ -1,20 +1,48 @@
--- A cabinet's image: "32 octets: octets 0 and 1 the booking in amperes, 2 to 31 notes", moved in four pieces.
-use Prim.Native.Nat.{ℕ, zero, suc, _+_, _*_, _/_, _%_}
+-- A cabinet's image: 32 octets, with the booking of each outlet and notes (document 02, card 2), moved in four pieces.
+use Prim.Native.Nat.{ℕ, zero, suc, _+_, _-_, _*_, _/_, _%_}
 use lib.ListN.{getD, set, replicate}
+use Rattle.outlet.specs.declared.Outlet.{Outlet}
+use Rattle.outlet.specs.declared.Outlet.the-variants.{A, B}
 use Rattle.image.specs.declared.Image.{Image}
 
 abbrev pub blankImage : Image
 blankImage = record { octets = replicate 32 0 }
 
--- "octets 0 and 1 the booking in amperes"
-abbrev pub booked : Image → ℕ
-booked m = getD (m .octets) 0 0 * 256 + getD (m .octets) 1 0
-
-abbrev pub withBooked : Image → ℕ → Image
-withBooked m v = record { octets = set (set (m .octets) 0 (v / 256)) 1 (v % 256) }
-
 abbrev pub withOctet : Image → ℕ → ℕ → Image
 withOctet m p v = record { octets = set (m .octets) p v }
+
+-- ---- bookings, each "in amperes"
+
+-- "Octets 0 and 1 become A's booking, 2 and 3 B's": the first octet of each
+abbrev pub bookingAt : Outlet → ℕ
+bookingAt A = 0
+bookingAt B = 2
+
+abbrev pub booking : Outlet → Image → ℕ
+booking o m = getD (m .octets) (bookingAt o) 0 * 256 + getD (m .octets) (bookingAt o + 1) 0
+
+-- what an image books: the sum "over all outlets"
+abbrev pub booked : Image → ℕ
+booked m = booking A m + booking B m
+
+abbrev pub withBooking : Image → Outlet → ℕ → Image
+withBooking m o v = withOctet (withOctet m (bookingAt o) (v / 256)) (bookingAt o + 1) (v % 256)
+
+-- a send taken: q leaves the booking of the sending outlet
+abbrev pub charged : Image → Outlet → ℕ → Image
+charged m o q = withBooking m o (booking o m - q)
+
+-- "A receiver adds an amount modulo 65,536": to the booking of the receiving outlet
+abbrev pub credited : Image → Outlet → ℕ → Image
+credited m o q = withBooking m o ((booking o m + q) % 65536)
+
+-- ---- notes
+
+-- "notes begin at 4"
+abbrev pub firstNote : ℕ
+firstNote = 4
+
+-- ---- pieces
 
 -- "It moves in four pieces of 8 octets, 0 to 3": the first n octets of piece k, from one image into another
 abbrev pub pieceTo : ℕ → ℕ → Image → Image → Image

@@ -1,5 +1,5 @@
 -- What holds of every file that is loaded: the group, lines and store start as document 01 says.
-use Prim.Native.Nat.{ℕ, zero, suc, _+_, _-_, _*_, _≤_, _<_}
+use Prim.Native.Nat.{ℕ, zero, suc, _+_, _-_, _≤_, _<_}
 use mathlib.Core.Path.{_≡_, refl, sym, _∙_, ap}
 use mathlib.Core.Bool.{Bool, true, false, cond, _&&_, and-eq-true-iff}
 use mathlib.Core.List.{List, []}
@@ -16,7 +16,10 @@ use Rattle.line.specs.Line.{emptyLine}
 use Rattle.image.specs.declared.Image.{Image}
 use Rattle.cabinet.specs.declared.Cabinet.{Cabinet}
 use Rattle.state.specs.State.{works}
-use Rattle.image.specs.Image.{blankImage, booked}
+use Rattle.outlet.specs.declared.Outlet.{Outlet}
+use Rattle.outlet.specs.declared.Outlet.the-variants.{A, B}
+use Rattle.image.specs.Image.{blankImage, booked, withBooking}
+use Rattle.image.proofs.Laws.{booking-small}
 use Rattle.cabinet.specs.Cabinet.{absent}
 use Rattle.outgoing.specs.declared.Outgoing.{Outgoing}
 use Rattle.group.specs.declared.Slots.{Slots}
@@ -24,7 +27,7 @@ use Rattle.group.specs.declared.Group.{Group}
 use Rattle.group.specs.declared.Outcome.{Outcome}
 use Rattle.outgoing.specs.Lines.{emptyLines, lineTo}
 use Rattle.group.specs.Group.{cabinet, outgoing, line, blankSlots, slot, rowsOf, ofRows, working, answering, sum}
-use Rattle.load.specs.Load.{cabinetCount, linkCount, homeOf, storeMark, bookingOf, cabinetRight, cabinetsRight, rowsIn, present, loadRefusal, imageOf, startingCabinet, cabinetOf, cabinetsOf, slotsOf, storeOf, groupOf, noGroup, loadWith, load}
+use Rattle.load.specs.Load.{cabinetCount, linkCount, entryAt, homeOf, storeMark, bookingOf, entryTotal, cabinetRight, cabinetsRight, rowsIn, present, loadRefusal, imageOf, startingCabinet, cabinetOf, cabinetsOf, slotsOf, storeOf, groupOf, noGroup, loadWith, load}
 use Rattle.load.specs.Starts.{Starts}
 use Rattle.load.proofs.Lists.{eight, made, read-back, repeated, chosen, other}
 use Rattle.marks.proofs.Lists.{getD-in}
@@ -74,18 +77,23 @@ module _ (f : List ℕ) where
 
 -- ---- octets
 
-blank-octet : (k : ℕ) → getD (blankImage .octets) k 0 < 256
+pub blank-octet : (k : ℕ) → getD (blankImage .octets) k 0 < 256
 blank-octet k = omega (arith, repeated {A = ℕ} 32 k 0)
 
-image-octet : (f : List ℕ) → ((i : ℕ) → getD f i 0 < 256) → (i k : ℕ) → getD (imageOf f i .octets) k 0 < 256
-image-octet f small i zero = small (12 + 4 * i)
-image-octet f small i (suc zero) = small (13 + 4 * i)
-image-octet f small i (suc (suc k)) = omega (arith, repeated {A = ℕ} 30 k 0)
+pub image-octet : (f : List ℕ) → ((i : ℕ) → getD f i 0 < 256) → (i k : ℕ) → getD (imageOf f i .octets) k 0 < 256
+image-octet f small i =
+    booking-small B (withBooking blankImage A (bookingOf A f i)) (bookingOf B f i) (lt B)
+    (booking-small A blankImage (bookingOf A f i) (lt A) blank-octet)
+  where
+    lt : (o : Outlet) → bookingOf o f i < 65536
+    lt A = omega (arith, small (entryAt i + 2), small (entryAt i + 2 + 1))
+    lt B = omega (arith, small (entryAt i + 4), small (entryAt i + 4 + 1))
 
-image-booked : (f : List ℕ) (i : ℕ) → booked (imageOf f i) ≡ bookingOf f i
-image-booked f i =
-    let e : 13 + 4 * i ≡ 12 + 4 * i + 1 = omega arith in
-    ap (λ (k : ℕ). getD f (12 + 4 * i) 0 * 256 + getD f k 0) e
+image-booked : (f : List ℕ) (i : ℕ) → booked (imageOf f i) ≡ entryTotal f i
+image-booked f i = omega arith
+
+plus : {a b c d : ℕ} → a ≡ b → c ≡ d → a + c ≡ b + d
+plus p q = rw (p, q)
 
 not-marked : (b : Bool) → (b ≡ true → ⊥) → b ≡ false
 not-marked true d = absurd (d refl)
@@ -98,9 +106,6 @@ same-truth false false p q = refl
 
 le-refl : (n : ℕ) → n ≤ n
 le-refl n = omega arith
-
-plus : {a b c d : ℕ} → a ≡ b → c ≡ d → a + c ≡ b + d
-plus p q = rw (p, q)
 
 -- ---- what stands at a number
 
@@ -167,7 +172,7 @@ module _ (f : List ℕ) (rows : Rows) where
 
     -- ---- the bookings
 
-    booked-to : (m : ℕ) → m ≤ cabinetCount f → sum (λ i. booked (cabinet g i .image)) m ≡ sum (λ i. bookingOf f i) m
+    booked-to : (m : ℕ) → m ≤ cabinetCount f → sum (λ i. booked (cabinet g i .image)) m ≡ sum (λ i. entryTotal f i) m
     unfolding sum
     booked-to zero h = refl
     booked-to (suc m) h = plus (ap (λ (c : Cabinet). booked (c .image)) (here m (omega arith)) ∙ image-booked f m) (booked-to m (omega arith))

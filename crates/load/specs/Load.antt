@@ -1,4 +1,5 @@
--- Document 01, "The group file" and the refusals of a load: a file's octets to the group, lines and store, or a number 1 to 7.
+-- Document 01, "The group file" and the refusals of a load, with document 02, card 2: a file's octets to the group, lines and store, or a
+-- number 1 to 7.
 use Prim.Native.Nat.{ℕ, zero, suc, _+_, _-_, _*_}
 use mathlib.Core.Bool.{Bool, true, false, cond, _&&_}
 use mathlib.Core.List.{List, [], _∷_}
@@ -6,6 +7,8 @@ use lib.ListN.{length, getD, set, replicate}
 use lib.Dec.{eqb, ltb, leb}
 use Rattle.marks.specs.Marks.{Marks, noMarks}
 use Rattle.marks.specs.Reach.{Rows, connected}
+use Rattle.outlet.specs.declared.Outlet.{Outlet}
+use Rattle.outlet.specs.declared.Outlet.the-variants.{A, B}
 use Rattle.state.specs.declared.State.the-variants.{Normal}
 use Rattle.state.specs.declared.Version.the-variants.{Known}
 use Rattle.cabinet.specs.declared.Alarm.the-variants.{Quiet}
@@ -14,7 +17,7 @@ use Rattle.cabinet.specs.declared.Cabinet.{Cabinet}
 use Rattle.group.specs.declared.Slots.{Slots}
 use Rattle.group.specs.declared.Group.{Group}
 use Rattle.group.specs.declared.Outcome.{Outcome}
-use Rattle.image.specs.Image.{blankImage}
+use Rattle.image.specs.Image.{blankImage, withBooking}
 use Rattle.registers.specs.Registers.{startRegisters}
 use Rattle.cabinet.specs.Cabinet.{nothingNoted, absent}
 use Rattle.outgoing.specs.Lines.{emptyLines}
@@ -32,22 +35,27 @@ cabinetCount f = number f 0
 abbrev pub linkCount : List ℕ → ℕ
 linkCount f = number f 2
 
--- "offset of the cabinet table (10), offset of the link table (10 + 4 × n), total length (10 + 4 × n + 2 × m)"
+-- "The cabinet entry in the group file grows to six octets": where that of cabinet i, numbered from 0, stands
+abbrev pub entryAt : ℕ → ℕ
+entryAt i = 10 + 6 * i
+
+-- "offset of the cabinet table (10), offset of the link table .., total length", the latter two "following" the size of an entry
 abbrev pub linkTable : List ℕ → ℕ
-linkTable f = 10 + 4 * cabinetCount f
+linkTable f = entryAt (cabinetCount f)
 
 abbrev pub totalLength : List ℕ → ℕ
 totalLength f = linkTable f + 2 * linkCount f
 
--- the entry of cabinet i, numbered from 0: "home (one octet), store mark (one octet, 0 or 1), booking (two octets)"
+-- "home (one octet), store mark (one octet, 0 or 1), booking (two octets)", of outlet A, and "B's booking last"
 abbrev pub homeOf : List ℕ → ℕ → ℕ
-homeOf f i = getD f (10 + 4 * i) 0
+homeOf f i = getD f (entryAt i) 0
 
 abbrev pub storeMark : List ℕ → ℕ → ℕ
-storeMark f i = getD f (11 + 4 * i) 0
+storeMark f i = getD f (entryAt i + 1) 0
 
-abbrev pub bookingOf : List ℕ → ℕ → ℕ
-bookingOf f i = number f (12 + 4 * i)
+abbrev pub bookingOf : Outlet → List ℕ → ℕ → ℕ
+bookingOf A f i = number f (entryAt i + 2)
+bookingOf B f i = number f (entryAt i + 4)
 
 -- link entry k: "two cabinet numbers, lower first"
 abbrev pub lowerOf : List ℕ → ℕ → ℕ
@@ -108,9 +116,12 @@ present f =
     ltb 0 (cabinetCount f) ∷ ltb 1 (cabinetCount f) ∷ ltb 2 (cabinetCount f) ∷ ltb 3 (cabinetCount f) ∷ ltb 4 (cabinetCount f)
     ∷ ltb 5 (cabinetCount f) ∷ ltb 6 (cabinetCount f) ∷ ltb 7 (cabinetCount f) ∷ []
 
--- "The feeder's total is the sum of the bookings in the file."
+-- "The feeder's total is the sum of the bookings in the file", and "is now over all outlets"
+abbrev pub entryTotal : List ℕ → ℕ → ℕ
+entryTotal f i = bookingOf A f i + bookingOf B f i
+
 abbrev pub feederTotal : List ℕ → ℕ
-feederTotal f = sum (λ i. bookingOf f i) (cabinetCount f)
+feederTotal f = sum (λ i. entryTotal f i) (cabinetCount f)
 
 abbrev pub refuse : Bool → ℕ → ℕ → ℕ
 refuse true k next = next
@@ -129,9 +140,9 @@ loadRefusal f =
 
 -- ---- the group
 
--- "octets 0 and 1 the booking in amperes, 2 to 31 notes (zero at the start)"
+-- the entry's bookings, and notes that are "zero at the start"
 abbrev pub imageOf : List ℕ → ℕ → Image
-imageOf f i = record { octets = getD f (12 + 4 * i) 0 ∷ getD f (13 + 4 * i) 0 ∷ replicate 30 0 }
+imageOf f i = withBooking (withBooking blankImage A (bookingOf A f i)) B (bookingOf B f i)
 
 -- "At the start every version variable is 0 .. and every cabinet is in normal."
 abbrev pub startingCabinet : List ℕ → Rows → ℕ → Cabinet

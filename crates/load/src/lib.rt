@@ -1,12 +1,13 @@
 // A group file: its fields and the checks of a load.
 // A cabinet has its number in the file, less one: 0 to 7. Offsets are whole numbers and never wrap.
+use outlet::Outlet;
 ghost use mathlib.Core.Path.{_≡_};
 ghost use mathlib.Core.Bool.{true, _&&_};
 ghost use Prim.Native.Nat.{_-_, _<_, _≤_};
 ghost use lib.ListN.{getD, set};
 ghost use lib.Dec.{leb};
 ghost use Rattle.marks.specs.Reach.{connected};
-ghost use Rattle.load.specs.Load.{number, cabinetCount, linkCount, linkTable, totalLength, homeOf, storeMark, bookingOf, lowerOf, higherOf, orderOf, offsetsRight, cabinetRight, cabinetsRight, linkRight, risesTo, linksRight, linked, withLink, linkRows, rowsIn, present, feederTotal, loadRefusal};
+ghost use Rattle.load.specs.Load.{number, cabinetCount, linkCount, entryAt, linkTable, totalLength, homeOf, storeMark, bookingOf, entryTotal, lowerOf, higherOf, orderOf, offsetsRight, cabinetRight, cabinetsRight, linkRight, risesTo, linksRight, linked, withLink, linkRows, rowsIn, present, feederTotal, loadRefusal};
 ghost use Rattle.group.specs.Group.{sum};
 
 // One less, and 0 at 0.
@@ -54,12 +55,20 @@ fn link_count(file: &[u8]) -> usize
     number(file, 2)
 }
 
+// Where the entry of cabinet i starts.
+pub fn entry_at(i: u16) -> usize
+    ensures { λ r. ⌜ r ≡ entryAt i ⌝ }
+    ensures { λ r. ⌜ r < 400000 ⌝ }
+{
+    10 + 6 * (i as usize)
+}
+
 // Where the link table starts.
 fn link_table(file: &[u8]) -> usize
     ensures { λ r. ⌜ r ≡ linkTable (now (file .entry)) ⌝ }
-    ensures { λ r. ⌜ r < 300000 ⌝ }
+    ensures { λ r. ⌜ r < 400000 ⌝ }
 {
-    10 + 4 * cabinet_count(file)
+    entry_at(cabinet_count(file) as u16)
 }
 
 fn total_length(file: &[u8]) -> usize
@@ -74,22 +83,36 @@ fn home_of(file: &[u8], i: usize) -> usize
     ensures { λ r. ⌜ r ≡ homeOf (now (file .entry)) i ⌝ }
     ensures { λ r. ⌜ r < 256 ⌝ }
 {
-    small(file, 10 + 4 * i)
+    small(file, entry_at(i as u16))
 }
 
 fn store_mark(file: &[u8], i: usize) -> usize
     requires { ⌜ i < 65536 ⌝ }
     ensures { λ r. ⌜ r ≡ storeMark (now (file .entry)) i ⌝ }
 {
-    small(file, 11 + 4 * i)
+    small(file, entry_at(i as u16) + 1)
 }
 
-fn booking_of(file: &[u8], i: usize) -> usize
-    requires { ⌜ i < 65536 ⌝ }
-    ensures { λ r. ⌜ r ≡ bookingOf (now (file .entry)) i ⌝ }
-    ensures { λ r. ⌜ r < 65536 ⌝ }
+// The booking of an outlet in the entry of cabinet i.
+pub fn booking_of(file: &[u8], outlet: Outlet, i: u16) -> u16
+    ensures { λ r. ⌜ r ≡ bookingOf outlet (now (file .entry)) i ⌝ }
 {
-    number(file, 12 + 4 * i)
+    let at = entry_at(i);
+    match outlet {
+        Outlet::A => number(file, at + 2) as u16,
+        Outlet::B => number(file, at + 4) as u16,
+    }
+}
+
+// What the entry of cabinet i books, over both outlets.
+fn entry_total(file: &[u8], i: usize) -> usize
+    requires { ⌜ i < 65536 ⌝ }
+    ensures { λ r. ⌜ r ≡ entryTotal (now (file .entry)) i ⌝ }
+    ensures { λ r. ⌜ r < 131072 ⌝ }
+{
+    let a = booking_of(file, Outlet::A, i as u16);
+    let b = booking_of(file, Outlet::B, i as u16);
+    (a as usize) + (b as usize)
 }
 
 // The two cabinet numbers of link entry k, as they stand in the file.
@@ -249,15 +272,15 @@ pub fn present(file: &[u8]) -> [bool; 8]
     [0 < n, 1 < n, 2 < n, 3 < n, 4 < n, 5 < n, 6 < n, 7 < n]
 }
 
-// The sum of the first n bookings.
+// The sum of what the first n entries book.
 fn bookings(file: &[u8], n: usize) -> usize
     requires { ⌜ n ≤ 65536 ⌝ }
-    ensures { λ r. ⌜ r ≡ sum (λ i. bookingOf (now (file .entry)) i) n ⌝ }
+    ensures { λ r. ⌜ r ≡ sum (λ i. entryTotal (now (file .entry)) i) n ⌝ }
 {
     let mut total = 0;
     let mut i = 0;
     while i < n {
-        total += booking_of(file, i);
+        total += entry_total(file, i);
         i += 1;
     }
     total

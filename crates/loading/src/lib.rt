@@ -9,6 +9,7 @@ use group::Row;
 use group::Slots;
 use image::Image;
 use outgoing::Outgoing;
+use outlet::Outlet;
 use state::State;
 use state::Version;
 use table::Table;
@@ -18,17 +19,16 @@ ghost use lib.ListN.{getD};
 ghost use Rattle.marks.specs.Marks.{noMarks};
 ghost use Rattle.load.specs.Load.{cabinetCount, imageOf, startingCabinet, cabinetOf, cabinetsOf, slotsOf, storeOf, groupOf, noGroup, load};
 
-// The image of cabinet i: its booking in octets 0 and 1, and no notes.
+// The image of cabinet i: the bookings of its entry, and no notes.
 fn image_of(file: &[u8], i: usize) -> Image
     requires { ⌜ i < 65536 ⌝ }
     ensures { λ r. ⌜ r ≡ imageOf (now (file .entry)) i ⌝ }
 {
-    let high = load::octet(file, 12 + 4 * i);
-    let low = load::octet(file, 13 + 4 * i);
-    let mut octets = [0; 32];
-    octets[0] = high;
-    octets[1] = low;
-    Image { octets: octets }
+    let a = load::booking_of(file, Outlet::A, i as u16);
+    let b = load::booking_of(file, Outlet::B, i as u16);
+    Image::blank()
+        .with_booking(Outlet::A, a)
+        .with_booking(Outlet::B, b)
 }
 
 fn row_of(rows: [[bool; 8]; 8], i: usize) -> [bool; 8]
@@ -42,6 +42,7 @@ fn starting_cabinet(file: &[u8], rows: [[bool; 8]; 8], i: usize) -> Cabinet
     requires { ⌜ i < 8 ⌝ }
     ensures { λ r. ⌜ r ≡ startingCabinet (now (file .entry)) rows i ⌝ }
 {
+    let at = load::entry_at(i as u16);
     Cabinet {
         phase: Phase {
             state: State::Normal,
@@ -55,8 +56,8 @@ fn starting_cabinet(file: &[u8], rows: [[bool; 8]; 8], i: usize) -> Cabinet
         noted: cabinet::nothing_noted(),
         registers: registers::start_registers(),
         image: image_of(file, i),
-        home: load::less_one(load::small(file, 10 + 4 * i)) as u8,
-        store: load::small(file, 11 + 4 * i) == 1,
+        home: load::less_one(load::small(file, at)) as u8,
+        store: load::small(file, at + 1) == 1,
         owed: [false; 8],
     }
 }

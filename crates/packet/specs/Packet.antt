@@ -1,10 +1,11 @@
 -- Document 01, "Packets and the link check": what packets carry, the check registers, fault places, damage.
-use Prim.Native.Nat.{ℕ}
+use Prim.Native.Nat.{ℕ, _/_, _%_}
 use mathlib.Core.Bool.{Bool, true, false, cond, _&&_}
-use mathlib.Core.List.{List}
+use mathlib.Core.List.{List, [], _∷_}
 use lib.Bits.{bitXor}
 use lib.Dec.{ltb, eqb}
-use Rattle.crc.specs.Crc.{start, crcFrom, amountOctets}
+use Rattle.outlet.specs.Outlet.{octetOf}
+use Rattle.crc.specs.Crc.{start, crcFrom}
 use Rattle.packet.specs.declared.Payload.{Payload}
 use Rattle.packet.specs.declared.Check.{Check}
 use Rattle.packet.specs.declared.Place.{Place}
@@ -12,9 +13,9 @@ use Rattle.packet.specs.declared.Place.the-variants.{Cabinet, Link}
 use Rattle.packet.specs.declared.Packet.{Packet}
 use Rattle.packet.specs.declared.Packet.the-variants.{Empty, Normal, Checkp, Resume, Recover, Fault, Invalid}
 
--- "A normal packet is three octets: 0x00, then the amount."
+-- "A normal packet is three octets"; "the normal packet's first octet holds the receiving outlet", then the amount, high octet first
 abbrev pub octetsOf : Payload → List ℕ
-octetsOf p = amountOctets (p .amount)
+octetsOf p = octetOf (p .outlet) ∷ p .amount / 256 ∷ p .amount % 256 ∷ []
 
 -- a register at its start, and after the octets of one more normal packet
 abbrev pub startCheck : Check
@@ -55,10 +56,10 @@ isNormal (Recover v) = false
 isNormal (Fault p) = false
 isNormal Invalid = false
 
--- damage: the pattern XORed on a normal amount; "A fail-safe packet hit by damage is invalid"
+-- damage: the pattern XORed on a normal amount, the outlet left as it is; "A fail-safe packet hit by damage is invalid"
 abbrev pub damaged : Packet → ℕ → Packet
 damaged Empty q = Empty
-damaged (Normal p) q = Normal (record { amount = bitXor (p .amount) q })
+damaged (Normal p) q = Normal (record { outlet = p .outlet; amount = bitXor (p .amount) q })
 damaged (Checkp c) q = Invalid
 damaged Resume q = Invalid
 damaged (Recover v) q = Invalid

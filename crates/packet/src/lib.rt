@@ -1,12 +1,15 @@
 // Packets, and what they and a check register hold, by value.
 // Cabinets are numbered 0 to 7 here: a cabinet's number in a file or a record, less one.
+use outlet::Outlet;
 ghost use mathlib.Core.Path.{_≡_};
 ghost use mathlib.Core.Bool.{_&&_};
+ghost use lib.Bits.{bitXor};
 ghost use lib.Dec.{eqb};
 ghost use Rattle.packet.specs.Packet.{startCheck, stepCheck, sameCheck, linkPlace, samePlace, isEmpty, isNormal, damaged};
 
-// What a normal packet carries: the amount that changes hands.
+// What a normal packet carries: the receiving outlet, and the amount that changes hands.
 pub struct Payload {
+    pub outlet: Outlet,
     pub amount: u16,
 }
 
@@ -45,7 +48,8 @@ impl Check {
     {
         let high = (p.amount / 256) as u8;
         let low = (p.amount % 256) as u8;
-        let first = crc::octet(self.crc, 0);
+        let outlet = p.outlet;
+        let first = crc::octet(self.crc, outlet::octet_of(outlet));
         let second = crc::octet(first, high);
         Check {
             crc: crc::octet(second, low),
@@ -120,15 +124,24 @@ pub fn is_normal(p: Packet) -> bool
     }
 }
 
+// What damage leaves of a normal packet: the pattern XORed on the amount.
+fn hurt(p: Payload, pattern: u16) -> Payload
+    ensures { λ r. ⌜ r ≡ record { outlet = p .outlet; amount = bitXor (p .amount) pattern } ⌝ }
+{
+    let outlet = p.outlet;
+    Payload {
+        outlet: outlet,
+        amount: p.amount ^ pattern,
+    }
+}
+
 // Damage by a pattern: on a normal amount it is XORed, a fail-safe packet becomes invalid.
 pub fn damaged(p: Packet, pattern: u16) -> Packet
     ensures { λ r. ⌜ r ≡ damaged p pattern ⌝ }
 {
     match p {
         Packet::Empty => Packet::Empty,
-        Packet::Normal(carried) => Packet::Normal(Payload {
-            amount: carried.amount ^ pattern,
-        }),
+        Packet::Normal(carried) => Packet::Normal(hurt(carried, pattern)),
         Packet::Checkp(_) => Packet::Invalid,
         Packet::Resume => Packet::Invalid,
         Packet::Recover(_) => Packet::Invalid,

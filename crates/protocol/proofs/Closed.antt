@@ -2,4 +2,5 @@
 pub mod Marked
 pub mod Examples
 pub mod Returns
+pub mod Outlets
 pub mod Tempting

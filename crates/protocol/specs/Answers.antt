@@ -17,7 +17,7 @@ among k (x ∷ xs) = eqb k x || among k xs
 
 -- "12 a failed (in deliver, b failed; saved and damage skip this check)"
 abbrev pub workNumbers : Step → List ℕ
-workNumbers (Send a b q) = 12 ∷ []
+workNumbers (Send a b p q) = 12 ∷ []
 workNumbers (Note a p q) = 12 ∷ []
 workNumbers (Begin a) = 12 ∷ []
 workNumbers (Deliver a b) = 12 ∷ []
@@ -31,7 +31,7 @@ workNumbers (Damage a b p q) = []
 
 -- the numbers under each kind
 abbrev pub kindNumbers : Step → List ℕ
-kindNumbers (Send a b q) = 13 ∷ 14 ∷ 15 ∷ 16 ∷ 17 ∷ []
+kindNumbers (Send a b p q) = 13 ∷ 14 ∷ 15 ∷ 16 ∷ 17 ∷ []
 kindNumbers (Note a p q) = 14 ∷ 15 ∷ []
 kindNumbers (Begin a) = 14 ∷ []
 kindNumbers (Deliver a b) = 13 ∷ 18 ∷ []
@@ -51,7 +51,7 @@ refusalNumbers (Taken s) = 10 ∷ 11 ∷ workNumbers s ++ kindNumbers s
 
 -- what a kind's own checks say: 0 where the step is taken
 abbrev pub kindRefusal : Group → Step → ℕ
-kindRefusal g (Send a b q) = sendRefusal g (a - 1) (b - 1) q
+kindRefusal g (Send a b p q) = sendRefusal g (a - 1) (b - 1) p q
 kindRefusal g (Note a p q) = noteRefusal g (a - 1) p q
 kindRefusal g (Begin a) = beginRefusal g (a - 1)
 kindRefusal g (Deliver a b) = deliverRefusal g (a - 1) (b - 1)

@@ -33,7 +33,7 @@ aloneOf kind a =
 
 abbrev pub fieldsOf : ℕ → ℕ → ℕ → ℕ → ℕ → Decoded
 fieldsOf kind a b p q =
-    cond (eqb kind 1) (ifZero p (Taken (Send a b q)))
+    cond (eqb kind 1) (Taken (Send a b p q))
     (cond (eqb kind 2) (ifZero b (Taken (Note a p q)))
     (cond (eqb kind 4) (ifZero (p + q) (Taken (Deliver a b)))
     (cond (eqb kind 11) (Taken (Damage a b p q))
@@ -52,7 +52,7 @@ decodedNumber (Taken s) = 0
 
 -- the cabinets that a step names: the second is the first again where it names one only
 abbrev pub firstOf : Step → ℕ
-firstOf (Send a b q) = a
+firstOf (Send a b p q) = a
 firstOf (Note a p q) = a
 firstOf (Begin a) = a
 firstOf (Deliver a b) = a
@@ -65,7 +65,7 @@ firstOf (Fail a) = a
 firstOf (Damage a b p q) = a
 
 abbrev pub secondOf : Step → ℕ
-secondOf (Send a b q) = b
+secondOf (Send a b p q) = b
 secondOf (Note a p q) = a
 secondOf (Begin a) = a
 secondOf (Deliver a b) = b
@@ -79,7 +79,7 @@ secondOf (Damage a b p q) = b
 
 -- "12 a failed (in deliver, b failed; saved and damage skip this check)"
 abbrev pub actorWorks : Group → Step → Bool
-actorWorks g (Send a b q) = works (stateOf g (a - 1))
+actorWorks g (Send a b p q) = works (stateOf g (a - 1))
 actorWorks g (Note a p q) = works (stateOf g (a - 1))
 actorWorks g (Begin a) = works (stateOf g (a - 1))
 actorWorks g (Deliver a b) = works (stateOf g (b - 1))
@@ -102,7 +102,7 @@ entryRefusal g s =
 -- ---- the step
 
 abbrev pub perform : Group → Step → Outcome
-perform g (Send a b q) = sendStep g (a - 1) (b - 1) q
+perform g (Send a b p q) = sendStep g (a - 1) (b - 1) p q
 perform g (Note a p q) = noteStep g (a - 1) p q
 perform g (Begin a) = beginStep g (a - 1)
 perform g (Deliver a b) = deliverStep g (a - 1) (b - 1)

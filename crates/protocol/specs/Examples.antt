@@ -2,12 +2,13 @@
 -- with what is found in it. The first restores a committed save, the second the save before one that is passed over, the third
 -- follows a link fault that the check finds, the fourth is a second recovery, of a save made after the first one, and the fifth
 -- restores a save that was restored once before its coordinator failed. None restores the start.
-use Prim.Native.Nat.{ℕ, zero, suc, _/_}
+use Prim.Native.Nat.{ℕ, zero, suc}
 use mathlib.Core.Bool.{Bool, true, false, cond, _&&_}
-use mathlib.Core.List.{List, [], _∷_, _++_, map}
+use mathlib.Core.List.{List, [], _∷_, _++_}
 use mathlib.Core.Option.{Option, none, some}
 use lib.ListN.{length, replicate}
 use lib.Dec.{eqb}
+use Rattle.outlet.specs.declared.Outlet.the-variants.{A, B}
 use Rattle.packet.specs.declared.Payload.{Payload}
 use Rattle.packet.specs.declared.Place.the-variants.{Cabinet as AtCabinet, Link as AtLink}
 use Rattle.cabinet.specs.declared.Alarm.{Alarm}
@@ -20,18 +21,9 @@ use Rattle.load.specs.Load.{load, cabinetCount}
 use Rattle.protocol.specs.History.{Cut, History, Operation, stepping, steps, World, advance, opening, ends, latest}
 use Rattle.protocol.specs.Restored.{takenIn, counted}
 use Rattle.protocol.specs.Evening.{operate}
-use Rattle.protocol.specs.Marked.{twoOctets, header, recordOf, send, begin, deliver, fetch, restored, fail}
+use Rattle.protocol.specs.Marked.{twoOctets, fileOf, recordOf, send, begin, deliver, fetch, restored, fail}
 
--- ---- files and records
-
--- the entries of cabinets i, i + 1 and so on with these bookings; cabinet s is the one store and the home of all
-abbrev pub entriesFrom : ℕ → ℕ → List ℕ → List ℕ
-entriesFrom s i [] = []
-entriesFrom s i (booking ∷ bookings) = s ∷ cond (eqb i s) 1 0 ∷ twoOctets booking ++ entriesFrom s (suc i) bookings
-
--- a link is two numbers of the list
-abbrev pub fileOf : ℕ → List ℕ → List ℕ → List ℕ
-fileOf s bookings links = header (length bookings) (length links / 2) ++ entriesFrom s 1 bookings ++ links
+-- ---- records
 
 abbrev pub note : ℕ → ℕ → ℕ → List ℕ
 note a p q = recordOf 2 a 0 p q
@@ -108,9 +100,9 @@ pub record Found : Type 0 where
   -- before the last operation: a begin was taken since the start or the last recovery's end, and a save committed since then stands
   pub begun : Bool
   pub stands : Bool
-  -- the save that the rule gives: its coordinator, numbered from 0 (the start has 8), and the amounts that each had taken by its cut
+  -- the save that the rule gives: its coordinator, numbered from 0 (the start has 8), and the packets that each had taken by its cut
   pub by : ℕ
-  pub took : List (List ℕ)
+  pub took : List (List Payload)
   -- the images at the fault; at the end those that the working cabinets hold, and those that count for the failed ones
   pub standing : List Image
   pub held : List (Option Image)
@@ -121,9 +113,9 @@ abbrev pub takenFrom : ℕ → Option Cut → List Payload
 takenFrom zero x = []
 takenFrom (suc n) x = takenFrom n x ++ takenIn x n
 
--- the amounts that cabinet c of n had taken by its cut
-abbrev pub tookIn : ℕ → History → ℕ → List ℕ
-tookIn n h c = map (λ (p : Payload). p .amount) (takenFrom n (latest h .cut c))
+-- the packets that cabinet c of n had taken by its cut
+abbrev pub tookIn : ℕ → History → ℕ → List Payload
+tookIn n h c = takenFrom n (latest h .cut c)
 
 abbrev pub heldBy : Group → ℕ → Option Image
 heldBy g c = cond (works (stateOf g c)) (some (cabinet g c .image)) none
@@ -132,7 +124,7 @@ abbrev pub goneOf : History → Group → ℕ → Option Image
 goneOf h g c = cond (works (stateOf g c)) none (counted h g c)
 
 -- one for each of the first n cabinets
-abbrev pub forEach : {A : Type 0} → ℕ → (ℕ → A) → List A
+abbrev pub forEach : {T : Type 0} → ℕ → (ℕ → T) → List T
 forEach zero f = []
 forEach (suc n) f = forEach n f ++ f n ∷ []
 
@@ -166,7 +158,14 @@ foundFrom e fault = foundNear e fault (walk fault (e .since))
 unfoldable pub found : Example → Found
 found e = foundFrom e (walkToFault e)
 
--- an image with a booking and a note in its last octet
+-- what a packet for an outlet carries
+abbrev pub toA : ℕ → Payload
+toA q = record { outlet = A; amount = q }
+
+abbrev pub toB : ℕ → Payload
+toB q = record { outlet = B; amount = q }
+
+-- an image with a booking at outlet A and a note in its last octet
 abbrev pub imageWith : ℕ → ℕ → Image
 imageWith booking last = record { octets = twoOctets booking ++ replicate 29 0 ++ last ∷ [] }
 
@@ -175,12 +174,11 @@ imageWith booking last = record { octets = twoOctets booking ++ replicate 29 0 +
 abbrev pub ring : List ℕ
 ring = fileOf 1 (100 ∷ 50 ∷ 20 ∷ []) (1 ∷ 2 ∷ 1 ∷ 3 ∷ 2 ∷ 3 ∷ [])
 
--- from the bookings 100, 50 and 20 to 80, 75 and 15; 2 makes a note, and what 3 sends is under way when the save begins
-abbrev pub ringCommitted : List (List ℕ)
-ringCommitted =
-    send 1 2 30 ∷ deliver 1 2 ∷ send 2 3 5 ∷ deliver 2 3 ∷ note 2 31 9 ∷ send 3 1 10
+-- a save up to its commit; what 3 sent to 1 is under way when it begins
+abbrev pub ringSave : List (List ℕ)
+ringSave =
     -- "the coordinator enters checkp-begin and puts checkp on all lines in use"
-    ∷ begin 1
+    begin 1
     -- "In checkp-begin, normal packets are taken from neighbours whose checkp has not come"
     ∷ deliver 3 1
     -- "A cabinet in normal that receives checkp compares first, then does the same."
@@ -192,9 +190,16 @@ ringCommitted =
     -- "When the coordinator has this save's reports for every cabinet in its table it .. puts resume everywhere: the commit."
     ++ saved 1 ∷ saved 2 ∷ saved 3 ∷ []
 
+-- from the bookings 100, 50 and 20 to 80, 75 and 15; 2 makes a note
+abbrev pub ringCommitted : List (List ℕ)
+ringCommitted = send 1 2 30 ∷ deliver 1 2 ∷ send 2 3 5 ∷ deliver 2 3 ∷ note 2 31 9 ∷ send 3 1 10 ∷ ringSave
+
 -- "A cabinet in checkpointed that receives resume .. puts resume on its other lines. Resume in any other state .. is dropped."
+abbrev pub ringResumed : List (List ℕ)
+ringResumed = deliver 1 2 ∷ deliver 1 3 ∷ deliver 2 3 ∷ deliver 3 2 ∷ []
+
 abbrev pub ringSaved : List (List ℕ)
-ringSaved = ringCommitted ++ deliver 1 2 ∷ deliver 1 3 ∷ deliver 2 3 ∷ deliver 3 2 ∷ []
+ringSaved = ringCommitted ++ ringResumed
 
 -- ---- 1: a recovery after a committed save
 
@@ -227,7 +232,7 @@ after-save-finds = record {
   begun = true;
   stands = true;
   by = 0;
-  took = (10 ∷ []) ∷ (30 ∷ []) ∷ (5 ∷ []) ∷ [];
+  took = (toA 10 ∷ []) ∷ (toA 30 ∷ []) ∷ (toA 5 ∷ []) ∷ [];
   standing = imageWith 40 0 ∷ imageWith 115 4 ∷ imageWith 8 0 ∷ [];
   held = some (imageWith 80 0) ∷ some (imageWith 75 9) ∷ none ∷ [];
   gone = none ∷ none ∷ some (imageWith 15 0) ∷ [];
@@ -282,7 +287,7 @@ passed-over-finds = record {
   begun = true;
   stands = false;
   by = 0;
-  took = [] ∷ (30 ∷ []) ∷ [] ∷ [];
+  took = [] ∷ (toA 30 ∷ []) ∷ [] ∷ [];
   standing = imageWith 61 0 ∷ imageWith 97 0 ∷ imageWith 12 7 ∷ [];
   held = none ∷ some (imageWith 80 0) ∷ some (imageWith 20 6) ∷ [];
   gone = some (imageWith 70 0) ∷ none ∷ none ∷ [];
@@ -320,7 +325,7 @@ link-fault-finds = record {
   begun = true;
   stands = true;
   by = 0;
-  took = (10 ∷ []) ∷ (30 ∷ []) ∷ (5 ∷ []) ∷ [];
+  took = (toA 10 ∷ []) ∷ (toA 30 ∷ []) ∷ (toA 5 ∷ []) ∷ [];
   standing = imageWith 80 0 ∷ imageWith 69 9 ∷ imageWith 22 0 ∷ [];
   held = some (imageWith 80 0) ∷ some (imageWith 75 9) ∷ some (imageWith 15 0) ∷ [];
   gone = none ∷ none ∷ none ∷ [];
@@ -386,7 +391,7 @@ second-recovery-finds = record {
   stands = true;
   by = 0;
   -- "Packets for a cut count from the start or the end of the last recovery before that save's begin": not the 30 and the 5
-  took = (2 ∷ []) ∷ (11 ∷ []) ∷ [] ∷ (3 ∷ []) ∷ [];
+  took = (toA 2 ∷ []) ∷ (toA 11 ∷ []) ∷ [] ∷ (toA 3 ∷ []) ∷ [];
   standing = imageWith 70 0 ∷ imageWith 49 0 ∷ imageWith 43 0 ∷ imageWith 31 0 ∷ [];
   held = some (imageWith 66 0) ∷ some (imageWith 53 0) ∷ none ∷ none ∷ [];
   -- "A failed cabinet's image is its image in the save restored after it failed": that of 3 is in the first save
@@ -430,7 +435,7 @@ restored-before-finds = record {
   begun = false;
   stands = false;
   by = 0;
-  took = (5 ∷ []) ∷ (30 ∷ []) ∷ [] ∷ [];
+  took = (toA 5 ∷ []) ∷ (toA 30 ∷ []) ∷ [] ∷ [];
   standing = imageWith 69 0 ∷ imageWith 86 0 ∷ imageWith 15 0 ∷ [];
   held = none ∷ some (imageWith 80 0) ∷ none ∷ [];
   gone = some (imageWith 75 0) ∷ none ∷ some (imageWith 15 0) ∷ [];

@@ -29,6 +29,7 @@ use Rattle.protocol.specs.declared.Step.the-variants.{Send, Note, Begin,
 use Rattle.protocol.specs.declared.Decoded.{Decoded}
 use Rattle.protocol.specs.declared.Decoded.the-variants.{Malformed, Unused, Taken}
 use Rattle.protocol.specs.Receive.{takesFrom}
+use Rattle.protocol.specs.Kinds.{carried}
 use Rattle.protocol.specs.Entry.{decode, step}
 use Rattle.protocol.specs.Points.{takePoint, returnTo}
 
@@ -226,7 +227,7 @@ abbrev pub ends : Group → Group → ℕ → Bool
 ends g g′ j = goes g g′ (coordinator (cabinet g j)) Recovered Normal
 
 abbrev pub observe : History → Group → Group → Step → History
-observe h g g′ (Send a b q) = withSent h (logged (h .sent) (a - 1) (b - 1) (record { amount = q }))
+observe h g g′ (Send a b p q) = withSent h (logged (h .sent) (a - 1) (b - 1) (carried p q))
 observe h g g′ (Note a p q) = h
 observe h g g′ (Begin a) = withBegun (withCuts h (λ i. none)) true
 observe h g g′ (Deliver a b) =

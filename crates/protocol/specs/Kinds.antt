@@ -7,6 +7,8 @@ use lib.Dec.{eqb, ltb, leb}
 use Rattle.marks.specs.Marks.{marked, covers}
 use Rattle.marks.specs.Reach.{mark, connected}
 use Rattle.packet.specs.declared.Place.the-variants.{Cabinet as AtCabinet, Link as AtLink}
+use Rattle.outlet.specs.Outlet.{endsOf}
+use Rattle.packet.specs.declared.Payload.{Payload}
 use Rattle.packet.specs.declared.Packet.{Packet}
 use Rattle.packet.specs.declared.Packet.the-variants.{Normal as NormalPacket}
 use Rattle.packet.specs.Packet.{isEmpty, isNormal, damaged}
@@ -19,7 +21,7 @@ use Rattle.cabinet.specs.declared.Cabinet.{Cabinet}
 use Rattle.group.specs.declared.Group.{Group}
 use Rattle.group.specs.declared.Outcome.{Outcome}
 use Rattle.state.specs.State.{isIn, inRecovery, inRestoring, inSaving, bitOf}
-use Rattle.image.specs.Image.{booked, withOctet, withPiece}
+use Rattle.image.specs.Image.{booking, firstNote, withOctet, withPiece}
 use Rattle.cabinet.specs.Cabinet.{inUse, coordinator, withImage, sending, hurtFrom, wrote, owing, savedFor, fetched, restoredFor}
 use Rattle.group.specs.Group.{cabinet, withCabinet, stateOf, line, withLine, slot, withSlot, rowsOf, some, working, recoveringOnes, unsure, answering, taken, crashed}
 use Rattle.protocol.specs.Moves.{join, cutIfAll, commit, recoverWith, markFailed, alarmTo, endRecovery, noteLost}
@@ -36,25 +38,31 @@ orRefuse k g o = cond (eqb k 0) o (answering k g)
 
 -- ---- 1 send
 
-abbrev pub sendRefusal : Group → ℕ → ℕ → ℕ → ℕ
-sendRefusal g a b q =
+-- "15 also for p above 3 in a send"; 16 asks the booking of the sending outlet
+abbrev pub sendRefusal : Group → ℕ → ℕ → ℕ → ℕ → ℕ
+sendRefusal g a b p q =
     need (marked (inUse (cabinet g a)) b) 13
     (need (isIn (stateOf g a) Normal) 14
-    (need (ltb 0 q) 15
-    (need (leb q (booked (cabinet g a .image))) 16
+    (need (ltb 0 q && leb p 3) 15
+    (need (leb q (booking (endsOf p .from) (cabinet g a .image))) 16
     (need (ltb (normals (line g a b)) 8) 17 0))))
 
-unfoldable pub sent : Group → ℕ → ℕ → ℕ → Group
-sent g a b q =
-    withLine (withCabinet g a (sending (cabinet g a) b (record { amount = q }))) a b (put (line g a b) (NormalPacket (record { amount = q })))
+-- what a send puts: a packet for the receiving outlet
+abbrev pub carried : ℕ → ℕ → Payload
+carried p q = record { outlet = endsOf p .to; amount = q }
 
-unfoldable pub sendStep : Group → ℕ → ℕ → ℕ → Outcome
-sendStep g a b q = orRefuse (sendRefusal g a b q) g (taken (sent g a b q))
+unfoldable pub sent : Group → ℕ → ℕ → ℕ → ℕ → Group
+sent g a b p q =
+    withLine (withCabinet g a (sending (cabinet g a) b (endsOf p .from) (carried p q))) a b (put (line g a b) (NormalPacket (carried p q)))
+
+unfoldable pub sendStep : Group → ℕ → ℕ → ℕ → ℕ → Outcome
+sendStep g a b p q = orRefuse (sendRefusal g a b p q) g (taken (sent g a b p q))
 
 -- ---- 2 note
 
+-- "note's lower end is 4"
 abbrev pub noteRefusal : Group → ℕ → ℕ → ℕ → ℕ
-noteRefusal g a p q = need (isIn (stateOf g a) Normal) 14 (need (leb 2 p && (leb p 31 && leb q 255)) 15 0)
+noteRefusal g a p q = need (isIn (stateOf g a) Normal) 14 (need (leb firstNote p && (leb p 31 && leb q 255)) 15 0)
 
 unfoldable pub noteStep : Group → ℕ → ℕ → ℕ → Outcome
 noteStep g a p q =

@@ -12,6 +12,7 @@ pub mod Evening
 pub mod Marked
 pub mod Examples
 pub mod Returns
+pub mod Outlets
 pub mod Tempting
 pub mod Answers
 pub mod Crash

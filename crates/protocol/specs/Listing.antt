@@ -14,7 +14,9 @@ use Rattle.cabinet.specs.declared.Cabinet.{Cabinet}
 use Rattle.group.specs.declared.Group.{Group}
 use Rattle.group.specs.declared.Outcome.{Outcome}
 use Rattle.state.specs.State.{works}
-use Rattle.image.specs.Image.{booked}
+use Rattle.outlet.specs.declared.Outlet.the-variants.{A, B}
+use Rattle.image.specs.declared.Image.{Image}
+use Rattle.image.specs.Image.{booking}
 use Rattle.group.specs.Group.{cabinet}
 use Rattle.load.specs.Load.{load}
 use Rattle.protocol.specs.Entry.{stepAll, answersFrom}
@@ -83,11 +85,15 @@ answerLine word k answer = word ++ space ∷ decimal k ++ space ∷ decimal answ
 abbrev pub stepLine : ℕ → ℕ → Text
 stepLine k answer = answerLine stepWord k answer
 
--- the state and, unless it is failed, version and booking
+-- "The listing prints A's, then B's"
+abbrev pub bookings : Image → Text
+bookings m = space ∷ decimal (booking A m) ++ space ∷ decimal (booking B m)
+
+-- the state and, unless it is failed, version and bookings
 abbrev pub cabRest : Cabinet → Text
 cabRest c =
     stateWord (c .phase .state)
-    ++ cond (works (c .phase .state)) (space ∷ versionWord (c .phase .version) ++ space ∷ decimal (booked (c .image))) []
+    ++ cond (works (c .phase .state)) (space ∷ versionWord (c .phase .version) ++ bookings (c .image)) []
 
 abbrev pub cabLine : ℕ → Cabinet → Text
 cabLine i c = cabWord ++ space ∷ decimal (i + 1) ++ space ∷ cabRest c ++ newline ∷ []

@@ -1,8 +1,10 @@
 -- Document 01, "Marked": the cases that are proved together, as one table of what is found and what the paper says.
 -- Texts are quoted here as they are printed, and not made from the words of the listing's definition.
 use Prim.Native.Nat.{ℕ, zero, suc, _+_, _*_, _/_, _%_}
-use mathlib.Core.List.{List, [], _∷_, _++_}
+use mathlib.Core.Bool.{cond}
+use mathlib.Core.List.{List, [], _∷_, _++_, map}
 use lib.ListN.{length, replicate}
+use lib.Dec.{eqb}
 use Rattle.crc.specs.Crc.{crc}
 use Rattle.load.specs.Load.{load}
 use Rattle.protocol.specs.Entry.{step, stepAll}
@@ -16,12 +18,20 @@ twoOctets v = v / 256 ∷ v % 256 ∷ []
 
 -- the header of a file of n cabinets and m links
 abbrev pub header : ℕ → ℕ → List ℕ
-header n m = twoOctets n ++ twoOctets m ++ twoOctets 10 ++ twoOctets (10 + 4 * n) ++ twoOctets (10 + 4 * n + 2 * m)
+header n m = twoOctets n ++ twoOctets m ++ twoOctets 10 ++ twoOctets (10 + 6 * n) ++ twoOctets (10 + 6 * n + 2 * m)
 
--- entries of cabinets whose home is 1 and that are no stores
-abbrev pub others : List ℕ → List ℕ
-others [] = []
-others (booking ∷ bookings) = 1 ∷ 0 ∷ twoOctets booking ++ others bookings
+-- the entries of cabinets i, i + 1 and so on, each with outlet A's booking and outlet B's; cabinet s is the one store and the home of all
+abbrev pub entriesFrom : ℕ → ℕ → List (ℕ × ℕ) → List ℕ
+entriesFrom s i [] = []
+entriesFrom s i (x ∷ xs) = s ∷ cond (eqb i s) 1 0 ∷ twoOctets (x .0) ++ twoOctets (x .1) ++ entriesFrom s (suc i) xs
+
+-- a link is two numbers of the list
+abbrev pub fileBoth : ℕ → List (ℕ × ℕ) → List ℕ → List ℕ
+fileBoth s bookings links = header (length bookings) (length links / 2) ++ entriesFrom s 1 bookings ++ links
+
+-- "in 01's cases every entry octet that this or a later card adds is 0"
+abbrev pub fileOf : ℕ → List ℕ → List ℕ → List ℕ
+fileOf s bookings links = fileBoth s (map (λ (booking : ℕ). (booking, 0)) bookings) links
 
 -- n links: 1 to 2, 2 to 3, and so on
 abbrev pub rowLinks : ℕ → List ℕ
@@ -30,8 +40,7 @@ rowLinks (suc n) = rowLinks n ++ suc n ∷ suc (suc n) ∷ []
 
 -- a row of cabinets with these bookings, of which the first is the store and the home of all
 abbrev pub rowOf : ℕ → List ℕ → List ℕ
-rowOf booking bookings =
-    header (suc (length bookings)) (length bookings) ++ 1 ∷ 1 ∷ twoOctets booking ++ others bookings ++ rowLinks (length bookings)
+rowOf booking bookings = fileOf 1 (booking ∷ bookings) (rowLinks (length bookings))
 
 abbrev pub twoCabinets : ℕ → ℕ → List ℕ
 twoCabinets x y = rowOf x (y ∷ [])
@@ -41,6 +50,7 @@ twoCabinets x y = rowOf x (y ∷ [])
 abbrev pub recordOf : ℕ → ℕ → ℕ → ℕ → ℕ → List ℕ
 recordOf kind a b p q = kind ∷ a ∷ b ∷ p ∷ twoOctets q
 
+-- from outlet A to outlet A
 abbrev pub send : ℕ → ℕ → ℕ → List ℕ
 send a b q = recordOf 1 a b 0 q
 
@@ -88,8 +98,9 @@ exampleFile = twoCabinets 100 50
 abbrev pub exampleSteps : List ℕ
 exampleSteps = send 1 2 30 ++ deliver 1 2 ++ fail 2 ++ fetch 1 ++ fetch 1 ++ fetch 1 ++ fetch 1 ++ restored 1
 
+-- ".. and each such booking prints as 0"
 abbrev pub exampleOutput : Text
-exampleOutput = ascii "step 1 0\nstep 2 0\nstep 3 0\nstep 4 0\nstep 5 0\nstep 6 0\nstep 7 0\nstep 8 0\ncab 1 normal 0 100\ncab 2 failed\n"
+exampleOutput = ascii "step 1 0\nstep 2 0\nstep 3 0\nstep 4 0\nstep 5 0\nstep 6 0\nstep 7 0\nstep 8 0\ncab 1 normal 0 100 0\ncab 2 failed\n"
 
 abbrev pub marked : List Case
 marked =

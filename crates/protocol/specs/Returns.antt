@@ -16,8 +16,8 @@ use Rattle.protocol.specs.declared.Site.{Site}
 use Rattle.protocol.specs.Listing.{Text, ascii}
 use Rattle.protocol.specs.History.{Operation, stepping, pointing, returning, steps}
 use Rattle.protocol.specs.Evening.{operateAll, answersTo, evening}
-use Rattle.protocol.specs.Marked.{twoCabinets, send, begin, deliver, restored, fail}
-use Rattle.protocol.specs.Examples.{Example, Found, Walk, walkToFault, foundFrom, sizeOf, forEach, fileOf, note, writes, saved, fetches, waitOver, imageWith, row, rowCommitted}
+use Rattle.protocol.specs.Marked.{fileOf, twoCabinets, send, begin, deliver, restored, fail}
+use Rattle.protocol.specs.Examples.{Example, Found, Walk, walkToFault, foundFrom, sizeOf, forEach, note, writes, saved, fetches, waitOver, toA, imageWith, row, rowCommitted}
 
 -- ---- names and sites
 
@@ -221,7 +221,7 @@ return-between-finds = record {
   begun = true;
   stands = true;
   by = 0;
-  took = (9 ∷ []) ∷ [] ∷ [] ∷ [] ∷ [] ∷ [];
+  took = (toA 9 ∷ []) ∷ [] ∷ [] ∷ [] ∷ [] ∷ [];
   standing = imageWith 99 0 ∷ imageWith 42 0 ∷ imageWith 32 0 ∷ imageWith 37 0 ∷ imageWith 30 0 ∷ [];
   held = some (imageWith 100 0) ∷ none ∷ none ∷ none ∷ none ∷ [];
   -- 4 had 32 in the save restored after it failed; "its image there is the one that the last return set, after later commits too"
@@ -291,4 +291,4 @@ smallEvening = evening (twoCabinets 100 50) smallPlan
 
 abbrev pub smallPrinted : Text
 smallPrinted =
-    ascii "point 1 0\nstep 2 0\nstep 3 8\nstep 4 0\nreturn 5 0\nreturn 6 21\nstep 7 8\npoint 8 8\ncab 1 normal 0 100\ncab 2 normal 0 50\n"
+    ascii "point 1 0\nstep 2 0\nstep 3 8\nstep 4 0\nreturn 5 0\nreturn 6 21\nstep 7 8\npoint 8 8\ncab 1 normal 0 100 0\ncab 2 normal 0 50 0\n"

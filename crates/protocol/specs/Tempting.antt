@@ -6,8 +6,8 @@ use mathlib.Core.List.{List, [], _∷_, _++_}
 use lib.ListN.{length, replicate}
 use Rattle.load.specs.Load.{load}
 use Rattle.protocol.specs.Entry.{answersFrom}
-use Rattle.protocol.specs.Marked.{rowOf, twoCabinets, recordOf, send, begin, deliver, fetch, restored, fail}
-use Rattle.protocol.specs.Examples.{fileOf, note, writes, saved, fetches, waitOver, damage}
+use Rattle.protocol.specs.Marked.{fileOf, rowOf, twoCabinets, recordOf, send, begin, deliver, fetch, restored, fail}
+use Rattle.protocol.specs.Examples.{note, writes, saved, fetches, waitOver, damage}
 
 -- a run, and the answers that the paper gives
 pub record Run : Type 0 where
@@ -131,16 +131,16 @@ hurtTwice = lastOf (twoCabinets 100 50) (send 1 2 30 ∷ send 1 2 20 ∷ damage 
 abbrev pub fullLine : Run
 fullLine = lastOf (twoCabinets 100 50) (replicate 8 (send 1 2 1)) (send 1 2 1) 17
 
--- ---- "15 p outside 2 to 31 or q above 255"
+-- ---- "15 p outside .. to 31 or q above 255", and "note's lower end is 4"
 
 abbrev pub noteLow : Run
-noteLow = lastOf triangle [] (note 1 1 7) 15
+noteLow = lastOf triangle [] (note 1 3 7) 15
 
 abbrev pub noteHigh : Run
 noteHigh = lastOf triangle [] (note 1 32 7) 15
 
 abbrev pub noteWide : Run
-noteWide = lastOf triangle [] (note 1 2 256) 15
+noteWide = lastOf triangle [] (note 1 4 256) 15
 
 -- ---- "19 home in error, recovering or recovered"
 

@@ -6,7 +6,7 @@ use points::Points;
 
 // A step with the fields that its kind uses. Cabinets are numbered from 1, as in the record.
 pub enum Step {
-    Send { a: u8, b: u8, q: u16 },
+    Send { a: u8, b: u8, p: u8, q: u16 },
     Note { a: u8, p: u8, q: u16 },
     Begin { a: u8 },
     Deliver { a: u8, b: u8 },

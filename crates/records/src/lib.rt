@@ -72,7 +72,12 @@ fn fields_of(kind: u8, a: u8, b: u8, p: u8, q: u16) -> Decoded
     ensures { λ r. ⌜ r ≡ fieldsOf kind a b p q ⌝ }
 {
     if kind == 1 {
-        return if_zero(p == 0, Decoded::Taken(Step::Send { a: a, b: b, q: q }));
+        return Decoded::Taken(Step::Send {
+            a: a,
+            b: b,
+            p: p,
+            q: q,
+        });
     }
     if kind == 2 {
         return if_zero(b == 0, Decoded::Taken(Step::Note { a: a, p: p, q: q }));
@@ -125,7 +130,12 @@ fn first_of(s: Step) -> u8
     ensures { λ r. ⌜ r ≡ firstOf s ⌝ }
 {
     match s {
-        Step::Send { a, b: _, q: _ } => a,
+        Step::Send {
+            a,
+            b: _,
+            p: _,
+            q: _,
+        } => a,
         Step::Note { a, p: _, q: _ } => a,
         Step::Begin { a } => a,
         Step::Deliver { a, b: _ } => a,
@@ -148,7 +158,12 @@ fn second_of(s: Step) -> u8
     ensures { λ r. ⌜ r ≡ secondOf s ⌝ }
 {
     match s {
-        Step::Send { a: _, b, q: _ } => b,
+        Step::Send {
+            a: _,
+            b,
+            p: _,
+            q: _,
+        } => b,
         Step::Note { a, p: _, q: _ } => a,
         Step::Begin { a } => a,
         Step::Deliver { a: _, b } => b,
@@ -190,7 +205,12 @@ fn actor_works(s: Step, first: bool, second: bool) -> bool
         → second ≡ works (stateOf g (secondOf s - 1)) → r ≡ actorWorks g s) ⌝ }
 {
     match s {
-        Step::Send { a: _, b: _, q: _ } => first,
+        Step::Send {
+            a: _,
+            b: _,
+            p: _,
+            q: _,
+        } => first,
         Step::Note { a: _, p: _, q: _ } => first,
         Step::Begin { a: _ } => first,
         Step::Deliver { a: _, b: _ } => second,

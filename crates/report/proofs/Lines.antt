@@ -12,10 +12,11 @@ use Rattle.state.specs.declared.Version.{Version}
 use Rattle.state.specs.declared.Version.the-variants.{Known, Unknown}
 use Rattle.cabinet.specs.declared.Cabinet.{Cabinet}
 use Rattle.state.specs.State.{works}
-use Rattle.image.specs.Image.{booked}
+use Rattle.outlet.specs.declared.Outlet.the-variants.{A, B}
+use Rattle.image.specs.Image.{booking}
 use Rattle.group.specs.declared.Group.{Group}
 use Rattle.group.specs.Group.{cabinet}
-use Rattle.protocol.specs.Listing.{Text, stateWord, versionWord, decimal, loadLine, stepLine, stepLines, cabLine, cabLines}
+use Rattle.protocol.specs.Listing.{Text, stateWord, versionWord, bookings, loadLine, stepLine, stepLines, cabLine, cabLines}
 use Rattle.buffer.proofs.Digits.{at-most}
 
 -- ---- one line more
@@ -64,8 +65,9 @@ either-length false t = omega arith
 
 cab-length : (i : ℕ) (c : Cabinet) → length (cabLine i c) ≤ 40
 cab-length i c =
-    let t : Text = 32 ∷ versionWord (c .phase .version) ++ 32 ∷ decimal (booked (c .image)) in
-    let e : length t ≤ 8 = simp length-append (omega (arith, version-length (c .phase .version), at-most 5 (booked (c .image)))) in
+    let t : Text = 32 ∷ versionWord (c .phase .version) ++ bookings (c .image) in
+    let e : length t ≤ 14 =
+    simp length-append (omega (arith, version-length (c .phase .version), at-most 5 (booking A (c .image)), at-most 5 (booking B (c .image)))) in
     simp length-append
     (omega (arith, at-most 5 (i + 1), state-length (c .phase .state), either-length (works (c .phase .state)) t))
 

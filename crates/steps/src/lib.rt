@@ -10,7 +10,13 @@ fn perform(g: Group, s: Step) -> Outcome
     ensures { λ r. ⌜ r ≡ perform g s ⌝ }
 {
     match s {
-        Step::Send { a, b, q } => sending::send_step(g, records::before(a), records::before(b), q),
+        Step::Send { a, b, p, q } => sending::send_step(
+            g,
+            records::before(a),
+            records::before(b),
+            p,
+            q,
+        ),
         Step::Note { a, p, q } => sending::note_step(g, records::before(a), p, q),
         Step::Begin { a } => saving::begin_step(g, records::before(a)),
         Step::Deliver { a, b } => delivery::deliver_step(g, records::before(a), records::before(b)),

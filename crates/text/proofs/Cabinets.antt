@@ -5,14 +5,13 @@ use mathlib.Core.Bool.{Bool, true, false}
 use mathlib.Core.List.{List, _∷_, _++_, append-nil}
 use Rattle.cabinet.specs.declared.Cabinet.{Cabinet}
 use Rattle.state.specs.State.{works}
-use Rattle.image.specs.Image.{booked}
-use Rattle.protocol.specs.Listing.{stateWord, versionWord, decimal, cabRest}
+use Rattle.protocol.specs.Listing.{stateWord, versionWord, bookings, cabRest}
 use Rattle.buffer.specs.Written.{Written}
 
 -- once it was asked whether the cabinet works
 module _ {before after : List ℕ} {at end : ℕ} (c : Cabinet) {w : Bool} (e : w ≡ works (c .phase .state)) where
   pub all-fields : w ≡ true
-      → Written (32 ∷ (stateWord (c .phase .state) ++ (32 ∷ versionWord (c .phase .version) ++ 32 ∷ decimal (booked (c .image))))) at before end after
+      → Written (32 ∷ (stateWord (c .phase .state) ++ (32 ∷ versionWord (c .phase .version) ++ bookings (c .image)))) at before end after
       → Written (32 ∷ cabRest c) at before end after
   all-fields t v = rw (← e, t) v
 

@@ -1,6 +1,6 @@
 // The lines of the listing, each written into a buffer that the caller lends, as in `buffer`.
 use cabinet::Cabinet;
-use state::State;
+use outlet::Outlet;
 use state::Version;
 ghost use mathlib.Core.Path.{_≡_};
 ghost use mathlib.Core.List.{[], _∷_};
@@ -66,7 +66,7 @@ pub fn plan_line(out: &mut [u8], at: usize, first: u8, k: u16, answer: u8) -> us
     step_line(out, at, k, answer)
 }
 
-// The state and, unless it is failed, version and booking.
+// The state and, unless it is failed, version and bookings.
 fn cab_rest(out: &mut [u8], at: usize, c: Cabinet) -> usize
     ensures { λ r. ⌜ Written (32 ∷ cabRest c) at (now (out .entry)) r (now (out .exit)) ⌝ }
 {
@@ -78,7 +78,8 @@ fn cab_rest(out: &mut [u8], at: usize, c: Cabinet) -> usize
     if state::works(state) {
         let at = buffer::put(out, at, b' ');
         let at = buffer::put(out, at, version_octet(version));
-        return buffer::number(out, at, c.image.booked());
+        let at = buffer::number(out, at, c.image.booking(Outlet::A));
+        return buffer::number(out, at, c.image.booking(Outlet::B));
     }
     at
 }

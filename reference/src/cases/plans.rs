@@ -413,9 +413,10 @@ impl Planner<'_> {
     }
 
     fn send_on(&mut self, from: Number, to: Number) -> bool {
-        let booking = usize::from(self.run.group.cabinet(from).booking());
+        let p = self.run.p_to_send_with(from);
+        let booking = usize::from(self.run.booking_behind(from, p));
         let amount = self.run.dice.between(1, 1 + booking / 2) as u16;
-        let record = record(1, from, to, 0, amount);
+        let record = record(1, from, to, p, amount);
         self.run.taken(&record) && self.step(record).answer == TAKEN
     }
 
@@ -513,16 +514,17 @@ impl Planner<'_> {
     /// One ampere more than a booking, refused, and then all of it: the answers tell it.
     fn probe_scene(&mut self) {
         let from = self.run.any_cabinet();
-        let booking = self.run.group.cabinet(from).booking();
+        let p = self.run.dice.below(4) as u8;
+        let booking = self.run.booking_behind(from, p);
         let neighbours = self.run.group.cabinet(from).neighbours();
         let Some(to) = self.run.dice.pick_any(&neighbours) else {
             return;
         };
         if let Some(more) = booking.checked_add(1) {
-            self.step(record(1, from, to, 0, more));
+            self.step(record(1, from, to, p, more));
         }
         if self.chance(700) {
-            self.step(record(1, from, to, 0, booking));
+            self.step(record(1, from, to, p, booking));
         }
     }
 
@@ -602,7 +604,7 @@ mod tests {
     use crate::cases::case_seed;
     use crate::evening::{counted_evening, operation, Operation, Sight};
     use crate::listing::Tally;
-    use crate::model::Image;
+    use crate::model::{booking_in, Image, Outlet};
 
     fn wishes(damage: bool) -> Wishes {
         Wishes { damage, highest_kind: 11, cabinets: None }
@@ -712,7 +714,8 @@ mod tests {
     }
 
     fn total(images: impl Iterator<Item = Image>) -> u32 {
-        images.map(|image| u32::from(u16::from_be_bytes([image[0], image[1]]))).sum()
+        let booked = |image: Image| [Outlet::A, Outlet::B].map(|outlet| booking_in(&image, outlet));
+        images.flat_map(booked).map(u32::from).sum()
     }
 
     fn check_against_told(case: &Case) {

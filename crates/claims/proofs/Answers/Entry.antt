@@ -32,7 +32,7 @@ use Rattle.claims.proofs.Answers.Deliver.{Upset, receive-answers}
 
 -- a kind's refusal is 0 or stands under it in the paper
 kind-listed : (g : Group) (s : Step) → Listed (kindNumbers s) (kindRefusal g s)
-kind-listed g (Send a b q) = search (checks, nothing) depth 6
+kind-listed g (Send a b p q) = search (checks, nothing) depth 6
 kind-listed g (Note a p q) = search (checks, nothing)
 kind-listed g (Begin a) = search (checks, nothing)
 kind-listed g (Deliver a b) = search (checks, nothing)
@@ -120,7 +120,7 @@ deliver-answers g a b =
 
 performs : (g : Group) (s : Step) → Answers g s (perform g s)
 unfolding sendStep noteStep beginStep writeStep savedStep fetchStep restoredStep waitOverStep
-performs g (Send a b q) = harmless g (Send a b q) _ (λ c. elim c [ ])
+performs g (Send a b p q) = harmless g (Send a b p q) _ (λ c. elim c [ ])
 performs g (Note a p q) = harmless g (Note a p q) _ (λ c. elim c [ ])
 performs g (Begin a) = harmless g (Begin a) _ (λ c. elim c [ ])
 performs g (Deliver a b) = deliver-answers g a b
@@ -135,7 +135,7 @@ performs g (Damage a b p q) = damage-answers g a b p q
 -- ---- checks 8 to 12
 
 work-listed : (g : Group) (s : Step) → Listed (workNumbers s) (need (actorWorks g s) 12 0)
-work-listed g (Send a b q) = search (checks, nothing)
+work-listed g (Send a b p q) = search (checks, nothing)
 work-listed g (Note a p q) = search (checks, nothing)
 work-listed g (Begin a) = search (checks, nothing)
 work-listed g (Deliver a b) = search (checks, nothing)
@@ -165,7 +165,7 @@ decoded-answers g (Taken s) = recast (to, from) (refusing (entryRefusal g s) (en
 pub not-fifty : (d : Decoded) → among 50 (refusalNumbers d) ≡ false
 not-fifty Malformed = refl
 not-fifty Unused = refl
-not-fifty (Taken (Send a b q)) = refl
+not-fifty (Taken (Send a b p q)) = refl
 not-fifty (Taken (Note a p q)) = refl
 not-fifty (Taken (Begin a)) = refl
 not-fifty (Taken (Deliver a b)) = refl

@@ -17,13 +17,14 @@ use Rattle.state.specs.declared.State.{State}
 use Rattle.state.specs.declared.State.the-variants.{Failed, Normal, CheckpBegin, Checkpointing, Checkpointed, Error, Recovering, Recovered, Crashed}
 use Rattle.state.specs.State.{isIn, works, inRecovery}
 use Rattle.image.specs.Image.{booked}
+use Rattle.image.proofs.Laws.{booking-within}
 use Rattle.group.specs.declared.Group.{Group}
 use Rattle.group.specs.Group.{cabinet, stateOf, line, isCrashed, sum}
 use Rattle.load.specs.Load.{load, feederTotal}
 use Rattle.protocol.specs.Receive.{takesFrom}
 use Rattle.protocol.specs.History.{Operation}
 use Rattle.protocol.specs.Restored.{Octets, AllOctets, worldAfter}
-use Rattle.claims.specs.Bounds.{LinesBounded, NeverWraps}
+use Rattle.claims.specs.Bounds.{LinesBounded, HasRoom, NeverWraps}
 use Rattle.claims.proofs.State.Fun.{never, is-true, sum-add, sum-swap}
 use Rattle.claims.proofs.State.View.{View, packetOf, content, view}
 use Rattle.claims.proofs.State.ViewMoves.{sim-off}
@@ -131,17 +132,18 @@ module _ (total : ℕ) (g : Group) (γ : Ghost) (i : Inv (g .n) total (view g) �
       sum-more (λ c. sum (taken c) 8) (λ c. outOf γ c) a 8 (p .amount) la (λ c. sum-less (taken c) (sent c) 8 (taken-within c)) from-a in
       omega (arith, from-all, sum-swap taken 8 8)
 
-  -- no cabinet has sent more than it had, and b has its booking over
+  -- no cabinet has sent more than it had, and b has what it books over
   all-booked : sum (λ c. outOf γ c) 8 + booked (v .own b .image) ≤ sum (λ c. booked (γ .mind c .base) + gotOf γ c) 8
   all-booked =
       let k = i .core .books b .live calm in
       sum-more (λ c. outOf γ c) (λ c. booked (γ .mind c .base) + gotOf γ c) b 8 (booked (v .own b .image)) lb (λ c. i .core .books c .bounded)
       (omega (arith, k .1))
 
-  no-wrap : booked (cabinet g b .image) + p .amount < 65536
+  -- what bounds both outlets together bounds each
+  no-wrap : HasRoom g b p
   no-wrap =
       let s = i .core .sums in
-      omega (arith, all-within, all-booked, sum-add (λ c. booked (γ .mind c .base)) (λ c. gotOf γ c) 8, s .bases, s .least)
+      omega (arith, booking-within (p .outlet) (cabinet g b .image), all-within, all-booked, sum-add (λ c. booked (γ .mind c .base)) (λ c. gotOf γ c) 8, s .bases, s .least)
 
 pub never-wraps : NeverWraps
 never-wraps f of e xs o c unhurt =

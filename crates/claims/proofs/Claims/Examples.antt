@@ -1,4 +1,4 @@
--- Demand 3 for each of the runs of `specs/Examples` and `specs/Returns`: its premises are met in runs that restore a save.
+-- Demand 3 for each of the runs of `specs/Examples`, `specs/Returns` and `specs/Outlets`: its premises are met in runs that restore a save.
 use Prim.Native.Nat.{ℕ, zero, suc}
 use mathlib.Core.Path.{_≡_, refl, ap, sym, subst, _∙_}
 use mathlib.Core.Bool.{Bool, true, _&&_}
@@ -18,7 +18,9 @@ use Rattle.claims.proofs.State.Fun.{and-true}
 use Rattle.claims.proofs.Claims.Demand.{run-append, demand-three}
 use Rattle.protocol.specs.Returns.{foundKept, return-first, return-first-finds, return-stays, return-stays-finds, return-between, return-between-finds}
 use Rattle.protocol.proofs.Closed.Examples.{runs-found}
+use Rattle.protocol.specs.Outlets.{both-outlets, both-outlets-finds}
 use Rattle.protocol.proofs.Closed.Returns.{returns-found}
+use Rattle.protocol.proofs.Closed.Outlets.{outlets-found}
 
 -- ---- octets
 
@@ -106,3 +108,8 @@ return-stays-restored = demanded return-stays return-stays-finds (returns-found 
 pub return-between-restored : Demanded return-between
 unfolding found foundKept
 return-between-restored = demanded return-between return-between-finds (ap (λ (p : Found × List (List Image)). p .0) (returns-found .2)) refl refl refl refl refl
+
+-- a recovery of both outlets
+
+pub both-outlets-restored : Demanded both-outlets
+both-outlets-restored = demanded both-outlets both-outlets-finds outlets-found refl refl refl refl refl

@@ -20,7 +20,7 @@ use Rattle.load.specs.Load.{feederTotal}
 use Rattle.protocol.specs.declared.Step.{Step}
 use Rattle.protocol.specs.declared.Step.the-variants.{Send, Note, Begin, Deliver, Write, Saved, Fetch, Restored, WaitOver, Fail, Damage}
 use Rattle.protocol.specs.declared.Decoded.the-variants.{Taken}
-use Rattle.protocol.specs.Kinds.{need, orRefuse, sendRefusal, sent, sendStep, noteRefusal, noteStep, beginRefusal, beginStep, deliverRefusal, deliverStep, writeRefusal, writeStep, savedRefusal, savedStep, fetchRefusal, fetchStep, restoredRefusal, restoredStep, waitOverRefusal, waitOverStep, failCrashes, failStep, damageRefusal, hurt, damageStep}
+use Rattle.protocol.specs.Kinds.{need, orRefuse, sendRefusal, carried, sent, sendStep, noteRefusal, noteStep, beginRefusal, beginStep, deliverRefusal, deliverStep, writeRefusal, writeStep, savedRefusal, savedStep, fetchRefusal, fetchStep, restoredRefusal, restoredStep, waitOverRefusal, waitOverStep, failCrashes, failStep, damageRefusal, hurt, damageStep}
 use Rattle.protocol.specs.Entry.{step, stepDecoded, decode, firstOf, secondOf, actorWorks, isCabinet, entryRefusal, perform}
 use Rattle.protocol.specs.History.{History}
 use Rattle.protocol.specs.Restored.{worldAfter}
@@ -68,11 +68,11 @@ module _ (total : ℕ) (g : Group) (h : History) (γ : Ghost) (w : Fit g) (i : I
 
   performed : (s : Step) → Fits s → isCabinet g (firstOf s) ≡ true → isCabinet g (secondOf s) ≡ true → actorWorks g s ≡ true → Owed s (perform g s)
   unfolding sendStep noteStep beginStep deliverStep writeStep savedStep fetchStep restoredStep waitOverStep failStep damageStep hurt
-  performed (Send a b q) f x y o =
-      checked (Send a b q) (sendRefusal g (a - 1) (b - 1) q) _ (λ e _.
-      let seen = send-seen total g h γ w i past (a - 1) (b - 1) q (at a x .1) (at b y .1) f e in
-      line-ends (Send a b q) (view (sent g (a - 1) (b - 1) q)) (λ c. ap (λ (u : View). u .own c .state) seen ∙ kept-at (λ (z : Own). z .state) (v .own) (a - 1) _ refl c)
-      (λ c d. ap (λ (u : View). u .lines c d) seen ∙ line-at (v .lines) (λ l. l ++ (NormalPacket (record { amount = q }) ∷ [])) (a - 1) (b - 1) c d))
+  performed (Send a b p q) f x y o =
+      checked (Send a b p q) (sendRefusal g (a - 1) (b - 1) p q) _ (λ e _.
+      let seen = send-seen total g h γ w i past (a - 1) (b - 1) p q (at a x .1) (at b y .1) f e in
+      line-ends (Send a b p q) (view (sent g (a - 1) (b - 1) p q)) (λ c. ap (λ (u : View). u .own c .state) seen ∙ kept-at (λ (z : Own). z .state) (v .own) (a - 1) _ refl c)
+      (λ c d. ap (λ (u : View). u .lines c d) seen ∙ line-at (v .lines) (λ l. l ++ (NormalPacket (carried p q) ∷ [])) (a - 1) (b - 1) c d))
   performed (Note a p q) f x y o = checked (Note a p q) (noteRefusal g (a - 1) p q) _ (λ e _. cabinet-puts total g γ w i (a - 1) _ (at a x .1) (idle-same (stateOf g (a - 1))))
   performed (Begin a) f x y o = checked (Begin a) (beginRefusal g (a - 1)) _ (λ e _. begin-puts total g γ w i (a - 1) (at a x .1) o e)
   performed (Deliver a b) f x y o =

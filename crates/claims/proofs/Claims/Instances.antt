@@ -23,7 +23,10 @@ use Rattle.claims.specs.Instances.{Wraps, ResumesOnward, OtherSlotIsOlde
 
 pub wraps : Wraps
 unfolding crcBit crcBits crcOctet crcFrom lowest covers both struck connected emptyLines lineTo withLineTo putAll putCheckps cabinet withCabinet outgoing withOutgoing line withLine blankSlots slot withSlots withSlot rowsOf ofRows withSound some working recoveringOnes isCrashed sum load broadcast join cutIfAll takeCheckp resumeWith commit adopt recoverWith raise enterError hear findLinkFault markFailed alarmTo endRecovery noteLost receiveNormal receiveCheckp receiveResume receiveRecover receiveFault sent sendStep noteStep beginStep delivered deliverStep writePiece writeStep reportSaved commitIfAll savedStep fetchPiece fetchStep reportRestored endIfAll restoredStep failStep hurt damageStep step upd logged advance run
-wraps = (refl, λ r. omega (arith, r), λ e. let z : _≡_ {A = ℕ} 0 1 = cc in omega arith)
+wraps = (
+  (refl, λ r. omega (arith, r), λ e. let z : _≡_ {A = ℕ} 0 1 = cc in omega arith),
+  (refl, λ r. omega (arith, r), λ e. let z : _≡_ {A = ℕ} 0 1 = cc in omega arith),
+)
 
 pub resumes-onward : ResumesOnward
 unfolding crcBit crcBits crcOctet crcFrom lowest covers both struck connected emptyLines lineTo withLineTo putAll putCheckps cabinet withCabinet outgoing withOutgoing line withLine blankSlots slot withSlots withSlot rowsOf ofRows withSound some working recoveringOnes isCrashed sum load broadcast join cutIfAll takeCheckp resumeWith commit adopt recoverWith raise enterError hear findLinkFault markFailed alarmTo endRecovery noteLost receiveNormal receiveCheckp receiveResume receiveRecover receiveFault sent sendStep noteStep beginStep delivered deliverStep writePiece writeStep reportSaved commitIfAll savedStep fetchPiece fetchStep reportRestored endIfAll restoredStep failStep hurt damageStep step upd logged advance run content

@@ -61,7 +61,7 @@ hurt-leaves true h = record { points = refl; lost = λ c m e. e }
 hurt-leaves false h = nothing h
 
 observed-leaves : (h : History) (g g′ : Group) (s : Step) → Leaves h (observe h g g′ s)
-observed-leaves h g g′ (Send a b q) = record { points = refl; lost = λ c m e. e }
+observed-leaves h g g′ (Send a b p q) = record { points = refl; lost = λ c m e. e }
 observed-leaves h g g′ (Note a p q) = nothing h
 observed-leaves h g g′ (Begin a) = record { points = refl; lost = λ c m e. e }
 observed-leaves h g g′ (Deliver a b) =

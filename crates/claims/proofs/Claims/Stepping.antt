@@ -61,9 +61,9 @@ module _ (total : ℕ) (g : Group) (h : History) (γ : Ghost) (w : Fit g) (i : I
 
   performed : (s : Step) → Fits s → Named s → actorWorks g s ≡ true → Owed s (perform g s)
   unfolding sendStep noteStep beginStep deliverStep writeStep savedStep fetchStep restoredStep waitOverStep failStep damageStep
-  performed (Send a b q) f c o =
-      checked (Send a b q) (sendRefusal g (a - 1) (b - 1) q) _
-      (λ e _. kept-next (keeps-send total g h γ w i past (a - 1) (b - 1) q (below a (c .0) .1) (below b (c .1) .1) f e))
+  performed (Send a b p q) f c o =
+      checked (Send a b p q) (sendRefusal g (a - 1) (b - 1) p q) _
+      (λ e _. kept-next (keeps-send total g h γ w i past (a - 1) (b - 1) p q (below a (c .0) .1) (below b (c .1) .1) f e))
   performed (Note a p q) f c o =
       checked (Note a p q) (noteRefusal g (a - 1) p q) _ (λ e _. kept-next (keeps-note total g h γ w i past (a - 1) p q (below a (c .0) .1) e))
   performed (Begin a) f c o =

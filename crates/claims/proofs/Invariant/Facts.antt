@@ -4,16 +4,15 @@ use Prim.Native.Nat.{ℕ, _+_, _*_, _<_, _≤_}
 use mathlib.Core.Path.{_≡_}
 use mathlib.Core.Logic.{_≢_, _⊎_}
 use mathlib.Core.Bool.{Bool, true, false, cond, not, _&&_, _||_}
-use mathlib.Core.List.{List, [], _∷_, _++_, map}
+use mathlib.Core.List.{List, [], _∷_, _++_}
 use lib.ListN.{length, getD, take, drop}
 use lib.Dec.{eqb}
-use Rattle.crc.specs.Crc.{start, crcFrom, amountsOctets}
 use Rattle.packet.specs.declared.Check.{Check}
 use Rattle.packet.specs.declared.Payload.{Payload}
 use Rattle.packet.specs.declared.Place.{Place}
 use Rattle.packet.specs.declared.Packet.{Packet}
 use Rattle.packet.specs.declared.Packet.the-variants.{Empty, Normal as NormalPacket, Checkp, Resume, Recover, Fault, Invalid}
-use Rattle.packet.specs.Packet.{startCheck}
+use Rattle.packet.specs.Packet.{startCheck, stepCheck}
 use Rattle.state.specs.declared.State.the-variants.{Normal, CheckpBegin, Checkpointing, Checkpointed, Error, Recovering, Recovered, Crashed}
 use Rattle.state.specs.declared.Version.{Version}
 use Rattle.state.specs.declared.Version.the-variants.{Known, Unknown}
@@ -174,8 +173,13 @@ resumeFirst (p ∷ l) = resumes p (resumeFirst l)
 
 -- ---- logs and check values
 
+-- a register after a list of packets, and one that started before them
+unfoldable pub checkFrom : Check → List Payload → Check
+checkFrom c [] = c
+checkFrom c (p ∷ l) = checkFrom (stepCheck c p) l
+
 unfoldable pub checkOf : List Payload → Check
-checkOf l = record { crc = crcFrom start (amountsOctets (map (λ (p : Payload). p .amount) l)) }
+checkOf l = checkFrom startCheck l
 
 -- every amount has two octets
 unfoldable pub Amounts : List Payload → Type 0
@@ -187,10 +191,10 @@ unfoldable pub amount : List Payload → ℕ
 amount [] = 0
 amount (p ∷ l) = p .amount + amount l
 
--- equal, or different in exactly one place
+-- equal, or different in exactly one place, by another amount for the same outlet
 pub data Differ : Bool → List Payload → List Payload → Type 0 where
   same : {l : List Payload} → Differ false l l
-  here : {p q : Payload} {l : List Payload} → p .amount ≢ q .amount → Differ true (p ∷ l) (q ∷ l)
+  here : {p : Payload} {m : ℕ} {l : List Payload} → p .amount ≢ m → Differ true (p ∷ l) (record { outlet = p .outlet; amount = m } ∷ l)
   later : {b : Bool} {p : Payload} {k l : List Payload} → Differ b k l → Differ b (p ∷ k) (p ∷ l)
 
 -- G5: what is sent after the last comparison, beside what is taken after it or still on the way

@@ -1,24 +1,25 @@
--- Lines and logs: one packet more or less, and what may be on a line. Two logs of which at most one packet differs have equal check values
+-- Lines and logs: one packet more or less, and what may be on a line. Two logs of which at most one amount differs have equal check values
 -- only if they are equal, so an equal comparison covers nothing hurt.
 use Prim.Native.Nat.{ℕ, zero, suc, _+_, _≤_, _<_}
 use mathlib.Core.Path.{_≡_, refl, ap, _∙_, sym}
 use mathlib.Core.Bool.{Bool, true, false, cond, false≢true, true≢false}
-use mathlib.Core.List.{List, [], _∷_, _++_, map, nil≢cons, append-nil}
+use mathlib.Core.List.{List, [], _∷_, _++_, nil≢cons, append-nil}
 use lib.ListN.{getD}
 use native.Mathlib.Omega.{arith}
-use Rattle.crc.specs.Crc.{start, crcFrom, amountsOctets}
-use Rattle.crc.proofs.Laws.{from-append, amounts-append, one-differs}
+use Rattle.crc.specs.Crc.{crcFrom}
+use Rattle.crc.proofs.Laws.{one-differs}
+use Rattle.outlet.specs.Outlet.{octetOf}
 use Rattle.packet.specs.declared.Check.{Check}
 use Rattle.packet.specs.declared.Payload.{Payload}
 use Rattle.packet.specs.declared.Packet.{Packet}
 use Rattle.packet.specs.declared.Packet.the-variants.{Empty, Normal as NormalPacket, Checkp, Resume, Recover, Fault, Invalid}
-use Rattle.packet.specs.Packet.{startCheck, stepCheck, isNormal, isEmpty}
+use Rattle.packet.specs.Packet.{octetsOf, startCheck, stepCheck, isNormal, isEmpty}
 use mathlib.Core.Logic.{_⊎_, inl, inr, ⊎-elim}
 use Rattle.packet.specs.declared.Place.{Place}
 use Rattle.state.specs.declared.Version.{Version}
 use Rattle.state.specs.declared.Version.the-variants.{Known}
 use Rattle.claims.proofs.State.Fun.{never}
-use Rattle.claims.proofs.Invariant.Facts.{amountsIn, isCheckp, count, resumeFirst, checkOf, Amounts, Differ, same, here, later, Alarms, amount, isFault, isSafe, isInvalid, checkpLast}
+use Rattle.claims.proofs.Invariant.Facts.{amountsIn, isCheckp, count, resumeFirst, checkFrom, checkOf, Amounts, Differ, same, here, later, Alarms, amount, isFault, isSafe, isInvalid, checkpLast}
 
 -- ---- one packet more
 
@@ -209,39 +210,38 @@ differ-more x (here n) = here n
 differ-more x (later d) = later (differ-more x d)
 
 -- the register after one packet more
-map-snoc : (l : List Payload) (p : Payload) → map (λ (x : Payload). x .amount) (l ++ (p ∷ [])) ≡ map (λ (x : Payload). x .amount) l ++ (p .amount ∷ [])
-map-snoc [] p = refl
-map-snoc (q ∷ l) p = ap (λ (r : List ℕ). q .amount ∷ r) (map-snoc l p)
+check-more : (c : Check) (l : List Payload) (p : Payload) → checkFrom c (l ++ (p ∷ [])) ≡ stepCheck (checkFrom c l) p
+unfolding checkFrom
+check-more c [] p = refl
+check-more c (q ∷ l) p = check-more (stepCheck c q) l p
 
 pub check-snoc : (l : List Payload) (p : Payload) → checkOf (l ++ (p ∷ [])) ≡ stepCheck (checkOf l) p
-unfolding checkOf amountsOctets
-check-snoc l p =
-    ap (λ (n : ℕ). record { crc = n })
-    (ap (λ (x : List ℕ). crcFrom start (amountsOctets x)) (map-snoc l p)
-    ∙ ap (crcFrom start) (amounts-append (map (λ (x : Payload). x .amount) l) (p .amount ∷ []))
-    ∙ from-append (amountsOctets (map (λ (x : Payload). x .amount) l)) (amountsOctets (p .amount ∷ [])) start)
+unfolding checkOf
+check-snoc l p = check-more startCheck l p
 
 pub check-none : checkOf [] ≡ startCheck
-unfolding checkOf amountsOctets crcFrom
+unfolding checkOf checkFrom
 check-none = refl
 
 -- ---- what an equal comparison shows
 
-abbrev amounts : List Payload → List ℕ
-amounts l = map (λ (x : Payload). x .amount) l
+-- the octets that a register has run over
+abbrev octetsIn : List Payload → List ℕ
+octetsIn [] = []
+octetsIn (p ∷ l) = octetsOf p ++ octetsIn l
 
--- one packet that differs is seen, from any register
-seen : (r : ℕ) {k l : List Payload} → Differ true k l → Amounts k → Amounts l
-    → crcFrom r (amountsOctets (amounts k)) ≡ crcFrom r (amountsOctets (amounts l)) → ⊥
-unfolding Amounts crcFrom amountsOctets
-seen r (here {p} {q} {l} n) a b e =
-    one-differs (p .amount ∷ amounts l) (q .amount ∷ amounts l) 0 r refl (omega arith) (a .0) (b .0) n
-    (λ j d. tails (amounts l) (p .amount) (q .amount) j d) e
-  where
-    tails : (m : List ℕ) (x y j : ℕ) → (j ≡ 0 → ⊥) → getD (x ∷ m) j 0 ≡ getD (y ∷ m) j 0
-    tails m x y zero d = absurd (d refl)
-    tails m x y (suc j) d = refl
-seen r (later d) a b e = seen _ d (a .1) (b .1) e
+check-octets : (c : Check) (l : List Payload) → checkFrom c l .crc ≡ crcFrom (c .crc) (octetsIn l)
+unfolding checkFrom crcFrom
+check-octets c [] = refl
+check-octets c (p ∷ l) = check-octets (stepCheck c p) l
+
+-- one amount that differs is seen, from any register
+seen : (c : Check) {k l : List Payload} → Differ true k l → Amounts k → Amounts l → checkFrom c k ≡ checkFrom c l → ⊥
+unfolding Amounts checkFrom
+seen c (here {p} {m} {l} n) a b e =
+    one-differs (octetOf (p .outlet) ∷ []) (octetsIn l) (c .crc) (p .amount) m (a .0) (b .0) n
+    (sym (check-octets c (p ∷ l)) ∙ ap (λ (x : Check). x .crc) e ∙ check-octets c (record { outlet = p .outlet; amount = m } ∷ l))
+seen c (later {p = p} d) a b e = seen (stepCheck c p) d (a .1) (b .1) e
 
 pub differ-none : {k l : List Payload} → Differ false k l → k ≡ l
 differ-none same = refl
@@ -250,5 +250,5 @@ differ-none (later {p = p} d) = ap (λ (r : List Payload). p ∷ r) (differ-none
 -- nothing hurt passes an equal comparison
 pub equal-checks : (b : Bool) (k l : List Payload) → Differ b k l → Amounts k → Amounts l → checkOf k ≡ checkOf l → (b ≡ false) × (k ≡ l)
 unfolding checkOf
-equal-checks true k l d a c e = absurd (seen start d a c (ap (λ (x : Check). x .crc) e))
+equal-checks true k l d a c e = absurd (seen startCheck d a c e)
 equal-checks false k l d a c e = (refl, differ-none d)

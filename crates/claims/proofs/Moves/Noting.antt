@@ -3,16 +3,15 @@ use Prim.Native.Nat.{ℕ, _*_, _<_, _≤_}
 use mathlib.Core.Path.{_≡_, refl, sym, ap, _∙_, subst}
 use mathlib.Core.Bool.{Bool, true, _&&_}
 use mathlib.Core.List.{List}
-use lib.Seq.{getD-set-other}
 use lib.Dec.{leb}
 use borrow.Author.Tests.{leb-true}
-use native.Mathlib.Omega.{arith}
 use Rattle.packet.specs.declared.Packet.{Packet}
 use Rattle.state.specs.declared.State.the-variants.{Normal, Recovering, Recovered}
 use Rattle.image.specs.declared.Image.{Image}
 use Rattle.state.specs.State.{isIn}
 use Rattle.state.specs.declared.State.{State}
-use Rattle.image.specs.Image.{booked, withOctet}
+use Rattle.image.specs.Image.{booked, firstNote, withOctet}
+use Rattle.image.proofs.Laws.{booked-noted}
 use Rattle.cabinet.specs.Cabinet.{withImage}
 use Rattle.group.specs.declared.Group.{Group}
 use Rattle.group.specs.Group.{cabinet, withCabinet, stateOf}
@@ -92,19 +91,14 @@ module _ (n total : ℕ) (v : View) (γ : Ghost) (c : ℕ) (x : Image) (i : Inv 
 
 -- ---- the step
 
--- the notes stand beside the booking
-unbooked : (m : Image) (p q : ℕ) → 2 ≤ p → booked (withOctet m p q) ≡ booked m
-unbooked m p q l =
-    rw (getD-set-other (m .octets) p 0 q 0 (omega arith), getD-set-other (m .octets) p 1 q 0 (omega arith))
-
 module _ (total : ℕ) (g : Group) (h : History) (γ : Ghost) (w : Fit g) (i : Inv (g .n) total (view g) γ) (past : Past (g .n) (view g) γ h)
     (a p q : ℕ) (la : a < 8) (fine : noteRefusal g a p q ≡ 0) where
   normal : stateOf g a ≡ Normal
   normal = in-state (stateOf g a) Normal .0 (passed (isIn (stateOf g a) Normal) 13 _ fine .0)
 
-  beyond : 2 ≤ p
+  beyond : firstNote ≤ p
   beyond =
-      leb-true 2 p (and-true {s = leb 2 p} (passed (leb 2 p && (leb p 31 && leb q 255)) 14 0 (passed (isIn (stateOf g a) Normal) 13 _ fine .1) .0) .0)
+      leb-true firstNote p (and-true {s = leb firstNote p} (passed (leb firstNote p && (leb p 31 && leb q 255)) 14 0 (passed (isIn (stateOf g a) Normal) 13 _ fine .1) .0) .0)
 
   -- a cabinet in normal knows of no fault
   calm : unaware (γ .big) (view g .own a) ≡ true
@@ -124,7 +118,7 @@ module _ (total : ℕ) (g : Group) (h : History) (γ : Ghost) (w : Fit g) (i : I
     ghost = γ;
     inv = subst (λ (x : View). Inv (g .n) total x γ) (sym seen)
         (subst (λ (δ : Ghost). Inv (g .n) total (noted (view g) a (withOctet (cabinet g a .image) p q)) δ) (same-ghost γ a)
-        (noted-inv (g .n) total (view g) γ a (withOctet (cabinet g a .image) p q) i calm normal (unbooked (cabinet g a .image) p q beyond)));
+        (noted-inv (g .n) total (view g) γ a (withOctet (cabinet g a .image) p q) i calm normal (booked-noted (cabinet g a .image) p q beyond)));
     past = past-still g g′ state-kept past;
     stays = λ c e. ap (λ (s : State). isIn s Normal) (state-kept c) ∙ aware-not-normal (γ .big) (view g .own c) e;
   }

@@ -1,16 +1,18 @@
--- Kind 1, send: a normal packet comes last on a line in use, and its amount leaves the sender's booking.
-use Prim.Native.Nat.{ℕ, _+_, _-_, _/_, _%_, _<_, _≤_}
+-- Kind 1, send: a normal packet comes last on a line in use, and its amount leaves the booking of the sender's outlet.
+use Prim.Native.Nat.{ℕ, _+_, _<_}
 use mathlib.Core.Path.{_≡_, refl, sym, ap, _∙_, subst}
 use mathlib.Core.Logic.{_≢_}
 use mathlib.Core.Bool.{Bool, true, false, not, _&&_}
 use mathlib.Core.List.{List, [], _∷_, _++_, append-assoc}
-use lib.ListN.{length, set, length-append, length-set}
-use lib.Seq.{drop-append-le, take-append-le, getD-set-same, getD-set-other}
+use lib.ListN.{length, length-append}
+use lib.Seq.{drop-append-le, take-append-le}
 use lib.Dec.{ltb, leb}
 use borrow.Author.Tests.{ltb-true, leb-true}
 use native.Mathlib.Omega.{arith}
 use native.Mathlib.Decide.{ℕ-discrete}
 use Rattle.marks.specs.Marks.{marked}
+use Rattle.outlet.specs.declared.Outlet.{Outlet}
+use Rattle.outlet.specs.Outlet.{endsOf}
 use Rattle.packet.specs.declared.Payload.{Payload}
 use Rattle.packet.specs.declared.Check.{Check}
 use Rattle.packet.specs.declared.Packet.{Packet}
@@ -21,16 +23,16 @@ use Rattle.state.specs.declared.State.{State}
 use Rattle.state.specs.declared.State.the-variants.{Normal, Checkpointing, Checkpointed}
 use Rattle.image.specs.declared.Image.{Image}
 use Rattle.state.specs.State.{isIn, works}
-use Rattle.image.specs.Image.{booked, withBooked}
+use Rattle.image.specs.Image.{booking, booked, charged}
+use Rattle.image.proofs.Laws.{booked-charged}
 use Rattle.cabinet.specs.Cabinet.{inUse}
 use Rattle.group.specs.declared.Group.{Group}
 use Rattle.group.specs.Group.{cabinet, stateOf, line, sum}
-use Rattle.protocol.specs.Kinds.{need, sendRefusal, sent}
+use Rattle.protocol.specs.Kinds.{need, sendRefusal, carried, sent}
 use Rattle.protocol.specs.History.{History, upd, logged, withSent, noteCuts}
 use Rattle.claims.proofs.State.Fun.{never, and-true, and-intro, upd-same, upd-other, upd-elim, sum-cong, sum-at, kept-at, upd-pair, pair-same, pair-other}
 use Rattle.claims.proofs.State.Every.{passed}
 use Rattle.claims.proofs.State.View.{View, Own, Side, used, view}
-use Rattle.claims.proofs.State.Shape.{Pictured}
 use Rattle.claims.proofs.State.Sim.{Fit, in-use}
 use Rattle.claims.proofs.State.Methods.{sRegisters}
 use Rattle.claims.proofs.State.ViewMoves.{oImage, vSent, sim-sent}
@@ -58,16 +60,6 @@ gWire γ a b w = record { big = γ .big; mind = γ .mind; wire = wires γ a b w 
 pub wire-kept : {A : Type 0} (f : Wire → A) (γ : Ghost) (a b : ℕ) (w : Wire) → f w ≡ f (γ .wire a b) → (c d : ℕ) → f (wires γ a b w c d) ≡ f (γ .wire c d)
 wire-kept {A} f γ a b w e c d =
     upd-pair (λ (y : Wire). f y ≡ f (γ .wire c d)) (γ .wire) a b w c d (λ p q. rw (p, q) e) refl
-
--- ---- amounts
-
--- the booking that is written is the booking that is read
-pub booked-with : (m : Image) (v : ℕ) → Pictured m → booked (withBooked m v) ≡ v
-booked-with m v h =
-    let one = length-set (m .octets) 0 (v / 256) in
-    let x = getD-set-other (set (m .octets) 0 (v / 256)) 1 0 (v % 256) 0 (omega arith) ∙ getD-set-same (m .octets) 0 (v / 256) 0 (omega (arith, h .octets)) in
-    let y = getD-set-same (set (m .octets) 0 (v / 256)) 1 (v % 256) 0 (omega (arith, h .octets)) in
-    omega arith
 
 -- ---- the pair of sender and receiver
 
@@ -152,9 +144,9 @@ put-back b c d o m p n s t l w h v = search
 
 -- ---- the books of the sender
 
-pub sent-books : (b : Big) (o : Own) (m : Mind) (out more got q : ℕ) (x : Image) → unaware b o ≡ true → (m .done ≡ true → ⊥) → q ≤ booked (o .image)
-    → booked x ≡ booked (o .image) - q → more ≡ out + q → Books b o m out got → Books b (oImage o x) m more got
-sent-books b o m out more got q x un undone enough paid e h =
+pub sent-books : (b : Big) (o : Own) (m : Mind) (out more got q : ℕ) (x : Image) → unaware b o ≡ true → (m .done ≡ true → ⊥)
+    → booked x + q ≡ booked (o .image) → more ≡ out + q → Books b o m out got → Books b (oImage o x) m more got
+sent-books b o m out more got q x un undone paid e h =
     let k = h .live un in
     record {
       bounded = omega (arith, k .1);
@@ -165,8 +157,8 @@ sent-books b o m out more got q x un undone enough paid e h =
 -- ---- together
 
 module _ (n total : ℕ) (v : View) (γ : Ghost) (i : Inv n total v γ) (a b : ℕ) (lb : b < 8) (normal : v .own a .state ≡ Normal)
-    (us : used (v .side a b) ≡ true) (q : Payload) (small : q .amount < 65536) (x : Image) (enough : q .amount ≤ booked (v .own a .image))
-    (paid : booked x ≡ booked (v .own a .image) - q .amount) where
+    (us : used (v .side a b) ≡ true) (q : Payload) (small : q .amount < 65536) (x : Image)
+    (paid : booked x + q .amount ≡ booked (v .own a .image)) where
   abbrev o′ : Own
   o′ = oImage (v .own a) x
 
@@ -257,7 +249,7 @@ module _ (n total : ℕ) (v : View) (γ : Ghost) (i : Inv n total v γ) (a b : �
   books′ : (c : ℕ) → BooksAt v′ γ′ c
   books′ c = rw (got-same c) (elim (ℕ-discrete c a) [
     | yes e ↦ rw (e, upd-same (v .own) a o′, upd-same (γ .mind) a (γ .mind a))
-        (sent-books _ _ _ _ _ _ (q .amount) x un undone enough paid out-more (i .core .books a))
+        (sent-books _ _ _ _ _ _ (q .amount) x un undone paid out-more (i .core .books a))
     | no d ↦ rw (upd-other (v .own) a o′ c d, upd-other (γ .mind) a (γ .mind a) c d, out-other c d) (i .core .books c)
   ])
 
@@ -277,9 +269,12 @@ module _ (n total : ℕ) (v : View) (γ : Ghost) (i : Inv n total v γ) (a b : �
 -- ---- the step
 
 module _ (total : ℕ) (g : Group) (h : History) (γ : Ghost) (w : Fit g) (i : Inv (g .n) total (view g) γ) (past : Past (g .n) (view g) γ h)
-    (a b q : ℕ) (la : a < 8) (lb : b < 8) (lq : q < 65536) (fine : sendRefusal g a b q ≡ 0) where
+    (a b s q : ℕ) (la : a < 8) (lb : b < 8) (lq : q < 65536) (fine : sendRefusal g a b s q ≡ 0) where
+  abbrev from : Outlet
+  from = endsOf s .from
+
   abbrev p : Payload
-  p = record { amount = q }
+  p = carried s q
 
   checks : (r s t u x : Bool) → need r 13 (need s 14 (need t 15 (need u 16 (need x 17 0)))) ≡ 0 → (r ≡ true) × (s ≡ true) × (u ≡ true) × (x ≡ true)
   checks r s t u x e =
@@ -292,17 +287,14 @@ module _ (total : ℕ) (g : Group) (h : History) (γ : Ghost) (w : Fit g) (i : I
   abbrev v : View
   v = view g
 
-  met : (marked (inUse (cabinet g a)) b ≡ true) × (isIn (stateOf g a) Normal ≡ true) × (leb q (booked (cabinet g a .image)) ≡ true) × (ltb (normals (line g a b)) 8 ≡ true)
-  met = checks _ _ (ltb 0 q) _ _ fine
+  met : (marked (inUse (cabinet g a)) b ≡ true) × (isIn (stateOf g a) Normal ≡ true) × (leb q (booking from (cabinet g a .image)) ≡ true) × (ltb (normals (line g a b)) 8 ≡ true)
+  met = checks _ _ (ltb 0 q && leb s 3) _ _ fine
 
   us : used (v .side a b) ≡ true
   us = sym (in-use (cabinet g a) (w .cabs a) b) ∙ met .0
 
   normal : stateOf g a ≡ Normal
   normal = in-state (stateOf g a) Normal .0 (met .1)
-
-  enough : q ≤ booked (cabinet g a .image)
-  enough = leb-true q (booked (cabinet g a .image)) (met .2)
 
   calm : unaware (γ .big) (v .own a) ≡ true
   calm = un-of (γ .big) (v .own a) (rw normal) (rw normal)
@@ -316,13 +308,16 @@ module _ (total : ℕ) (g : Group) (h : History) (γ : Ghost) (w : Fit g) (i : I
       omega (arith, all-counted (line g a b .cells), rw early at safe)
 
   abbrev g′ : Group
-  g′ = sent g a b q
+  g′ = sent g a b s q
 
   abbrev paidImage : Image
-  paidImage = withBooked (cabinet g a .image) (booked (cabinet g a .image) - q)
+  paidImage = charged (cabinet g a .image) from q
 
-  pub seen : view g′ ≡ vSent v a b p
-  seen = sim-sent g w a b q lq la lb room
+  paid : booked paidImage + q ≡ booked (cabinet g a .image)
+  paid = booked-charged from (cabinet g a .image) q (w .cabs a .image .octets) (leb-true q (booking from (cabinet g a .image)) (met .2))
+
+  pub seen : view g′ ≡ vSent v a b from p
+  seen = sim-sent g w a b s q lq la lb room
 
   state-kept : (c : ℕ) → view g′ .own c .state ≡ v .own c .state
   state-kept c = ap (λ (x : View). x .own c .state) seen ∙ kept-at (λ (x : Own). x .state) (v .own) a (oImage (v .own a) paidImage) refl c
@@ -355,7 +350,7 @@ module _ (total : ℕ) (g : Group) (h : History) (γ : Ghost) (w : Fit g) (i : I
     hurt = past .hurt;
     cuts = λ e c f.
         let x = past .cuts e c f in
-        let away : c ≢ a = λ j. undone (g .n) total v γ i a b lb normal us p lq paidImage enough (booked-with _ _ (w .cabs a .image)) (rw j at f) in
+        let away : c ≢ a = λ j. undone (g .n) total v γ i a b lb normal us p lq paidImage paid (rw j at f) in
         (x .0, x .1, x .2, (λ d. x .3 d ∙ sym (ap (λ (y : Wire). y .sent) (pair-other (γ .wire) a b (wSent (γ .wire a b) p) c d (λ y z. away y)))), (λ d. x .4 d ∙ sym (taken-kept d c)));
     noCut = past .noCut;
     known = past .known;
@@ -373,7 +368,7 @@ module _ (total : ℕ) (g : Group) (h : History) (γ : Ghost) (w : Fit g) (i : I
   keeps-send = record {
     ghost = δ;
     inv = subst (λ (x : View). Inv (g .n) total x δ) (sym seen)
-        (sent-inv (g .n) total v γ i a b lb normal us p lq paidImage enough (booked-with _ _ (w .cabs a .image)));
+        (sent-inv (g .n) total v γ i a b lb normal us p lq paidImage paid);
     past = rw (no-cuts h′ g g′ (λ c e. ap (λ (s : State). isIn s Checkpointing) (sym (state-kept c)) ∙ e)) past′;
     stays = λ c e. ap (λ (s : State). isIn s Normal) (state-kept c) ∙ aware-not-normal (γ .big) (v .own c) e;
   }

@@ -1,5 +1,5 @@
 -- A normal packet that its receiver adds, and that none comes to a cabinet that would not add it.
-use Prim.Native.Nat.{ℕ, _+_, _*_, _/_, _%_, _<_}
+use Prim.Native.Nat.{ℕ, _+_, _*_, _<_}
 use mathlib.Core.Path.{_≡_, refl, sym, ap, _∙_, subst}
 use mathlib.Core.Logic.{_≢_, _⊎_, inl, inr, ⊎-elim}
 use mathlib.Core.Bool.{Bool, true, false, not, _&&_, _||_, false≢true, true≢false}
@@ -21,7 +21,8 @@ use Rattle.state.specs.declared.State.{State}
 use Rattle.state.specs.declared.State.the-variants.{Failed, Normal, CheckpBegin, Checkpointing, Checkpointed, Error, Recovering, Recovered, Crashed}
 use Rattle.image.specs.declared.Image.{Image}
 use Rattle.state.specs.State.{isIn, works, inRecovery}
-use Rattle.image.specs.Image.{booked, withBooked}
+use Rattle.image.specs.Image.{booked, credited}
+use Rattle.image.proofs.Laws.{booked-credited}
 use Rattle.cabinet.specs.Cabinet.{taking}
 use Rattle.group.specs.declared.Group.{Group}
 use Rattle.group.specs.Group.{cabinet, withCabinet, stateOf, line, withLine, sum}
@@ -41,7 +42,7 @@ use Rattle.claims.proofs.Invariant.Logs.{check-snoc, count-rest, small-
 use Rattle.claims.proofs.Invariant.Words.{un-of, un-works, un-not-aware, un-or-aware, linked-used, live-line}
 use Rattle.claims.proofs.Invariant.Frame.{moved, minded, move-pairs, move-nodes, same-mind, quiet-inv}
 use Rattle.claims.proofs.Moves.Noting.{image-from, image-to}
-use Rattle.claims.proofs.Moves.Sending.{wires, gWire, wire-kept, booked-with}
+use Rattle.claims.proofs.Moves.Sending.{wires, gWire, wire-kept}
 
 abbrev pub wTaken : Wire → Payload → Wire
 wTaken w q = record { sent = w .sent; taken = w .taken ++ (q ∷ []); ver = w .ver; out = w .out; got = w .got + q .amount; lk = w .lk }
@@ -160,13 +161,13 @@ module _ (b : Big) (c : ℕ) (o : Own) (m : Mind) (z : Bool → Image) (h : Node
       let cu : b .alive ≡ true → m .done ≡ true → unaware b o ≡ true → x ≡ m .cut = λ a d. absurd (undone d) in
       search
 
-  pub taken-books : (out got more q : ℕ) (x : Image) → booked x ≡ (booked (o .image) + q) % 65536 → more ≡ got + q
+  pub taken-books : (out got more q : ℕ) (x : Image) → (j : ℕ) × (booked x + 65536 * j ≡ booked (o .image) + q) → more ≡ got + q
       → Books b o m out got → Books b (oImage o x) m out more
   taken-books out got more q x added e g =
       let k = g .live un in
       record {
         bounded = omega (arith, g .bounded);
-        live = λ u. (k .0 + (booked (o .image) + q) / 65536, omega (arith, k .1));
+        live = λ u. (k .0 + added .0, omega (arith, k .1, added .1));
         atCut = λ a d. absurd (undone d);
       }
 
@@ -221,7 +222,7 @@ module _ (n total : ℕ) (v : View) (γ : Ghost) (i : Inv n total v γ) (a b : �
       go Recovered e = absurd (waits (rw e))
       go Crashed e = absurd (never (rw e) (node .running))
 
-  module _ (un : unaware (γ .big) (v .own b) ≡ true) (x : Image) (added : booked x ≡ (booked (v .own b .image) + q .amount) % 65536) where
+  module _ (un : unaware (γ .big) (v .own b) ≡ true) (x : Image) (added : (j : ℕ) × (booked x + 65536 * j ≡ booked (v .own b .image) + q .amount)) where
     abbrev o′ : Own
     o′ = oImage (v .own b) x
 
@@ -355,9 +356,12 @@ module _ (total : ℕ) (g : Group) (γ : Ghost) (i : Inv (g .n) total (view g) �
         go Crashed t e f = absurd (false≢true f)
 
     abbrev image′ : Image
-    image′ = withBooked (cabinet g b .image) ((booked (cabinet g b .image) + q .amount) % 65536)
+    image′ = credited (cabinet g b .image) (q .outlet) (q .amount)
 
-    seen : view g′ ≡ moved v b (oImage (v .own b) image′) (sides (g .n) total v γ i a b la q left lined calm image′ (booked-with _ _ (w .cabs b .image)))
+    added : (j : ℕ) × (booked image′ + 65536 * j ≡ booked (cabinet g b .image) + q .amount)
+    added = booked-credited (q .outlet) (cabinet g b .image) (q .amount) (w .cabs b .image .octets)
+
+    seen : view g′ ≡ moved v b (oImage (v .own b) image′) (sides (g .n) total v γ i a b la q left lined calm image′ added)
         (upd (v .lines) a (upd (v .lines a) b left)) (v .slots)
     seen =
         sim-take g1 (with-line Shaped Lined Pictured shaped g a b _ (shaped .less (line g a b) (w .lines a b)) w) a b q la lb
@@ -416,7 +420,7 @@ module _ (total : ℕ) (g : Group) (γ : Ghost) (i : Inv (g .n) total (view g) �
     keeps-take = record {
       ghost = δ;
       inv = subst (λ (x : View). Inv (g .n) total x δ) (sym seen)
-          (taken-inv (g .n) total v γ i a b la q left lined calm image′ (booked-with _ _ (w .cabs b .image)));
+          (taken-inv (g .n) total v γ i a b la q left lined calm image′ added);
       past = rw (no-cuts h′ g g′ (λ c e. ap (λ (s : State). isIn s Checkpointing) (sym (state-kept c)) ∙ e)) past′;
       stays = λ c e. ap (λ (s : State). isIn s Normal) (state-kept c) ∙ aware-not-normal (γ .big) (v .own c) e;
     }

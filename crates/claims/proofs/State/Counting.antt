@@ -183,7 +183,7 @@ module _ (g : Group) where
 
   perform-n : (s : Step) → Kept (perform g s)
   unfolding sendStep sent noteStep beginStep fetchStep fetchPiece waitOverStep failStep withCabinet withLine withOutgoing
-  perform-n (Send a b q) = refused (sendRefusal g (a - 1) (b - 1) q) _ refl
+  perform-n (Send a b p q) = refused (sendRefusal g (a - 1) (b - 1) p q) _ refl
   perform-n (Note a p q) = refused (noteRefusal g (a - 1) p q) _ refl
   perform-n (Begin a) = refused (beginRefusal g (a - 1)) _ (cut-n (join g (a - 1)) (a - 1) ∙ join-n g (a - 1))
   perform-n (Deliver a b) = deliver-n (a - 1) (b - 1)

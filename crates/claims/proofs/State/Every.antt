@@ -10,6 +10,8 @@ use borrow.Author.Tests.{ltb-true, leb-true, eqb-true}
 use native.Mathlib.Omega.{arith}
 use Rattle.marks.specs.Marks.{Marks, marked, covers}
 use Rattle.marks.specs.Reach.{struck, connected}
+use Rattle.outlet.specs.declared.Outlet.{Outlet}
+use Rattle.outlet.specs.Outlet.{endsOf}
 use Rattle.packet.specs.declared.Payload.{Payload}
 use Rattle.packet.specs.declared.Check.{Check}
 use Rattle.packet.specs.declared.Place.{Place}
@@ -30,7 +32,7 @@ use Rattle.cabinet.specs.declared.Alarm.the-variants.{Quiet, Fault as At}
 use Rattle.cabinet.specs.declared.Cabinet.{Cabinet}
 use Rattle.cabinet.specs.Alarm.{isFor}
 use Rattle.state.specs.State.{isIn, works, inRecovery, bitOf}
-use Rattle.image.specs.Image.{booked, withOctet, withPiece}
+use Rattle.image.specs.Image.{booking, firstNote, withOctet, withPiece}
 use Rattle.cabinet.specs.Cabinet.{absent, inUse, withImage, withState, withVersion, sending, taking, hurtFrom, beginning, comparing, cutting, wrote, owing, savedFor, resuming, alarmed, hearing, recovering, fetched, restoredFor, crashing}
 use Rattle.outgoing.specs.declared.Outgoing.{Outgoing}
 use Rattle.group.specs.declared.Slots.{Slots}
@@ -44,7 +46,7 @@ use Rattle.protocol.specs.declared.Decoded.{Decoded}
 use Rattle.protocol.specs.declared.Decoded.the-variants.{Malformed, Unused, Taken}
 use Rattle.protocol.specs.Moves.{broadcast, join, cutIfAll, takeCheckp, resumeWith, commit, adopt, recoverWith, recoverIfKnown, raise, enterError, hear, findLinkFault, emptiedTo, markFailed, neighbours, enterErrorIf, alarmTo, endRecovery, noteAt, noteFor, noteLost}
 use Rattle.protocol.specs.Receive.{serving, takesFrom, receiveNormal, joinIf, receiveCheckp, resumesFrom, receiveResume, receiveRecover, receiveFault, receiveInvalid, receive}
-use Rattle.protocol.specs.Kinds.{need, orRefuse, sendRefusal, sent, sendStep, noteRefusal, noteStep, beginStep, beginRefusal, deliverRefusal, delivered, deliverStep, writeRefusal, writePiece, oweIf, writeStep, savedRefusal, reportSaved, commitIfAll, savedStep, fetchRefusal, fetchPiece, fetchStep, restoredRefusal, reportRestored, endIfAll, restoredStep, waitOverRefusal, waitOverStep, failCrashes, failStep, hurtIf, hurt, damageRefusal, damageStep}
+use Rattle.protocol.specs.Kinds.{need, orRefuse, sendRefusal, carried, sent, sendStep, noteRefusal, noteStep, beginStep, beginRefusal, deliverRefusal, delivered, deliverStep, writeRefusal, writePiece, oweIf, writeStep, savedRefusal, reportSaved, commitIfAll, savedStep, fetchRefusal, fetchPiece, fetchStep, restoredRefusal, reportRestored, endIfAll, restoredStep, waitOverRefusal, waitOverStep, failCrashes, failStep, hurtIf, hurt, damageRefusal, damageStep}
 use Rattle.protocol.specs.Entry.{step, stepDecoded, perform, entryRefusal, decode, fieldsOf, aloneOf}
 use Rattle.claims.proofs.State.Fun.{cond-elim, and-true}
 
@@ -95,7 +97,7 @@ fifth t u v w x e =
 -- ---- what a record of octets decodes to: the amount of a send and the pattern of damage have two octets
 
 abbrev pub Fits : Step → Type 0
-Fits (Send a b q) = q < 65536
+Fits (Send a b p q) = q < 65536
 Fits (Note a p q) = Unit {0}
 Fits (Begin a) = Unit {0}
 Fits (Deliver a b) = Unit {0}
@@ -123,7 +125,7 @@ alone-fits kind a =
 
 fields-fit : (kind a b p q : ℕ) → q < 65536 → FitsIn (fieldsOf kind a b p q)
 fields-fit kind a b p q l =
-    cond-elim FitsIn (eqb kind 1) (λ _. cond-elim FitsIn (eqb p 0) (λ _. l) (λ _. tt))
+    cond-elim FitsIn (eqb kind 1) (λ _. l)
     (λ _. cond-elim FitsIn (eqb kind 2) (λ _. cond-elim FitsIn (eqb b 0) (λ _. tt) (λ _. tt))
     (λ _. cond-elim FitsIn (eqb kind 4) (λ _. cond-elim FitsIn (eqb (p + q) 0) (λ _. tt) (λ _. tt))
     (λ _. cond-elim FitsIn (eqb kind 11) (λ _. l)
@@ -139,7 +141,7 @@ decode-fits r o =
 
 pub record Closed (C : Cabinet → Type 0) (L : Line → Type 0) (I : Image → Type 0) : Type 0 where
   pub gone : C absent
-  pub sending : (c : Cabinet) (j : ℕ) (p : Payload) → p .amount < 65536 → C c → C (sending c j p)
+  pub sending : (c : Cabinet) (j : ℕ) (o : Outlet) (p : Payload) → p .amount < 65536 → C c → C (sending c j o p)
   pub noting : (c : Cabinet) (k q : ℕ) → q < 256 → C c → C (withImage c (withOctet (c .image) k q))
   pub taking : (c : Cabinet) (j : ℕ) (p : Payload) → C c → C (taking c j p)
   pub hurtFrom : (c : Cabinet) (j : ℕ) → C c → C (hurtFrom c j)
@@ -452,16 +454,16 @@ module _ (C : Cabinet → Type 0) (L : Line → Type 0) (I : Image → Type 0) (
   or-refuse n g o y h = cond-elim OkOf (eqb n 0) (λ e. y (eqb-true n 0 e)) (λ _. h)
 
   module _ (g : Group) (h : Ok g) where
-    pub ok-send : (a b q : ℕ) → q < 65536 → OkOf (sendStep g a b q)
+    pub ok-send : (a b p q : ℕ) → q < 65536 → OkOf (sendStep g a b p q)
     unfolding sendStep sent
-    ok-send a b q l =
-        or-refuse (sendRefusal g a b q) g (taken (sent g a b q))
+    ok-send a b p q l =
+        or-refuse (sendRefusal g a b p q) g (taken (sent g a b p q))
         (λ e.
-        let room = ltb-true (normals (line g a b)) 8 (fifth (marked (inUse (cabinet g a)) b) (isIn (stateOf g a) Normal) (ltb 0 q) (leb q (booked (cabinet g a .image))) (ltb (normals (line g a b)) 8) e) in
-        with-line (withCabinet g a (sending (cabinet g a) b (record { amount = q }))) a b
-        (put (line g a b) (NormalPacket (record { amount = q })))
-        (k .sends (line g a b) (record { amount = q }) l room (h .lines a b))
-        (with-cabinet g a _ (k .sending _ b (record { amount = q }) l (h .cabs a)) h))
+        let room = ltb-true (normals (line g a b)) 8 (fifth (marked (inUse (cabinet g a)) b) (isIn (stateOf g a) Normal) (ltb 0 q && leb p 3) (leb q (booking (endsOf p .from) (cabinet g a .image))) (ltb (normals (line g a b)) 8) e) in
+        with-line (withCabinet g a (sending (cabinet g a) b (endsOf p .from) (carried p q))) a b
+        (put (line g a b) (NormalPacket (carried p q)))
+        (k .sends (line g a b) (carried p q) l room (h .lines a b))
+        (with-cabinet g a _ (k .sending _ b (endsOf p .from) (carried p q) l (h .cabs a)) h))
         h
 
     pub ok-note : (a p q : ℕ) → OkOf (noteStep g a p q)
@@ -469,7 +471,7 @@ module _ (C : Cabinet → Type 0) (L : Line → Type 0) (I : Image → Type 0) (
     ok-note a p q =
         or-refuse (noteRefusal g a p q) g _
         (λ e.
-        let fits = right (leb p 31) (leb q 255) (right (leb 2 p) (leb p 31 && leb q 255) (second (isIn (stateOf g a) Normal) (leb 2 p && (leb p 31 && leb q 255)) e)) in
+        let fits = right (leb p 31) (leb q 255) (right (leb firstNote p) (leb p 31 && leb q 255) (second (isIn (stateOf g a) Normal) (leb firstNote p && (leb p 31 && leb q 255)) e)) in
         with-cabinet g a _ (k .noting (cabinet g a) p q (omega (arith, leb-true q 255 fits)) (h .cabs a)) h)
         h
 
@@ -576,7 +578,7 @@ module _ (C : Cabinet → Type 0) (L : Line → Type 0) (I : Image → Type 0) (
   Octets r = (i : ℕ) → getD r i 0 < 256
 
   pub ok-perform : (g : Group) → Ok g → (s : Step) → Fits s → OkOf (perform g s)
-  ok-perform g h (Send a b q) f = ok-send g h (a - 1) (b - 1) q f
+  ok-perform g h (Send a b p q) f = ok-send g h (a - 1) (b - 1) p q f
   ok-perform g h (Note a p q) f = ok-note g h (a - 1) p q
   ok-perform g h (Begin a) f = ok-begin g h (a - 1)
   ok-perform g h (Deliver a b) f = ok-deliver g h (a - 1) (b - 1)

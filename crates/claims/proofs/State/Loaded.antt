@@ -1,5 +1,5 @@
 -- The sizes of rows, lines and images in a group as a file is loaded to it.
-use Prim.Native.Nat.{ℕ, zero, suc, _+_, _-_, _*_, _<_}
+use Prim.Native.Nat.{ℕ, zero, suc, _-_, _<_}
 use mathlib.Core.Path.{_≡_, refl, ap, _∙_}
 use mathlib.Core.Bool.{Bool, true, cond}
 use mathlib.Core.List.{List, []}
@@ -19,6 +19,7 @@ use Rattle.group.specs.declared.Outcome.{Outcome}
 use Rattle.outgoing.specs.Lines.{emptyLines, lineTo}
 use Rattle.group.specs.Group.{cabinet, outgoing, line, slot, blankSlots}
 use Rattle.marks.proofs.Lists.{getD-in}
+use Rattle.load.proofs.Loaded.{blank-octet, image-octet}
 use Rattle.load.specs.Load.{load, loadRefusal, groupOf, noGroup, cabinetCount, cabinetOf, cabinetsOf, imageOf, slotsOf, storeOf, linked, linkRows, linkCount, rowsIn, lowerOf, higherOf}
 use Rattle.claims.proofs.State.Fun.{cond-elim}
 use Rattle.claims.proofs.State.Every.{getD-set, getD-each, getD-repeated}
@@ -42,15 +43,10 @@ rows-eight (suc k) f i =
 
 module _ (f : List ℕ) (o : (i : ℕ) → getD f i 0 < 256) where
   pictured : (i : ℕ) → Pictured (imageOf f i)
-  pictured i = record { octets = refl; small = small }
-    where
-      small : (j : ℕ) → getD (imageOf f i .octets) j 0 < 256
-      small zero = o (12 + 4 * i)
-      small (suc zero) = o (13 + 4 * i)
-      small (suc (suc j)) = getD-repeated (λ (x : ℕ). x < 256) 30 j 0 0 (omega arith) (omega arith)
+  pictured i = record { octets = refl; small = image-octet f o i }
 
   blank-pictured : Pictured blankImage
-  blank-pictured = record { octets = refl; small = λ j. getD-repeated (λ (x : ℕ). x < 256) 32 j 0 0 (omega arith) (omega arith) }
+  blank-pictured = record { octets = refl; small = blank-octet }
 
   starts-shaped : (rows : Rows) → ((i : ℕ) → Eight (getD rows i noMarks)) → (i : ℕ) → Shaped (cabinetOf f rows i)
   starts-shaped rows h i =

@@ -12,6 +12,7 @@ use native.Mathlib.Omega.{arith}
 use native.Mathlib.Decide.{ℕ-discrete, decLt}
 use Rattle.marks.specs.Marks.{Marks, marked, noMarks}
 use Rattle.packet.specs.declared.Check.{Check}
+use Rattle.outlet.specs.declared.Outlet.{Outlet}
 use Rattle.packet.specs.declared.Payload.{Payload}
 use Rattle.packet.specs.declared.Place.{Place}
 use Rattle.packet.specs.declared.Place.the-variants.{Cabinet as AtCabinet, Link as AtLink}
@@ -63,9 +64,9 @@ module _ (c : Cabinet) (w : Shaped c) (j : ℕ) (l : j < 8) where
       (rw (getD-set-same (c .registers .hurt) j true false (omega (arith, w .hurt))))
       (λ b n. rw (getD-set-other (c .registers .hurt) j b true false n))
 
-  pub side-sending : (p : Payload) → sideOf (sending c j p) ≡ upd (sideOf c) j (sRegisters (sideOf c j) (stepCheck (sideOf c j .put) p) (sideOf c j .took) (sideOf c j .hurt))
-  side-sending p =
-      one-place (sideOf (sending c j p)) _
+  pub side-sending : (o : Outlet) (p : Payload) → sideOf (sending c j o p) ≡ upd (sideOf c) j (sRegisters (sideOf c j) (stepCheck (sideOf c j .put) p) (sideOf c j .took) (sideOf c j .hurt))
+  side-sending o p =
+      one-place (sideOf (sending c j o p)) _
       (rw (getD-set-same (c .registers .sent) j (stepCheck (sideOf c j .put) p) startCheck (omega (arith, w .sent))))
       (λ b n. rw (getD-set-other (c .registers .sent) j b (stepCheck (sideOf c j .put) p) startCheck n))
 

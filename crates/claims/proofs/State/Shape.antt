@@ -1,6 +1,6 @@
 -- In every run each cabinet's rows have eight marks, its image 32 octets; each line has twelve cells, the packets first, at most eight of
 -- them normal; each saved image has 32 octets.
-use Prim.Native.Nat.{ℕ, zero, suc, _+_, _-_, _*_, _/_, _%_, _<_, _≤_}
+use Prim.Native.Nat.{ℕ, zero, suc, _+_, _*_, _<_, _≤_}
 use mathlib.Core.Path.{_≡_, refl, sym, ap, _∙_}
 use mathlib.Core.Bool.{Bool, true, false, cond, false≢true}
 use mathlib.Core.List.{List, [], _∷_, _++_}
@@ -9,6 +9,7 @@ use lib.Bits.{xor-lt}
 use lib.Dec.{eqb, ltb}
 use native.Mathlib.Omega.{arith}
 use Rattle.marks.specs.Marks.{Marks, marked}
+use Rattle.outlet.specs.declared.Outlet.{Outlet}
 use Rattle.packet.specs.declared.Check.{Check}
 use Rattle.packet.specs.declared.Place.{Place}
 use Rattle.packet.specs.declared.Place.the-variants.{Cabinet as AtCabinet, Link as AtLink}
@@ -20,7 +21,8 @@ use Rattle.packet.specs.Packet.{isEmpty, isNormal, damaged, startCheck}
 use Rattle.line.specs.Line.{emptyCell, emptyLine, put, putCells, restCells, normals, normalsIn, packetAt}
 use Rattle.image.specs.declared.Image.{Image}
 use Rattle.cabinet.specs.declared.Cabinet.{Cabinet}
-use Rattle.image.specs.Image.{booked, withBooked, withOctet, pieceTo}
+use Rattle.image.specs.Image.{charged, credited, withOctet, pieceTo}
+use Rattle.image.proofs.Laws.{octet-small, charged-small, credited-small, length-charged, length-credited}
 use Rattle.registers.specs.Registers.{restartIf, restartTo}
 use Rattle.table.specs.Table.{struckAt}
 use Rattle.cabinet.specs.Cabinet.{inUse, sending, taking, wrote, fetched, alarmed}
@@ -35,18 +37,14 @@ pub record Pictured (m : Image) : Type 0 where
   pub octets : length (m .octets) ≡ 32
   pub small : (i : ℕ) → getD (m .octets) i 0 < 256
 
-abbrev Small : ℕ → Type 0
-Small x = x < 256
-
-pub booked-lt : (m : Image) → Pictured m → booked m < 65536
-booked-lt m h = omega (arith, h .small 0, h .small 1)
-
 pictured-set : (m : Image) (p v : ℕ) → v < 256 → Pictured m → Pictured (withOctet m p v)
-pictured-set m p v l h = record { octets = length-set (m .octets) p v ∙ h .octets; small = λ i. getD-set Small (m .octets) p i v 0 l (h .small i) }
+pictured-set m p v l h = record { octets = length-set (m .octets) p v ∙ h .octets; small = octet-small m p v l (h .small) }
 
-pictured-booked : (m : Image) (v : ℕ) → v < 65536 → Pictured m → Pictured (withBooked m v)
-pictured-booked m v l h =
-    pictured-set (withOctet m 0 (v / 256)) 1 (v % 256) (omega arith) (pictured-set m 0 (v / 256) (omega arith) h)
+pictured-charged : (m : Image) (o : Outlet) (q : ℕ) → Pictured m → Pictured (charged m o q)
+pictured-charged m o q h = record { octets = length-charged o m q ∙ h .octets; small = charged-small o m q (h .small) }
+
+pictured-credited : (m : Image) (o : Outlet) (q : ℕ) → Pictured m → Pictured (credited m o q)
+pictured-credited m o q h = record { octets = length-credited o m q ∙ h .octets; small = credited-small o m q (h .small) }
 
 pictured-piece : (n k : ℕ) (from to : Image) → Pictured from → Pictured to → Pictured (pieceTo n k from to)
 pictured-piece zero k from to f t = t
@@ -274,12 +272,11 @@ shaped = record {
     taken = refl;
     hurt = refl;
     owed = refl;
-    image = record { octets = refl; small = λ i. getD-repeated Small 32 i 0 0 (omega arith) (omega arith) };
+    image = record { octets = refl; small = λ i. getD-repeated (λ (x : ℕ). x < 256) 32 i 0 0 (omega arith) (omega arith) };
   };
-  sending = λ c j p l h.
-      let m = pictured-booked (c .image) (booked (c .image) - p .amount) (omega (arith, booked-lt (c .image) (h .image))) (h .image) in search length-set;
+  sending = λ c j o p l h. let m = pictured-charged (c .image) o (p .amount) (h .image) in search length-set;
   noting = λ c k q l h. let m = pictured-set (c .image) k q l (h .image) in search length-set;
-  taking = λ c j p h. let m = pictured-booked (c .image) ((booked (c .image) + p .amount) % 65536) (omega arith) (h .image) in search length-set;
+  taking = λ c j p h. let m = pictured-credited (c .image) (p .outlet) (p .amount) (h .image) in search length-set;
   hurtFrom = λ c j h. search length-set;
   beginning = λ c h. let r = length-restart 8 (inUse c) (c .registers .sent) ∙ h .sent in search;
   comparing = λ c j h. search length-set;

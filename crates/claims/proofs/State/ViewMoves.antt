@@ -1,5 +1,5 @@
 -- The moves of the protocol, seen in the view: each is one change of a cabinet with its sides, and one of its lines out.
-use Prim.Native.Nat.{ℕ, zero, suc, _+_, _-_, _%_, _<_, _≤_}
+use Prim.Native.Nat.{ℕ, zero, suc, _<_, _≤_}
 use mathlib.Core.Path.{_≡_, refl, sym, ap, _∙_, fun-ext, subst}
 use mathlib.Core.Logic.{_≢_}
 use mathlib.Core.Bool.{Bool, true, false, cond, _&&_}
@@ -12,6 +12,8 @@ use native.Mathlib.Omega.{arith}
 use native.Mathlib.Decide.{decLt}
 use Rattle.marks.specs.Marks.{marked}
 use Rattle.packet.specs.declared.Check.{Check}
+use Rattle.outlet.specs.declared.Outlet.{Outlet}
+use Rattle.outlet.specs.Outlet.{endsOf}
 use Rattle.packet.specs.declared.Payload.{Payload}
 use Rattle.packet.specs.declared.Packet.{Packet}
 use Rattle.packet.specs.declared.Packet.the-variants.{Normal as NormalPacket, Checkp, Resume, Recover, Fault}
@@ -29,14 +31,14 @@ use Rattle.cabinet.specs.declared.Alarm.{Alarm}
 use Rattle.cabinet.specs.declared.Alarm.the-variants.{Quiet, Fault as At}
 use Rattle.image.specs.declared.Image.{Image}
 use Rattle.cabinet.specs.declared.Cabinet.{Cabinet}
-use Rattle.image.specs.Image.{booked, withBooked}
+use Rattle.image.specs.Image.{charged, credited}
 use Rattle.cabinet.specs.Cabinet.{inUse, sending, taking, hurtFrom, beginning, comparing, owing, savedFor, resuming, alarmed, recovering, restoredFor, withState, withVersion}
 use Rattle.group.specs.declared.Group.{Group}
 use Rattle.outgoing.specs.Lines.{putAll, putCheckps, checkps, emptyLines, lineTo}
 use Rattle.group.specs.Group.{cabinet, withCabinets, withCabinet, outgoing, withOutgoing, line, withLine}
 use Rattle.protocol.specs.History.{upd}
 use Rattle.protocol.specs.Moves.{broadcast, join, resumeWith, recoverWith, raise, hear, emptiedTo, markFailed, noteAt, noteFor, noteLost}
-use Rattle.protocol.specs.Kinds.{sent}
+use Rattle.protocol.specs.Kinds.{carried, sent}
 use Rattle.claims.proofs.State.Fun.{upd-elim, upd-same, and-false}
 use Rattle.claims.proofs.State.Every.{getD-repeated, with-cabinet, with-outgoing, put-checkps, out-of, no-packets, ok-emptied}
 use Rattle.claims.proofs.State.View.{View, Own, Side, ownOf, used, content, view, setCabinet, setLines, setLine}
@@ -134,7 +136,7 @@ oPieces o k = record { state = o .state; version = o .version; alarm = o .alarm;
 abbrev pub vTake : View → ℕ → ℕ → Payload → View
 vTake v a b p =
     let s = v .side b a in let m = v .own b .image in
-    setCabinet v b (oImage (v .own b) (withBooked m ((booked m + p .amount) % 65536)))
+    setCabinet v b (oImage (v .own b) (credited m (p .outlet) (p .amount)))
     (upd (v .side b) a (sRegisters s (s .put) (stepCheck (s .took) p) (s .hurt)))
 
 pub sim-take : (g : Group) → Fit g → (a b : ℕ) (p : Payload) → a < 8 → b < 8 → view (withCabinet g b (taking (cabinet g b) a p)) ≡ vTake (view g) a b p
@@ -273,25 +275,26 @@ sim-off g a b e = content-oldest (line g a b .cells) e
 pub view-off : (g : Group) → Fit g → (a b : ℕ) → a < 8 → b < 8 → view (withLine g a b (rest (line g a b))) ≡ setLine (view g) a b (content (rest (line g a b) .cells))
 view-off g w a b la lb = view-line g (w .frame) a b _ la lb
 
--- a send: the packet comes last, and the sender has paid
-abbrev pub vSent : View → ℕ → ℕ → Payload → View
-vSent v a b p =
+-- a send: the packet comes last, and the sender has paid at outlet o
+abbrev pub vSent : View → ℕ → ℕ → Outlet → Payload → View
+vSent v a b o p =
     let s = v .side a b in let m = v .own a .image in
     setLine
-    (setCabinet v a (oImage (v .own a) (withBooked m (booked m - p .amount))) (upd (v .side a) b (sRegisters s (stepCheck (s .put) p) (s .took) (s .hurt))))
+    (setCabinet v a (oImage (v .own a) (charged m o (p .amount))) (upd (v .side a) b (sRegisters s (stepCheck (s .put) p) (s .took) (s .hurt))))
     a b (v .lines a b ++ (NormalPacket p ∷ []))
 
-pub sim-sent : (g : Group) → Fit g → (a b q : ℕ) → q < 65536 → a < 8 → b < 8 → length (view g .lines a b) < 12
-    → view (sent g a b q) ≡ vSent (view g) a b (record { amount = q })
+pub sim-sent : (g : Group) → Fit g → (a b s q : ℕ) → q < 65536 → a < 8 → b < 8 → length (view g .lines a b) < 12
+    → view (sent g a b s q) ≡ vSent (view g) a b (endsOf s .from) (carried s q)
 unfolding sent
-sim-sent g w a b q lq la lb room =
-    let p : Payload = record { amount = q } in
-    let paid = with-cabinet Shaped Lined Pictured shaped g a (sending (cabinet g a) b p) (shaped .sending (cabinet g a) b p lq (w .cabs a)) w in
+sim-sent g w a b s q lq la lb room =
+    let o = endsOf s .from in
+    let p = carried s q in
+    let paid = with-cabinet Shaped Lined Pictured shaped g a (sending (cabinet g a) b o p) (shaped .sending (cabinet g a) b o p lq (w .cabs a)) w in
     view-line _ (paid .frame) a b _ la lb
-    ∙ ap (setLine (view (withCabinet g a (sending (cabinet g a) b p))) a b) (put-content (line g a b) (w .lines a b) (NormalPacket p) refl room)
+    ∙ ap (setLine (view (withCabinet g a (sending (cabinet g a) b o p))) a b) (put-content (line g a b) (w .lines a b) (NormalPacket p) refl room)
     ∙ ap (λ (x : View). setLine x a b (view g .lines a b ++ (NormalPacket p ∷ [])))
     (view-cabinet g (w .frame) a _ la
-    ∙ ap (setCabinet (view g) a (ownOf (sending (cabinet g a) b p))) (side-sending (cabinet g a) (w .cabs a) b lb p))
+    ∙ ap (setCabinet (view g) a (ownOf (sending (cabinet g a) b o p))) (side-sending (cabinet g a) (w .cabs a) b lb o p))
 
 -- the lines to a failed cabinet are emptied
 abbrev pub vEmptied : ℕ → View → ℕ → View

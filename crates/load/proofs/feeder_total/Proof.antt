@@ -1,4 +1,4 @@
--- `feeder_total` adds up as many bookings as the file counts.
+-- `feeder_total` adds up as many entries as the file counts.
 use borrow.Author.Needs.{needs}
 use Rattle.load.proofs.feeder_total.Statement.{statement}
 use Rattle.load.proofs.feeder_total.Tie as tie

@@ -2,10 +2,10 @@
 use mathlib.Core.Path.{_≡_, refl}
 use mathlib.Core.Bool.{false}
 use mathlib.Core.List.{_++_}
-use Rattle.crc.specs.Crc.{crcBit, crcBits, crcOctet, crcFrom, crc, amountOctets}
+use Rattle.crc.specs.Crc.{crcBit, crcBits, crcOctet, crcFrom, crc}
 use Rattle.marks.specs.Marks.{lowest, covers, both}
 use Rattle.marks.specs.Reach.{struck, connected}
-use Rattle.packet.specs.Packet.{isEmpty}
+use Rattle.packet.specs.Packet.{octetsOf, isEmpty}
 use Rattle.line.specs.Line.{oldest}
 use Rattle.outgoing.specs.Lines.{emptyLines, lineTo, withLineTo, putAll, putCheckps}
 use Rattle.group.specs.Group.{cabinet, withCabinet, outgoing, withOutgoing, line, withLine, blankSlots, slot, withSlots, withSlot, rowsOf, ofRows, withSound, some, working, recoveringOnes, unsure, isCrashed, crashAll, sum}
@@ -14,6 +14,7 @@ use Rattle.protocol.specs.Moves.{broadcast, join, cutIfAll, takeCheckp, 
 use Rattle.protocol.specs.Receive.{receiveNormal, receiveCheckp, receiveResume, receiveRecover, receiveFault, receiveInvalid}
 use Rattle.protocol.specs.Kinds.{sent, sendStep, noteStep, beginStep, delivered, deliverStep, writePiece, writeStep, reportSaved, commitIfAll, savedStep, fetchPiece, fetchStep, reportRestored, endIfAll, restoredStep, waitOverStep, failStep, hurt, damageStep}
 use Rattle.protocol.specs.Entry.{step, stepAll, answersFrom}
+use Rattle.protocol.specs.Examples.{toA}
 use Rattle.protocol.specs.Tempting.{linkParts, answered, AllAsWritten}
 
 -- every record of every run gets the answer that the paper gives
@@ -22,7 +23,7 @@ unfolding crcBit crcBits crcOctet crcFrom lowest covers both struck connected em
 runs-answered = (refl, refl, refl, refl, refl, refl, refl, refl, refl, refl, refl, refl, refl, refl, refl, refl, refl, refl, refl, refl, refl, refl, refl, refl, refl, refl, refl)
 
 -- what `hurtTwice` asks for would not be seen by a comparison
-pub same-value : crc (amountOctets 30 ++ amountOctets 20) ≡ crc (amountOctets 31 ++ amountOctets 13093)
+pub same-value : crc (octetsOf (toA 30) ++ octetsOf (toA 20)) ≡ crc (octetsOf (toA 31) ++ octetsOf (toA 13093))
 unfolding crcBit crcBits crcOctet crcFrom
 same-value = refl
 

@@ -8,6 +8,7 @@ use native.Mathlib.Omega.{arith}
 use lib.Dec.{leb}
 use Rattle.state.specs.declared.State.the-variants.{Normal}
 use Rattle.state.specs.State.{isIn}
+use Rattle.image.specs.Image.{firstNote}
 use Rattle.group.specs.Group.{cabinet}
 use Rattle.protocol.specs.Kinds.{need, noteStep}
 use Rattle.sending.proofs.note_step.Statement.{statement}
@@ -22,8 +23,8 @@ last-held true false u v e = absurd (omega arith)
 last-held false t u v e = absurd (omega arith)
 
 -- so the value's low octet is the value
-all-low : (s : Bool) (p q : ℕ) → need s 14 (need (leb 2 p && (leb p 31 && leb q 255)) 15 0) ≡ 0 → q % 256 ≡ q
-all-low s p q e = let h = leb-true q 255 (last-held s (leb 2 p) (leb p 31) (leb q 255) e) in omega arith
+all-low : (s : Bool) (p q : ℕ) → need s 14 (need (leb firstNote p && (leb p 31 && leb q 255)) 15 0) ≡ 0 → q % 256 ≡ q
+all-low s p q e = let h = leb-true q 255 (last-held s (leb firstNote p) (leb p 31) (leb q 255) e) in omega arith
 
 returns : tie.Need-returns
 unfolding noteStep cabinet

@@ -9,6 +9,4 @@ sending-spec = tie.close (tie.spec
     (λ c κs. search needs)
     (λ c κs. search needs)
     (λ c κs. search needs)
-    (λ c κs. search needs)
-    (λ c κs. search needs)
-    (λ c. rw (c .with-image .ensures, c .before .with-booked .ensures, c .before .before .with-registers .ensures, c .before .before .before .run-over-sent .ensures, c .before .before .before .before .minus .ensures, c .before .before .before .before .before .booked .ensures)))
+    (λ c. rw (c .with-image .ensures, c .before .with-registers .ensures, c .before .before .run-over-sent .ensures, c .before .before .before .charged .ensures)))

@@ -6,9 +6,9 @@ use Rattle.packet.proofs.Check.step.Tie as tie
 
 returns : tie.Need-returns
 unfolding crcFrom
-returns c = rw (c .octet3 .ensures, c .before .octet2 .ensures, c .before .before .octet .ensures)
+returns c = rw (c .octet3 .ensures, c .before .octet2 .ensures, c .before .before .octet .ensures, c .before .before .before .octet-of .ensures)
 
 pub step-spec : {M : Type 1} → statement M
 step-spec =
     tie.close
-    (tie.spec (λ c. search needs) (λ c. search needs) (λ c κs. search needs) (λ c κs. search needs) (λ c κs. search needs) returns)
+    (tie.spec (λ c. search needs) (λ c. search needs) (λ c κs. search needs) (λ c κs. search needs) (λ c κs. search needs) (λ c κs. search needs) returns)

@@ -1,0 +1,2 @@
+-- What holds of images.
+pub mod Laws
