@@ -1,9 +1,13 @@
 //! Random cases from a seed: a group file, sound or damaged, and a steps file. The model runs
 //! along while steps are made, so that most of them are steps that would be taken.
 
+pub mod losses;
 pub mod plans;
 
-use crate::model::{self, Crash, Ends, Event, Group, Number, Packet, State, CRASHED};
+use crate::model::{
+    self, Crash, Ends, Event, Group, Number, Outcome, Packet, State, CRASHED, KINDS, TAKEN,
+};
+use std::collections::VecDeque;
 
 pub type Record = [u8; 6];
 
@@ -17,7 +21,7 @@ pub struct Case {
 /// What kind of cases are wanted.
 #[derive(Clone, Copy, Debug)]
 pub struct Wishes {
-    /// Whether a record of kind 11 may occur at all.
+    /// Whether records of kinds 11 and 12, damage and loss, may occur at all.
     pub damage: bool,
     /// Kinds above this one are unknown to the model.
     pub highest_kind: u8,
@@ -169,7 +173,8 @@ fn store_marks(dice: &mut Dice, n: usize) -> Vec<bool> {
     marks
 }
 
-/// Mostly at both outlets; now and then one of them has nothing anywhere.
+/// Mostly at both outlets; now and then one of them has nothing anywhere, or one outlet of one
+/// cabinet has nearly all: it can send any amount.
 fn bookings(dice: &mut Dice, n: usize) -> Vec<[u16; 2]> {
     let total = match dice.below(8) {
         0 => 65_535,
@@ -180,8 +185,18 @@ fn bookings(dice: &mut Dice, n: usize) -> Vec<[u16; 2]> {
     match dice.below(12) {
         0 => shares(dice, total, n).into_iter().map(|share| [share, 0]).collect(),
         1 => shares(dice, total, n).into_iter().map(|share| [0, share]).collect(),
+        2 | 3 => nearly_all_at_one(dice, n),
         _ => shares(dice, total, 2 * n).chunks(2).map(|pair| [pair[0], pair[1]]).collect(),
     }
+}
+
+fn nearly_all_at_one(dice: &mut Dice, n: usize) -> Vec<[u16; 2]> {
+    let rest = dice.below(10_000);
+    let mut booked: Vec<[u16; 2]> =
+        shares(dice, rest, 2 * n).chunks(2).map(|pair| [pair[0], pair[1]]).collect();
+    let more = dice.between(30_000, 65_535 - rest) as u16;
+    booked[dice.below(n)][dice.below(2)] += more;
+    booked
 }
 
 fn shares(dice: &mut Dice, total: usize, parts: usize) -> Vec<u16> {
@@ -336,11 +351,11 @@ fn add_to_number(file: &mut [u8], offset: usize, more: u16) {
 /// How a run behaves; drawn anew for each case. Chances are per thousand.
 struct Temper {
     /// Weight of each kind among sensible steps; entry 0 is not used.
-    weights: [usize; 12],
+    weights: [usize; 13],
     foolish: usize,
     /// Chance of a step that comes too soon.
     hasty: usize,
-    /// Chance that a fail or a damage is not kept from crashing the group.
+    /// Chance that a fail, a damage or a loss is not kept from crashing the group.
     bold: usize,
     /// Chance that the step after a commit strikes at it.
     strike_after_commit: usize,
@@ -358,13 +373,14 @@ fn some_cabinet(dice: &mut Dice, group: &Group, chance: usize) -> Option<Number>
 
 impl Temper {
     fn drawn(dice: &mut Dice, group: &Group, damage: bool) -> Temper {
-        let mut weights = [0, 250, 15, 0, 300, 160, 120, 160, 120, 80, 0, 0];
+        let mut weights = [0, 250, 15, 0, 300, 160, 120, 160, 120, 80, 0, 0, 0];
         for weight in &mut weights {
             *weight = *weight * dice.pick(&[1, 2, 4]) / 2;
         }
         weights[3] = dice.pick(&[3, 8, 20, 60]);
         weights[10] = dice.pick(&[0, 2, 5, 15]);
         weights[11] = if damage { dice.pick(&[0, 6, 12, 40]) } else { 0 };
+        weights[12] = if damage { dice.pick(&[0, 6, 12, 40]) } else { 0 };
         Temper {
             weights,
             foolish: dice.pick(&[0, 20, 80, 250]),
@@ -422,12 +438,27 @@ struct Run<'a> {
     last_event: Event,
     /// Tries left in which saved reports are asked for first.
     reports_first: usize,
+    /// Records that the last one was made for.
+    to_follow: VecDeque<Record>,
+    /// Tries left in which a save is brought on first: it finds a loss, or commits after one.
+    save_first: usize,
+    lost_since_recovery: bool,
 }
 
 impl Run<'_> {
     fn new(dice: &mut Dice, group: Group, wishes: Wishes) -> Run<'_> {
         let temper = Temper::drawn(dice, &group, wishes.damage);
-        Run { dice, group, wishes, temper, last_event: Event::Nothing, reports_first: 0 }
+        Run {
+            dice,
+            group,
+            wishes,
+            temper,
+            last_event: Event::Nothing,
+            reports_first: 0,
+            to_follow: VecDeque::new(),
+            save_first: 0,
+            lost_since_recovery: false,
+        }
     }
 
     fn make(&mut self, length: usize) -> Vec<u8> {
@@ -436,14 +467,25 @@ impl Run<'_> {
         while left > 0 {
             left -= 1;
             let record = self.next_record();
-            let outcome = self.group.step(&record, self.wishes.highest_kind);
-            self.last_event = outcome.event;
+            let outcome = self.take(record);
             steps.extend_from_slice(&record);
             if length < LONG {
                 left = left.min(self.worth_going_on(outcome.answer));
             }
         }
         steps
+    }
+
+    fn take(&mut self, record: Record) -> Outcome {
+        let outcome = self.group.step(&record, self.wishes.highest_kind);
+        self.last_event = outcome.event;
+        if record[0] == 12 && outcome.answer == TAKEN {
+            self.after_loss(record);
+        }
+        if matches!(outcome.event, Event::RecoveryEnd { .. }) {
+            self.after_recovery();
+        }
+        outcome
     }
 
     /// How many steps more are of any use after this answer.
@@ -458,6 +500,9 @@ impl Run<'_> {
     }
 
     fn next_record(&mut self) -> Record {
+        if let Some(record) = self.next_to_follow() {
+            return record;
+        }
         let foolish = self.temper.foolish;
         if self.dice.per_thousand(foolish) {
             return self.foolish_record();
@@ -488,11 +533,24 @@ impl Run<'_> {
         found.unwrap_or_else(|| self.foolish_record())
     }
 
-    /// For some tries after a laggard failed, the reports still owed come first.
+    /// A damage or loss that was meant for another moment would crash the group.
+    fn next_to_follow(&mut self) -> Option<Record> {
+        if self.group.recovery_under_way() {
+            self.to_follow.clear();
+        }
+        self.to_follow.pop_front()
+    }
+
+    /// For some tries after a laggard failed, the reports still owed come first; after a loss,
+    /// what a save needs.
     fn next_kind(&mut self) -> u8 {
         if self.reports_first > 0 {
             self.reports_first -= 1;
             return 6;
+        }
+        if self.save_first > 0 {
+            self.save_first -= 1;
+            return self.dice.pick(&[1, 3, 4, 4, 5, 6, 7, 8]);
         }
         self.temper.kind(self.dice)
     }
@@ -527,11 +585,12 @@ impl Run<'_> {
             2 => self.sensible_note(),
             4 => self.sensible_deliver(),
             10 => self.sensible_fail(),
-            11 if self.dice.per_thousand(150) => self.second_damage(),
+            11 if self.dice.per_thousand(150) => self.second_hurt(11),
             11 => {
                 let from = self.any_cabinet();
                 self.damage_on_lines_from(from)
             }
+            12 => self.sensible_loss(),
             _ => self.sensible_single(kind),
         }
     }
@@ -687,27 +746,21 @@ impl Run<'_> {
         let lines: Vec<_> = lines.into_iter().filter(|line| line.0 == from).collect();
         let (from, to) = self.dice.pick_any(&lines)?;
         let bold = self.temper.bold;
-        let dangerous =
-            self.group.recovery_under_way() || self.group.crashes_without_link(from, to);
-        if dangerous && !self.dice.per_thousand(bold) {
+        if self.dangerous_to_hurt(from, to) && !self.dice.per_thousand(bold) {
             return None;
         }
         let place = self.place_to_hurt(from, to);
         let pattern = self.pattern();
+        if self.dice.per_thousand(100) {
+            self.to_follow.push_back(record(12, from, to, place, 0));
+        }
         let record = record(11, from, to, place, pattern);
         (self.taken(&record) || self.dice.per_thousand(300)).then_some(record)
     }
 
-    /// On a line where a normal packet was hurt already; refused if it aims at a normal one.
-    fn second_damage(&mut self) -> Option<Record> {
-        if self.group.recovery_under_way() {
-            return None;
-        }
-        let hurt = |line: &(Number, Number)| self.group.line(line.0, line.1).hurt;
-        let lines: Vec<_> = self.filled_lines().into_iter().filter(hurt).collect();
-        let (from, to) = self.dice.pick_any(&lines)?;
-        let place = self.dice.below(self.group.line(from, to).packets.len());
-        Some(record(11, from, to, place as u8, self.pattern()))
+    /// At once, or once the hurt is found.
+    fn dangerous_to_hurt(&self, from: Number, to: Number) -> bool {
+        self.group.recovery_under_way() || self.group.crashes_without_link(from, to)
     }
 
     /// Fail-safe packets are hurt as often as normal ones.
@@ -764,7 +817,7 @@ impl Run<'_> {
     }
 
     fn random_record(&mut self) -> Record {
-        let kinds = if self.wishes.damage { 11 } else { 10 };
+        let kinds = if self.wishes.damage { 12 } else { 10 };
         let mut kind = self.dice.between(1, kinds) as u8;
         if kind == 10 && !self.dice.per_thousand(30) {
             kind = 9; // a fail is nearly always taken, and then it mostly crashes the group
@@ -773,13 +826,13 @@ impl Run<'_> {
         let b = if names_b { self.any_cabinet() } else { 0 };
         let p = if names_p { self.strange_p(kind) } else { 0 };
         let q = if names_q { self.strange_value() } else { 0 };
-        if kind == 11 && self.group.recovery_under_way() && !self.dice.per_thousand(100) {
-            return record(11, self.any_cabinet(), b, 12, q);
+        if kind > 10 && self.group.recovery_under_way() && !self.dice.per_thousand(100) {
+            return record(kind, self.any_cabinet(), b, 12, q);
         }
         record(kind, self.any_cabinet(), b, p, q)
     }
 
-    /// The outlets of a send, the octet of a note or the place of a damage.
+    /// The outlets of a send, the octet of a note or the place of a damage or loss.
     fn strange_p(&mut self, kind: u8) -> u8 {
         if kind == 1 && self.dice.per_thousand(700) {
             return self.dice.below(4) as u8;
@@ -795,8 +848,9 @@ impl Run<'_> {
     }
 
     fn with_unknown_kind(&mut self, mut record: Record) -> Record {
-        let any = self.dice.between(12, 255) as u8;
-        record[0] = self.dice.pick(&[0, 12, 255, any]);
+        let beyond = KINDS + 1;
+        let any = self.dice.between(usize::from(beyond), 255) as u8;
+        record[0] = self.dice.pick(&[0, beyond, 255, any]);
         record
     }
 
@@ -826,18 +880,19 @@ impl Run<'_> {
 mod tests {
     use super::*;
     use crate::listing::{counted_listing, Tally};
+    use crate::losses::{Finding, Refused};
     use crate::model::Outlet;
     use crate::outlets::Cover;
 
     fn wishes(damage: bool) -> Wishes {
-        Wishes { damage, highest_kind: 11, cabinets: None }
+        Wishes { damage, highest_kind: KINDS, cabinets: None }
     }
 
     fn tally_of(cases: u64, wishes: Wishes) -> Tally {
         let mut tally = Tally::default();
         for index in 0..cases {
             let case = make_case(case_seed(7, index), wishes);
-            tally.add(&counted_listing(&case.group, &case.steps, 11).1);
+            tally.add(&counted_listing(&case.group, &case.steps, KINDS).1);
         }
         tally
     }
@@ -848,10 +903,10 @@ mod tests {
     }
 
     #[test]
-    fn without_damage_no_record_has_kind_11() {
+    fn without_damage_no_record_has_kind_11_or_12() {
         for index in 0..200 {
             let case = make_case(case_seed(3, index), wishes(false));
-            assert!(case.steps.chunks(6).all(|record| record[0] != 11));
+            assert!(case.steps.chunks(6).all(|record| ![11, 12].contains(&record[0])));
         }
     }
 
@@ -862,10 +917,43 @@ mod tests {
         assert_eq!(answers, [0, 8, 9, 10, 11, 12, 13, 14, 15, 16, 17, 18, 19, 20, 50]);
         let refusals: Vec<u8> = tally.loads_refused.keys().copied().collect();
         assert_eq!(refusals, [1, 2, 3, 4, 5, 6, 7]);
-        assert_eq!(tally.kinds_taken.len(), 11);
-        assert_eq!(tally.crashes.len(), 6);
+        assert_eq!(tally.kinds_taken.len(), 12);
+        assert_eq!(tally.crashes.len(), 7);
         assert!(tally.commits > 0 && tally.recoveries_ended > 0);
         assert!(tally.saves_passed_over > 0 && tally.link_faults > 0);
+    }
+
+    #[test]
+    fn the_cases_reach_what_losses_bring() {
+        let counts = tally_of(600, wishes(true)).losses;
+        assert!(counts.taken > 0 && counts.taken_before_others > 0 && counts.crashes > 0);
+        assert!(counts.refused.keys().eq(&Refused::ALL));
+        assert!(counts.found.keys().eq(&[Finding::Crc, Finding::CountAlone]));
+        assert!(counts.damage_refused > 0 && counts.recoveries_ended > 0);
+        assert!(counts.commits_after_recovery > 0);
+    }
+
+    fn uses_a_hurt_line(group: &Group) -> bool {
+        let mut working = group.working_cabinets().into_iter();
+        working.any(|from| {
+            let neighbours = group.cabinet(from).neighbours();
+            neighbours.into_iter().any(|to| group.line(from, to).hurt)
+        })
+    }
+
+    /// Whatever was damaged or lost before a save's begin is found before its commit.
+    #[test]
+    fn no_save_commits_over_a_hurt_line() {
+        for index in 0..400 {
+            let case = make_case(case_seed(11, index), wishes(true));
+            let Ok(mut group) = model::load(&case.group) else {
+                continue;
+            };
+            for record in case.steps.chunks(6) {
+                let committed = group.step(record, KINDS).event == Event::Commit;
+                assert!(!(committed && uses_a_hurt_line(&group)));
+            }
+        }
     }
 
     #[test]

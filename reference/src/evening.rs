@@ -302,6 +302,7 @@ fn seen(sights: &[(Sight, bool)]) -> Vec<Sight> {
 #[cfg(test)]
 mod tests {
     use super::*;
+    use crate::model::KINDS;
 
     const GROUP: [u8; 24] =
         [0, 2, 0, 1, 0, 10, 0, 22, 0, 24, 1, 1, 0, 100, 0, 10, 1, 0, 0, 50, 0, 5, 1, 2];
@@ -316,7 +317,7 @@ mod tests {
     }
 
     fn printed(records: &[Vec<u8>]) -> String {
-        evening(&GROUP, &records.concat(), 11)
+        evening(&GROUP, &records.concat(), KINDS)
     }
 
     #[test]
@@ -357,7 +358,7 @@ mod tests {
     #[test]
     fn malformed_records_are_named_by_their_first_octet() {
         let odd = vec![0, 3, 1, 0, 0, 0, 0, 0, 1];
-        let plan = [odd, vec![3; 9], step([12, 0, 0, 0, 0, 0]), vec![1, 0]];
+        let plan = [odd, vec![3; 9], step([13, 0, 0, 0, 0, 0]), vec![1, 0]];
         let answers = "step 1 8\nstep 2 8\nstep 3 8\npoint 4 8\n";
         assert_eq!(printed(&plan), format!("{answers}{CABINETS}"));
         assert_eq!(printed(&[vec![2; 8]]), format!("return 1 8\n{CABINETS}"));
@@ -366,7 +367,7 @@ mod tests {
 
     #[test]
     fn files_that_are_empty_or_long() {
-        assert_eq!(evening(&[], &[], 11), "load 1\n");
+        assert_eq!(evening(&[], &[], KINDS), "load 1\n");
         assert_eq!(printed(&[]), CABINETS);
         assert_eq!(printed(&vec![named(1, 1); 10_001]).lines().count(), 10_002);
     }

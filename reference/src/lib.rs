@@ -1,10 +1,12 @@
 //! The model, its cases and its listings, for the command line and for the benchmark.
 
+mod aim;
 pub mod cases;
 pub mod compare;
 pub mod evening;
 pub mod form;
 pub mod listing;
+pub mod losses;
 pub mod model;
 pub mod ops;
 pub mod outlets;

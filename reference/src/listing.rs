@@ -1,7 +1,9 @@
 //! The listing: the text a program prints for a group file and a steps file, and counts of
 //! what happened on the way.
 
+use crate::aim::Aim;
 use crate::evening::Sight;
+use crate::losses::{LossCounts, LossWatch};
 use crate::model::{self, Crash, Event, Group, Outcome, State, Version, RECORD_LENGTH, TAKEN};
 use crate::outlets::{OutletCounts, Watch};
 use std::collections::BTreeMap;
@@ -23,6 +25,7 @@ pub struct Tally {
     pub link_faults: u64,
     pub crashes: BTreeMap<Crash, u64>,
     pub outlets: OutletCounts,
+    pub losses: LossCounts,
     pub point_answers: BTreeMap<u8, u64>,
     pub return_answers: BTreeMap<u8, u64>,
     pub sights: BTreeMap<Sight, u64>,
@@ -76,6 +79,7 @@ impl Tally {
         add_counts(&mut self.kinds_taken, &other.kinds_taken);
         add_counts(&mut self.crashes, &other.crashes);
         self.outlets.add(&other.outlets);
+        self.losses.add(&other.losses);
         add_counts(&mut self.point_answers, &other.point_answers);
         add_counts(&mut self.return_answers, &other.return_answers);
         add_counts(&mut self.sights, &other.sights);
@@ -92,7 +96,7 @@ impl Tally {
         let _ = writeln!(text, "link faults found: {}", self.link_faults);
         let crashes: u64 = self.crashes.values().sum();
         let _ = writeln!(text, "crashes: {crashes} ({})", counts_text(&self.crashes));
-        text + &self.outlets.report()
+        text + &self.outlets.report() + &self.losses.report()
     }
 
     /// What points and returns add to the report.
@@ -111,19 +115,23 @@ impl Tally {
 pub(crate) struct Counter {
     pub(crate) tally: Tally,
     watch: Watch,
+    loss_watch: LossWatch,
 }
 
 impl Counter {
     pub(crate) fn new() -> Counter {
-        Counter { tally: Tally::of_one_case(), watch: Watch::default() }
+        let (watch, loss_watch) = (Watch::default(), LossWatch::default());
+        Counter { tally: Tally::of_one_case(), watch, loss_watch }
     }
 
     pub(crate) fn step(&mut self, group: &mut Group, record: &[u8], highest_kind: u8) -> Outcome {
+        let aim = Aim::of(group, record);
         self.watch.before_step(group);
         let outcome = group.step(record, highest_kind);
-        self.watch.after_step(group, record, outcome);
+        self.watch.after_step(aim, record, outcome);
         self.tally.count_step(record, outcome);
         self.tally.outlets.count_step(&self.watch, group, record, outcome);
+        self.tally.losses.count_step(&mut self.loss_watch, aim, record, outcome);
         outcome
     }
 }
@@ -191,6 +199,7 @@ fn version_text(version: Version) -> String {
 #[cfg(test)]
 mod tests {
     use super::*;
+    use crate::model::KINDS;
 
     const GROUP: [u8; 24] =
         [0, 2, 0, 1, 0, 10, 0, 22, 0, 24, 1, 1, 0, 100, 0, 0, 1, 0, 0, 50, 0, 0, 1, 2];
@@ -209,17 +218,17 @@ mod tests {
         ];
         let expected = "step 1 0\nstep 2 0\nstep 3 0\nstep 4 0\nstep 5 0\nstep 6 0\n\
                         step 7 0\nstep 8 0\ncab 1 normal 0 100 0\ncab 2 failed\n";
-        let (text, tally) = counted_listing(&GROUP, &steps.concat(), 11);
+        let (text, tally) = counted_listing(&GROUP, &steps.concat(), KINDS);
         assert_eq!(text, expected);
         assert_eq!(tally.recoveries_ended, 1);
     }
 
     #[test]
     fn empty_files_and_short_records() {
-        assert_eq!(listing(&[], &[], 11), "load 1\n");
+        assert_eq!(listing(&[], &[], KINDS), "load 1\n");
         let cabinets = "cab 1 normal 0 100 0\ncab 2 normal 0 50 0\n";
-        assert_eq!(listing(&GROUP, &[], 11), cabinets);
-        assert_eq!(listing(&GROUP, &[4, 1, 2], 11), format!("step 1 8\n{cabinets}"));
+        assert_eq!(listing(&GROUP, &[], KINDS), cabinets);
+        assert_eq!(listing(&GROUP, &[4, 1, 2], KINDS), format!("step 1 8\n{cabinets}"));
     }
 
     #[test]
@@ -230,12 +239,12 @@ mod tests {
         let steps = [[1, 1, 2, 1, 0, 30], [4, 1, 2, 0, 0, 0]];
         let cabinets = "cab 1 normal 0 70 7\ncab 2 normal 0 50 286\n";
         let expected = format!("step 1 0\nstep 2 0\n{cabinets}");
-        assert_eq!(listing(&group, &steps.concat(), 11), expected);
+        assert_eq!(listing(&group, &steps.concat(), KINDS), expected);
     }
 
     #[test]
     fn ten_thousand_records_are_read() {
         let steps = [0; 6 * 10_001];
-        assert_eq!(listing(&GROUP, &steps, 11).lines().count(), 10_002);
+        assert_eq!(listing(&GROUP, &steps, KINDS).lines().count(), 10_002);
     }
 }

@@ -4,8 +4,9 @@ use reference::cases::{case_seed, make_case, Case, Wishes};
 use reference::compare::{self, Row};
 use reference::form::Form;
 use reference::listing::{listing, Tally};
+use reference::model::KINDS;
 use reference::ops;
-use reference::widened::{with_two_outlets, LeftOut};
+use reference::widened::{with_two_outlets, without_kind_12, LeftOut};
 use std::collections::BTreeMap;
 use std::io::{self, Write};
 use std::path::{Path, PathBuf};
@@ -14,12 +15,12 @@ use std::time::{Duration, Instant};
 use std::{env, fs};
 
 const USAGE: &str = "usage:
-  reference list DIR [--kinds 10|11]
-  reference evening DIR [--kinds 10|11]
-  reference compare PROGRAM [--plans] [--seed S] [--cases N] [--damage] [--kinds 10|11]
-  reference make OUT [--plans] [--seed S] [--cases N] [--damage] [--kinds 10|11]
-  reference pack DIR OUT [--plans] [--from-01]
-  reference vectors DIR
+  reference list DIR [--kinds 10|11|12]
+  reference evening DIR [--kinds 10|11|12]
+  reference compare PROGRAM [--plans] [--seed S] [--cases N] [--damage] [--kinds 10|11|12]
+  reference make OUT [--plans] [--seed S] [--cases N] [--damage] [--kinds 10|11|12]
+  reference pack DIR OUT [--plans] [--from-01 | --without-12]
+  reference vectors DIR [--kinds 10|11|12]
   reference bench [--seed S]";
 
 // ---------------------------------------------------------------- arguments
@@ -31,6 +32,7 @@ struct Options {
     form: Form,
     damage: bool,
     from_01: bool,
+    without_12: bool,
     highest_kind: u8,
 }
 
@@ -44,6 +46,7 @@ impl Options {
                 "--plans" => options.form = Form::Plan,
                 "--damage" => options.damage = true,
                 "--from-01" => options.from_01 = true,
+                "--without-12" => options.without_12 = true,
                 "--kinds" => options.highest_kind = kinds(&arguments.next()?)?,
                 other if other.starts_with("--") => return None,
                 _ => options.words.push(argument),
@@ -68,14 +71,15 @@ impl Default for Options {
             form: Form::Steps,
             damage: false,
             from_01: false,
-            highest_kind: 11,
+            without_12: false,
+            highest_kind: KINDS,
         }
     }
 }
 
 fn kinds(word: &str) -> Option<u8> {
     let number = word.parse().ok()?;
-    (10..=11).contains(&number).then_some(number)
+    (10..=KINDS).contains(&number).then_some(number)
 }
 
 fn main() -> ExitCode {
@@ -152,7 +156,8 @@ fn make(file: &Path, options: &Options) -> io::Result<ExitCode> {
     Ok(ExitCode::SUCCESS)
 }
 
-/// The case folders of one form, with their stored texts, as a container.
+/// The case folders of one form as a container. The texts come from theirs and not from the
+/// model, which is asked beside them.
 fn pack(folder: &Path, file: &Path, options: &Options) -> io::Result<ExitCode> {
     let form = options.form;
     let mut folders = case_folders(folder)?;
@@ -161,29 +166,11 @@ fn pack(folder: &Path, file: &Path, options: &Options) -> io::Result<ExitCode> {
         eprintln!("no case folder with {} below {}", form.records_file(), folder.display());
         return Ok(ExitCode::from(2));
     }
-    let paths: Vec<PathBuf> = folders.into_iter().map(|(_, path)| path).collect();
-    if options.from_01 {
-        return pack_from_01(&paths, file, options);
-    }
-    let mut out = io::BufWriter::new(fs::File::create(file)?);
-    for path in &paths {
-        write_case(&mut out, &form.case_in_folder(path), &form.expected_text(path)?)?;
-    }
-    out.flush()?;
-    println!("{} cases packed", paths.len());
-    Ok(ExitCode::SUCCESS)
-}
-
-/// Cases of document 01 as cases of card 2. The texts come from theirs and not from the model,
-/// which is asked beside them.
-fn pack_from_01(folders: &[PathBuf], file: &Path, options: &Options) -> io::Result<ExitCode> {
-    let form = options.form;
     let mut out = io::BufWriter::new(fs::File::create(file)?);
     let mut left_out: BTreeMap<LeftOut, u64> = BTreeMap::new();
     let (mut packed, mut differ) = (0, Vec::new());
-    for folder in folders {
-        let text = String::from_utf8_lossy(&form.expected_text(folder)?).into_owned();
-        match with_two_outlets(form, &form.case_in_folder(folder), &text) {
+    for (_, folder) in &folders {
+        match case_to_pack(folder, options)? {
             Ok((case, text)) => {
                 write_case(&mut out, &case, text.as_bytes())?;
                 packed += 1;
@@ -199,6 +186,20 @@ fn pack_from_01(folders: &[PathBuf], file: &Path, options: &Options) -> io::Resu
     differ.iter().for_each(|folder| println!("{}", folder.display()));
     println!("{} left out {left_out:?}", left_out.values().sum::<u64>());
     Ok(if differ.is_empty() { ExitCode::SUCCESS } else { ExitCode::FAILURE })
+}
+
+/// The case of a folder with its text, as it reads by the cards so far.
+fn case_to_pack(folder: &Path, options: &Options) -> io::Result<Result<(Case, String), LeftOut>> {
+    let form = options.form;
+    let case = form.case_in_folder(folder);
+    let text = String::from_utf8_lossy(&form.expected_text(folder)?).into_owned();
+    Ok(if options.from_01 {
+        with_two_outlets(form, &case, &text)
+    } else if options.without_12 {
+        without_kind_12(form, &case, &text).map(|()| (case, text))
+    } else {
+        Ok((case, text))
+    })
 }
 
 // ---------------------------------------------------------------- vectors
@@ -269,7 +270,7 @@ fn bench(options: &Options) -> io::Result<ExitCode> {
 }
 
 fn bench_cases(seed: u64, n: usize) -> Vec<Case> {
-    let wishes = Wishes { damage: true, highest_kind: 11, cabinets: Some(n) };
+    let wishes = Wishes { damage: true, highest_kind: KINDS, cabinets: Some(n) };
     (0..BENCH_CASES).map(|index| make_case(case_seed(seed, index), wishes)).collect()
 }
 
@@ -279,7 +280,7 @@ fn listing_speed(cases: &[Case], steps: usize) -> f64 {
     let mut listed = 0;
     while start.elapsed() < BENCH_TIME {
         for case in cases {
-            std::hint::black_box(listing(&case.group, &case.steps, 11));
+            std::hint::black_box(listing(&case.group, &case.steps, KINDS));
         }
         listed += steps;
     }

@@ -1,4 +1,4 @@
-//! The charger group: cabinets, lines and store, the load of a group file and the eleven
+//! The charger group: cabinets, lines and store, the load of a group file and the twelve
 //! kinds of step. Written from the scope document and the decisions alone; cabinet numbers
 //! are 1 to n here, as they are there.
 
@@ -15,12 +15,15 @@ pub const NORMAL_PLACES: usize = 8;
 const LINE_PLACES: usize = 12;
 const PIECES: usize = 4;
 const PIECE_LENGTH: usize = 8;
-const CHECK_START: u16 = 0xFFFF;
+const CRC_START: u16 = 0xFFFF;
+
+/// The highest kind of step that the documents name so far.
+pub const KINDS: u8 = 12;
 
 // ---------------------------------------------------------------- the check value
 
-/// One octet more under the check: polynomial 0x1021, high bit first.
-fn check_octet(register: u16, octet: u8) -> u16 {
+/// One octet more under the CRC: polynomial 0x1021, high bit first.
+fn crc_octet(register: u16, octet: u8) -> u16 {
     let mut value = register ^ (u16::from(octet) << 8);
     for _ in 0..8 {
         let carry = value & 0x8000 != 0;
@@ -32,14 +35,27 @@ fn check_octet(register: u16, octet: u8) -> u16 {
     value
 }
 
-pub fn check_octets(register: u16, octets: &[u8]) -> u16 {
-    octets.iter().fold(register, |r, &o| check_octet(r, o))
+pub fn crc_octets(register: u16, octets: &[u8]) -> u16 {
+    octets.iter().fold(register, |r, &o| crc_octet(r, o))
 }
 
-/// A normal packet runs through the check as its outlet's octet and its amount.
-fn check_normal_packet(register: u16, charge: Charge) -> u16 {
-    let [high, low] = charge.amount.to_be_bytes();
-    check_octets(register, &[charge.outlet.octet(), high, low])
+/// What runs over the normal packets of a line at either end: the CRC of their octets, and how
+/// many they are, modulo 65,536.
+#[derive(Clone, Copy, PartialEq, Eq, Debug)]
+pub struct Check {
+    pub crc: u16,
+    pub count: u16,
+}
+
+impl Check {
+    const START: Check = Check { crc: CRC_START, count: 0 };
+
+    /// A normal packet runs through the CRC as its outlet's octet and its amount.
+    fn and(self, charge: Charge) -> Check {
+        let [high, low] = charge.amount.to_be_bytes();
+        let crc = crc_octets(self.crc, &[charge.outlet.octet(), high, low]);
+        Check { crc, count: self.count.wrapping_add(1) }
+    }
 }
 
 // ---------------------------------------------------------------- outlets
@@ -53,7 +69,7 @@ pub enum Outlet {
 
 impl Outlet {
     /// The first octet of a normal packet for this outlet.
-    fn octet(self) -> u8 {
+    pub fn octet(self) -> u8 {
         match self {
             Outlet::A => 0x00,
             Outlet::B => 0x01,
@@ -106,7 +122,7 @@ impl Ends {
         }
     }
 
-    fn receiving(self) -> Outlet {
+    pub fn receiving(self) -> Outlet {
         match self {
             Ends::AA | Ends::BA => Outlet::A,
             Ends::AB | Ends::BB => Outlet::B,
@@ -182,7 +198,7 @@ pub enum Place {
 #[derive(Clone, Copy, PartialEq, Eq, Debug)]
 pub enum Packet {
     Normal(Charge),
-    Checkp(u16),
+    Checkp(Check),
     Resume,
     Recover(u8),
     Fault(Place),
@@ -192,7 +208,7 @@ pub enum Packet {
 #[derive(Clone, Default)]
 pub struct Line {
     pub packets: VecDeque<Packet>,
-    /// A normal packet of this line was hurt since the receiver's register restarted.
+    /// A normal packet of this line was damaged or lost since the receiver's check restarted.
     pub hurt: bool,
 }
 
@@ -235,8 +251,8 @@ pub struct Cabinet {
     store: bool,
     cabinets_in_use: BTreeSet<Number>,
     links_in_use: BTreeSet<Number>,
-    sent_check: Vec<u16>,
-    taken_check: Vec<u16>,
+    sent_check: Vec<Check>,
+    taken_check: Vec<Check>,
     noted: Noted,
     reports_owed: BTreeSet<Number>,
     trouble: Option<Trouble>,
@@ -452,8 +468,8 @@ fn starting_cabinet(
         store: entry.mark == 1,
         cabinets_in_use: (1..=n).collect(),
         links_in_use: (1..=n).filter(linked).collect(),
-        sent_check: vec![CHECK_START; n],
-        taken_check: vec![CHECK_START; n],
+        sent_check: vec![Check::START; n],
+        taken_check: vec![Check::START; n],
         noted: Noted::default(),
         reports_owed: BTreeSet::new(),
         trouble: None,
@@ -479,6 +495,7 @@ pub enum Step {
     WaitOver(Number),
     Fail(Number),
     Damage { from: Number, to: Number, place: u8, pattern: u16 },
+    Lose { from: Number, to: Number, place: u8 },
 }
 
 /// Refusals 8 and 9; kinds above `highest_kind` are unknown.
@@ -503,6 +520,7 @@ pub fn fields_named(kind: u8) -> (bool, bool, bool) {
         1 | 11 => (true, true, true),
         2 => (false, true, true),
         4 => (true, false, false),
+        12 => (true, true, false),
         _ => (false, false, false),
     }
 }
@@ -520,6 +538,7 @@ fn step_of_fields(kind: u8, a: Number, b: Number, p: u8, q: u16) -> Option<Step>
         9 => Step::WaitOver(a),
         10 => Step::Fail(a),
         11 => Step::Damage { from: a, to: b, place: p, pattern: q },
+        12 => Step::Lose { from: a, to: b, place: p },
         _ => return None,
     })
 }
@@ -529,7 +548,8 @@ impl Step {
         match *self {
             Step::Send { from, to, .. }
             | Step::Deliver { from, to }
-            | Step::Damage { from, to, .. } => vec![from, to],
+            | Step::Damage { from, to, .. }
+            | Step::Lose { from, to, .. } => vec![from, to],
             Step::Note { at: a, .. }
             | Step::Begin(a)
             | Step::Write(a)
@@ -581,6 +601,7 @@ pub enum Crash {
     StoreFailed,
     FailInRecovery,
     DamageInRecovery,
+    LossInRecovery,
     PlacesMet,
     CutOffByFail,
     CutOffByLinkFault,
@@ -611,6 +632,11 @@ impl Group {
 
     pub fn recovery_under_way(&self) -> bool {
         self.cabinets.iter().any(|c| c.state.in_recovery())
+    }
+
+    /// The sender's check on this line, and the receiver's.
+    pub fn checks(&self, from: Number, to: Number) -> [Check; 2] {
+        [self.cabinet(from).sent_check[to - 1], self.cabinet(to).taken_check[from - 1]]
     }
 
     pub fn working_cabinets(&self) -> BTreeSet<Number> {
@@ -685,6 +711,7 @@ impl Group {
             Step::Damage { from, to, place, pattern } => {
                 self.damage_refusal(from, to, place, pattern)
             }
+            Step::Lose { from, to, place } => self.loss_refusal(from, to, place),
         }
     }
 
@@ -784,6 +811,16 @@ impl Group {
             (20, normal && line.hurt),
         ])
     }
+
+    fn loss_refusal(&self, from: Number, to: Number, place: u8) -> Option<u8> {
+        let line = self.line(from, to);
+        let packet = line.packets.get(usize::from(place));
+        first_refusal(&[
+            (13, !self.link_in_file(from, to)),
+            (18, !matches!(packet, Some(Packet::Normal(_)))),
+            (20, line.hurt),
+        ])
+    }
 }
 
 fn first_refusal(checks: &[(u8, bool)]) -> Option<u8> {
@@ -836,6 +873,7 @@ impl Group {
             Step::Damage { from, to, place, pattern } => {
                 self.damage(from, to, usize::from(place), pattern)?;
             }
+            Step::Lose { from, to, place } => self.lose(from, to, usize::from(place))?,
         }
         Ok(Event::Nothing)
     }
@@ -856,8 +894,8 @@ impl Group {
         let charge = Charge { outlet: ends.receiving(), amount };
         let sender = self.cabinet_mut(from);
         sender.set_booking(ends.sending(), sender.booking(ends.sending()) - amount);
-        let register = &mut sender.sent_check[to - 1];
-        *register = check_normal_packet(*register, charge);
+        let check = &mut sender.sent_check[to - 1];
+        *check = check.and(charge);
         self.line_mut(from, to).put(Packet::Normal(charge));
     }
 }
@@ -904,8 +942,8 @@ impl Group {
                 self.find_link_fault(from, to)?;
                 return Ok(Event::LinkFault { by_comparison: false });
             }
-            Packet::Checkp(value) if matches!(state, State::Normal | State::CheckpBegin) => {
-                return self.receive_checkp(from, to, value);
+            Packet::Checkp(sent) if matches!(state, State::Normal | State::CheckpBegin) => {
+                return self.receive_checkp(from, to, sent);
             }
             Packet::Resume if state == State::Checkpointed => self.resume_after_save(from, to),
             Packet::Fault(place) => {
@@ -930,8 +968,8 @@ impl Group {
         let Charge { outlet, amount } = charge;
         let receiver = self.cabinet_mut(to);
         receiver.set_booking(outlet, receiver.booking(outlet).wrapping_add(amount));
-        let register = &mut receiver.taken_check[from - 1];
-        *register = check_normal_packet(*register, charge);
+        let check = &mut receiver.taken_check[from - 1];
+        *check = check.and(charge);
     }
 
     fn receive_in_recovery(
@@ -970,15 +1008,15 @@ impl Group {
         cabinet.state = State::CheckpBegin;
         cabinet.noted = Noted::default();
         for to in cabinet.neighbours() {
-            let register = &mut self.cabinet_mut(a).sent_check[to - 1];
-            let value = std::mem::replace(register, CHECK_START);
-            self.line_mut(a, to).put(Packet::Checkp(value));
+            let check = &mut self.cabinet_mut(a).sent_check[to - 1];
+            let sent = std::mem::replace(check, Check::START);
+            self.line_mut(a, to).put(Packet::Checkp(sent));
         }
         self.cut_when_all_checkps_came(a);
     }
 
-    fn receive_checkp(&mut self, from: Number, to: Number, value: u16) -> Result<Event, Crash> {
-        if self.cabinet(to).taken_check[from - 1] != value {
+    fn receive_checkp(&mut self, from: Number, to: Number, sent: Check) -> Result<Event, Crash> {
+        if self.cabinet(to).taken_check[from - 1] != sent {
             self.find_link_fault(from, to)?;
             return Ok(Event::LinkFault { by_comparison: true });
         }
@@ -992,7 +1030,7 @@ impl Group {
     }
 
     fn restart_receiver(&mut self, from: Number, to: Number) {
-        self.cabinet_mut(to).taken_check[from - 1] = CHECK_START;
+        self.cabinet_mut(to).taken_check[from - 1] = Check::START;
         self.line_mut(from, to).hurt = false;
     }
 
@@ -1140,7 +1178,7 @@ impl Group {
     fn enter_recovered(&mut self, a: Number) {
         let cabinet = self.cabinet_mut(a);
         cabinet.state = State::Recovered;
-        cabinet.sent_check.fill(CHECK_START);
+        cabinet.sent_check.fill(Check::START);
         for other in self.numbers() {
             self.restart_receiver(other, a);
         }
@@ -1195,6 +1233,17 @@ impl Group {
         } else {
             line.packets[place] = Packet::Invalid;
         }
+        Ok(())
+    }
+
+    /// The packets behind the lost one move up.
+    fn lose(&mut self, from: Number, to: Number, place: usize) -> Result<(), Crash> {
+        if self.recovery_under_way() {
+            return Err(Crash::LossInRecovery);
+        }
+        let line = self.line_mut(from, to);
+        line.packets.remove(place);
+        line.hurt = true;
         Ok(())
     }
 }
@@ -1296,7 +1345,7 @@ mod tests {
     }
 
     fn answers(group: &mut Group, records: &[Record]) -> Vec<u8> {
-        records.iter().map(|record| group.step(record, 11).answer).collect()
+        records.iter().map(|record| group.step(record, KINDS).answer).collect()
     }
 
     type Record = [u8; 6];
@@ -1340,13 +1389,22 @@ mod tests {
             one(6, 1),
         ];
         assert_eq!(answers(group, &records), [0; 12]);
-        assert_eq!(group.step(&one(6, 2), 11).event, Event::Commit);
+        assert_eq!(group.step(&one(6, 2), KINDS).event, Event::Commit);
     }
 
     #[test]
     fn check_values_agree_with_the_published_ones() {
-        assert_eq!(check_octets(CHECK_START, b""), 0xFFFF);
-        assert_eq!(check_octets(CHECK_START, b"123456789"), 0x29B1);
+        assert_eq!(crc_octets(CRC_START, b""), 0xFFFF);
+        assert_eq!(crc_octets(CRC_START, b"123456789"), 0x29B1);
+    }
+
+    #[test]
+    fn packets_are_counted_modulo_65536() {
+        let charge = Charge { outlet: A, amount: 1 };
+        let checks = std::iter::successors(Some(Check::START), |check| Some(check.and(charge)));
+        let counts: Vec<u16> = checks.map(|check| check.count).take(65_538).collect();
+        assert_eq!(counts[..3], [0, 1, 2]);
+        assert_eq!(counts[65_535..], [65_535, 0, 1]);
     }
 
     #[test]
@@ -1442,8 +1500,8 @@ mod tests {
         for (p, outlet) in [(0, 0x00), (1, 0x01), (2, 0x00), (3, 0x01)] {
             let mut group = group_of_both(&[[100, 200], [10, 20]]);
             assert_eq!(answers(&mut group, &[send_by(p, 7), one(3, 1)]), [0, 0]);
-            let value = check_octets(CHECK_START, &[outlet, 0, 7]);
-            assert_eq!(group.line(1, 2).packets[1], Packet::Checkp(value));
+            let sent = Check { crc: crc_octets(CRC_START, &[outlet, 0, 7]), count: 1 };
+            assert_eq!(group.line(1, 2).packets[1], Packet::Checkp(sent));
             assert_eq!(answers(&mut group, &[deliver(1, 2), deliver(1, 2)]), [0, 0]);
             assert_eq!(group.cabinet(2).state, State::Checkpointing);
         }
@@ -1456,7 +1514,7 @@ mod tests {
         assert_eq!(answers(&mut group, &[send_by(1, 7), hurt]), [0, 0]);
         let charge = Charge { outlet: B, amount: 7 ^ 0x0101 };
         assert_eq!(group.line(1, 2).packets[0], Packet::Normal(charge));
-        assert_eq!(group.step(&deliver(1, 2), 11).event, Event::Added(B));
+        assert_eq!(group.step(&deliver(1, 2), KINDS).event, Event::Added(B));
         assert_eq!(bookings(&group)[1], [10, 20 + (7 ^ 0x0101)]);
     }
 
@@ -1502,14 +1560,17 @@ mod tests {
     #[test]
     fn malformed_records_are_refused_in_order() {
         let mut group = group(&[100, 50]);
-        assert_eq!(group.step(&[4, 1, 2], 11).answer, 8);
-        assert_eq!(group.step(&[12, 0, 0, 0, 0, 0], 11).answer, 8);
-        assert_eq!(group.step(&[11, 1, 2, 0, 0, 1], 10).answer, 8);
-        assert_eq!(group.step(&[11, 1, 2, 0, 0, 1], 11).answer, 18);
-        assert_eq!(group.step(&[3, 9, 1, 0, 0, 0], 11).answer, 9);
-        assert_eq!(group.step(&[3, 9, 0, 0, 0, 0], 11).answer, 11);
-        assert_eq!(group.step(&[4, 1, 2, 1, 0, 0], 11).answer, 9);
-        assert_eq!(group.step(&[1, 1, 2, 1, 0, 1], 11).answer, 0);
+        assert_eq!(group.step(&[4, 1, 2], KINDS).answer, 8);
+        assert_eq!(group.step(&[13, 0, 0, 0, 0, 0], KINDS).answer, 8);
+        for (kind, low) in [(11, 1), (12, 0)] {
+            let hurt = [kind, 1, 2, 0, 0, low];
+            assert_eq!(group.step(&hurt, kind - 1).answer, 8);
+            assert_eq!(group.step(&hurt, kind).answer, 18);
+        }
+        assert_eq!(group.step(&[3, 9, 1, 0, 0, 0], KINDS).answer, 9);
+        assert_eq!(group.step(&[3, 9, 0, 0, 0, 0], KINDS).answer, 11);
+        assert_eq!(group.step(&[4, 1, 2, 1, 0, 0], KINDS).answer, 9);
+        assert_eq!(group.step(&[1, 1, 2, 1, 0, 1], KINDS).answer, 0);
     }
 
     #[test]
@@ -1526,7 +1587,7 @@ mod tests {
         commit_of_two(&mut group);
         let records = [one(10, 1), one(9, 2), one(7, 2), one(7, 2), one(7, 2), one(7, 2)];
         assert_eq!(answers(&mut group, &records), [0; 6]);
-        let end = group.step(&one(8, 2), 11);
+        let end = group.step(&one(8, 2), KINDS);
         assert_eq!(end.event, Event::RecoveryEnd { save_passed_over: true });
         assert_eq!(group.cabinet(2).version, Version::Known(0));
         assert_eq!(group.cabinet(2).bookings(), [50, 5]);

@@ -1,6 +1,7 @@
 //! Counts of what two outlets bring: where sends and packets go, and what one outlet alone
 //! would have answered otherwise.
 
+use crate::aim::Aim;
 use crate::listing::{add_counts, count, counts_text};
 use crate::model::{self, Cabinet, Ends, Event, Group, Number, Outcome, Outlet, Packet, TAKEN};
 use crate::model::{CABINET_ENTRY_LENGTH, HEADER_LENGTH};
@@ -126,7 +127,7 @@ fn loads_without_b(group_file: &[u8]) -> bool {
 }
 
 /// For the counts only: B's bookings as they were before the recovery under way, and the outlet
-/// of the packet that was hurt last on each line.
+/// of the packet that was damaged or lost last on each line.
 #[derive(Default)]
 pub(crate) struct Watch {
     before_fault: [u16; 8],
@@ -142,14 +143,13 @@ impl Watch {
         }
     }
 
-    /// A normal packet that is hurt stays in its place and keeps its outlet.
-    pub(crate) fn after_step(&mut self, group: &Group, record: &[u8], outcome: Outcome) {
-        let (&[11, a, b, place, ..], TAKEN) = (record, outcome.answer) else {
+    /// The aim is that of before the step, since a lost packet is gone after it.
+    pub(crate) fn after_step(&mut self, aim: Option<Aim>, record: &[u8], outcome: Outcome) {
+        let (&[11 | 12, ..], TAKEN, Some(aim)) = (record, outcome.answer, aim) else {
             return;
         };
-        let (from, to) = (usize::from(a), usize::from(b));
-        if let Packet::Normal(charge) = group.line(from, to).packets[usize::from(place)] {
-            self.hurt.insert((from, to), charge.outlet);
+        if let Some(Packet::Normal(charge)) = aim.packet {
+            self.hurt.insert(aim.line, charge.outlet);
         }
     }
 

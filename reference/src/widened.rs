@@ -1,6 +1,7 @@
 //! Cases of document 01, whose cabinets have one outlet, as cases of card 2: a second outlet
 //! with nothing booked stands in each entry of the file and in each line of a cabinet, and no
-//! note is taken where its booking is now. All by rule; the model is not asked.
+//! note is taken where its booking is now. And which cases of before card 3 still stand. All by
+//! rule; the model is not asked.
 
 use crate::cases::{Case, Record};
 use crate::form::Form;
@@ -11,13 +12,29 @@ const ENTRY_OF_TWO_OUTLETS: usize = 6;
 const LINK_ENTRY_LENGTH: usize = 2;
 const NOTHING_BOOKED: [u8; 2] = [0, 0];
 
-/// Why a case would not mean the same with two outlets.
+/// Why a case would not mean the same by the later cards.
 #[derive(Clone, Copy, PartialEq, Eq, PartialOrd, Ord, Debug)]
 pub enum LeftOut {
     /// A file that was refused with 3, and whose offsets and length are right now.
     RightByNewOffsets,
     /// A send whose p was an unused field that is not 0.
     SendNamesOutlets,
+    /// A record of kind 12, which answered 8 and now never does.
+    RecordOfKind12,
+}
+
+/// Whether a case from before card 3 stands as it is.
+pub fn without_kind_12(form: Form, case: &Case, text: &str) -> Result<(), LeftOut> {
+    let refused = text.starts_with("load ");
+    if !refused && has_kind_12(&form.steps(case)) {
+        return Err(LeftOut::RecordOfKind12);
+    }
+    Ok(())
+}
+
+/// A record that is too short is no step.
+fn has_kind_12(steps: &[Option<Record>]) -> bool {
+    steps.iter().flatten().any(|record| record[0] == 12)
 }
 
 /// The case and its text with two outlets. The text is made of the old one alone. No step of a
@@ -32,6 +49,9 @@ pub fn with_two_outlets(form: Form, case: &Case, text: &str) -> Result<(Case, St
             let steps = form.steps(case);
             if steps.iter().flatten().any(|&[kind, _, _, p, ..]| kind == 1 && p != 0) {
                 return Err(LeftOut::SendNamesOutlets);
+            }
+            if has_kind_12(&steps) {
+                return Err(LeftOut::RecordOfKind12);
             }
             Ok((with_file(widened_file(&case.group)), widened_text(&steps, text)))
         }
@@ -202,5 +222,24 @@ mod tests {
         assert_eq!(left_out([1, 9, 2, 255, 0, 0]), Some(LeftOut::SendNamesOutlets));
         assert_eq!(left_out([1, 1, 2, 0, 0, 5]), None);
         assert_eq!(left_out([4, 1, 2, 1, 0, 0]), None);
+    }
+
+    #[test]
+    fn a_case_with_a_record_of_kind_12_is_left_out() {
+        let kind_12 = Err(LeftOut::RecordOfKind12);
+        let records = [[4, 1, 2, 0, 0, 0], [12, 9, 0, 0, 0, 1]];
+        assert_eq!(converted(&records, "step 1 18\nstep 2 8\n").map(|_| ()), kind_12);
+        let stands = |form: Form, steps: &[u8], text: &str| {
+            let case = Case { group: GROUP.to_vec(), steps: steps.to_vec() };
+            without_kind_12(form, &case, text)
+        };
+        assert_eq!(stands(Form::Steps, &records.concat(), "step 1 18\nstep 2 8\n"), kind_12);
+        assert_eq!(stands(Form::Steps, &records.concat(), "load 4\n"), Ok(()));
+        assert_eq!(stands(Form::Steps, &[12, 1, 2, 0, 0], "step 1 8\n"), Ok(()));
+        let plan = |first: u8, last: u8| [first, 12, 1, 2, 0, 0, 0, 0, last];
+        assert_eq!(stands(Form::Plan, &plan(0, 0), "step 1 8\n"), kind_12);
+        for (first, last) in [(0, 1), (1, 0), (2, 0), (3, 0)] {
+            assert_eq!(stands(Form::Plan, &plan(first, last), "step 1 8\n"), Ok(()));
+        }
     }
 }

@@ -32,7 +32,9 @@ pub mod Recovering
 pub mod Faulted
 pub mod Heeding
 pub mod LinkFault
+pub mod Hurting
 pub mod Damaging
+pub mod Losing
 -- failing
 pub mod Undoing
 pub mod Failing

@@ -57,7 +57,7 @@ LinesBounded = Always (λ g h. (a b : ℕ) → (length (packets g a b) ≤ 12) �
 
 -- "no normal packet has been damaged since the start or the end of the last recovery"
 abbrev pub Undamaged : History → Type 0
-Undamaged h = h .hurt ≡ false
+Undamaged h = h .damaged ≡ false
 
 -- the outlet of b that p names has room for its amount
 abbrev pub HasRoom : Group → ℕ → Payload → Type 0

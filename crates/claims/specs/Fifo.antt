@@ -6,7 +6,7 @@ use Prim.Native.Nat.{ℕ, suc, _-_}
 use mathlib.Core.Path.{_≡_}
 use mathlib.Core.Bool.{Bool, true, false, cond, not, _&&_, _||_}
 use mathlib.Core.List.{List, [], _∷_, _++_}
-use lib.ListN.{getD, set, drop}
+use lib.ListN.{getD, set, take, drop}
 use lib.Dec.{eqb}
 use Rattle.marks.specs.Marks.{marked}
 use Rattle.packet.specs.declared.Packet.{Packet}
@@ -23,7 +23,7 @@ use Rattle.group.specs.declared.Group.{Group}
 use Rattle.group.specs.Group.{cabinet, line}
 use Rattle.load.specs.Load.{load}
 use Rattle.protocol.specs.declared.Step.{Step}
-use Rattle.protocol.specs.declared.Step.the-variants.{Send, Note, Begin, Deliver, Write, Saved, Fetch, Restored, WaitOver, Fail, Damage}
+use Rattle.protocol.specs.declared.Step.the-variants.{Send, Note, Begin, Deliver, Write, Saved, Fetch, Restored, WaitOver, Fail, Damage, Lose}
 use Rattle.protocol.specs.declared.Decoded.the-variants.{Taken}
 use Rattle.protocol.specs.Receive.{serving}
 use Rattle.protocol.specs.Kinds.{carried}
@@ -38,7 +38,8 @@ use Rattle.claims.specs.Bounds.{packets, Always}
 abbrev pub isLine : ℕ → ℕ → ℕ → ℕ → Bool
 isLine x y a b = eqb (x - 1) a && eqb (y - 1) b
 
--- "deliver the oldest packet from a to b"; "damage the packet at place p (0 oldest) from a to b"; a send puts its packet last
+-- "deliver the oldest packet from a to b"; "damage the packet at place p (0 oldest) from a to b"; a send puts its packet last; lose
+-- "removes the normal packet at place p from a line"
 abbrev pub handled : Step → ℕ → ℕ → List Packet → List Packet
 handled (Send x y p q) a b l = cond (isLine x y a b) (l ++ NormalPacket (carried p q) ∷ []) l
 handled (Note x p q) a b l = l
@@ -51,6 +52,7 @@ handled (Restored x) a b l = l
 handled (WaitOver x) a b l = l
 handled (Fail x) a b l = l
 handled (Damage x y p q) a b l = cond (isLine x y a b) (set l p (damaged (getD l p Empty) q)) l
+handled (Lose x y p) a b l = cond (isLine x y a b) (take p l ++ drop (suc p) l) l
 
 -- ---- what a cabinet does, told by its state before the step and after it
 
@@ -96,6 +98,7 @@ cameFrom (Restored x) a b = false
 cameFrom (WaitOver x) a b = false
 cameFrom (Fail x) a b = false
 cameFrom (Damage x y p q) a b = false
+cameFrom (Lose x y p) a b = false
 
 -- cabinet a, c before the step and c′ after it, on its line to b
 abbrev pub putBy : Cabinet → Cabinet → Step → ℕ → ℕ → List Packet
@@ -119,7 +122,7 @@ lineAfter g g′ s a b =
 
 -- ---- the claims, of every run
 
--- after every taken step each line holds what a line without bounds would hold: no packet is lost for want of a place
+-- after every taken step each line holds what a line without bounds would hold: no packet goes for want of a place
 abbrev pub FirstInFirstOut : Type 0
 FirstInFirstOut =
     (f : List ℕ) → Octets f → load f .answer ≡ 0 → (xs : List Operation) → AllOctets xs → (r : List ℕ) → Octets r

@@ -9,12 +9,13 @@ use Rattle.packet.specs.declared.Packet.the-variants.{Normal as NormalPacket, R
 use Rattle.line.specs.Line.{oldest}
 use Rattle.image.specs.Image.{blankImage}
 use Rattle.group.specs.Group.{line}
-use Rattle.protocol.specs.declared.Step.the-variants.{Deliver}
+use Rattle.protocol.specs.declared.Step.the-variants.{Deliver, Lose}
 use Rattle.protocol.specs.Marked.{twoCabinets, send, deliver, restored, fail}
 use Rattle.protocol.specs.Restored.{worldAfter}
 use Rattle.protocol.specs.History.{World, stepping, pointing, returning, steps, advance, run, ends, latest}
 use Rattle.protocol.specs.Returns.{named, pointAfterLoss, keptAfterLoss}
 use Rattle.protocol.specs.Outlets.{sendAB, outletPair}
+use Rattle.protocol.specs.Losses.{lose}
 use Rattle.protocol.specs.Examples.{toA, toB, damage, fetches, row, ring, ringCommitted, fourCabinets, fourSaved, thirdLost, threeCommitted}
 use Rattle.claims.specs.Bounds.{packets, Undamaged, HasRoom}
 use Rattle.claims.specs.Fifo.{lineAfter}
@@ -45,6 +46,19 @@ abbrev pub ResumesOnward : Type 0
 ResumesOnward =
     (lineAfter (committed .group) (resumed .group) (Deliver 1 2) 1 0 ≡ []) × (packets (resumed .group) 1 0 ≡ [])
     × (lineAfter (committed .group) (resumed .group) (Deliver 1 2) 1 2 ≡ Resume ∷ []) × (packets (resumed .group) 1 2 ≡ Resume ∷ [])
+
+-- ---- losses: the packet behind the lost one stands first, the premise of `NeverWraps` is met, and the line is noted as hurt
+
+abbrev pub twoSent : World
+twoSent = worldAfter (twoCabinets 100 50) (steps (send 1 2 5 ∷ send 1 2 7 ∷ []))
+
+abbrev pub oneLost : World
+oneLost = advance twoSent (stepping (lose 1 2 0))
+
+abbrev pub LossMovesUp : Type 0
+LossMovesUp =
+    (lineAfter (twoSent .group) (oneLost .group) (Lose 1 2 0) 0 1 ≡ NormalPacket (toA 7) ∷ []) × (packets (oneLost .group) 0 1 ≡ NormalPacket (toA 7) ∷ [])
+    × Undamaged (oneLost .history) × (oneLost .history .hurt 0 1 ≡ true)
 
 -- ---- saves: the version of 2 is 1 now, and its slot 0 has the start
 

@@ -51,6 +51,11 @@ CommitsWhole =
     EveryCommit (λ n total g h.
     Balanced (latest h) × ((c : ℕ) → c < n → (m : Image) × (imageNow h c ≡ some m)) × (savedTotal n h ≡ total))
 
+-- "A save with a lost packet must never commit", nor one with a damaged packet: where a save is committed, no normal packet of any line was
+-- hurt since the start or the last recovery's end
+abbrev pub CommitsUnhurt : Type 0
+CommitsUnhurt = EveryCommit (λ n total g h. (a b : ℕ) → h .hurt a b ≡ false)
+
 -- ---- which save a resume belongs to: the one last committed when it was put
 
 -- where a save is committed no line holds a resume, so that every resume on a line belongs to the save last committed

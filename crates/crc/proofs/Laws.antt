@@ -120,7 +120,7 @@ unfolding crcFrom
 from-append [] ys r = refl
 from-append (x ∷ xs) ys r = from-append xs ys (crcOctet r x)
 
--- One hurt amount is always seen: lists of octets that differ in one amount alone have different check values
+-- One hurt amount is always seen: lists of octets that differ in one amount alone have different CRCs
 pub one-differs : (before after : List ℕ) (r m m′ : ℕ) → m < 65536 → m′ < 65536 → (m ≡ m′ → ⊥)
     → crcFrom r (before ++ m / 256 ∷ m % 256 ∷ after) ≡ crcFrom r (before ++ m′ / 256 ∷ m′ % 256 ∷ after) → ⊥
 one-differs before after r m m′ below below′ hurt same =

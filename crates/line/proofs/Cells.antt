@@ -1,4 +1,4 @@
--- Laws on the cells of a line: what one more cell says of the first empty one, of the count, and of the rest.
+-- Laws on the cells of a line: what one more cell says of the first empty one, of the count, of the rest, and of a loss.
 use Prim.Native.Nat.{ℕ, zero, suc, _+_, _<_, _≤_}
 use native.Mathlib.Numerals.{add-one}
 use native.Mathlib.Omega.{arith}
@@ -10,7 +10,7 @@ use lib.Seq.{drop-cons}
 use Rattle.packet.specs.declared.Packet.{Packet}
 use Rattle.line.specs.declared.Cell.{Cell}
 use Rattle.packet.specs.Packet.{isEmpty, isNormal}
-use Rattle.line.specs.Line.{emptyCell, restCells, putCells, firstEmpty, normalsIn}
+use Rattle.line.specs.Line.{emptyCell, restCells, putCells, firstEmpty, normalsIn, withoutCells}
 
 -- a search that has passed i full cells
 pub search-full : (l : List Cell) (i : ℕ) → i < length l → isEmpty (getD l i emptyCell .packet) ≡ false
@@ -66,3 +66,19 @@ rest-cells (c ∷ cs) n h =
     let e : n ≡ length cs = omega arith in
     let same : cellsFrom n 1 (c ∷ cs) ≡ cs = rw e (later (length cs) 0 c cs ∙ all-cells cs) in
     rw same
+
+-- to lose a cell is to copy the one behind it there and lose that one
+behind : (l : List Cell) (k : ℕ) → withoutCells l k ≡ withoutCells (set l k (getD l (suc k) emptyCell)) (suc k)
+behind [] k = refl
+behind (c ∷ []) zero = refl
+behind (c ∷ d ∷ cs) zero = refl
+behind (c ∷ cs) (suc k) = ap (λ (l : List Cell). c ∷ l) (behind cs k)
+
+pub loss-behind : (l : List Cell) (k : ℕ) → withoutCells l k ≡ withoutCells (set l k (getD l (k + 1) emptyCell)) (k + 1)
+loss-behind l k = rw add-one (behind l k)
+
+-- past the last cell there is nothing to lose
+pub loss-ended : (l : List Cell) (k : ℕ) → length l ≤ k → withoutCells l k ≡ l
+loss-ended [] k h = refl
+loss-ended (c ∷ cs) zero h = absurd (omega arith)
+loss-ended (c ∷ cs) (suc k) h = ap (λ (l : List Cell). c ∷ l) (loss-ended cs k (omega arith))

@@ -1,6 +1,6 @@
 -- Document 01, "The group": a line is first in, first out, and holds at most 12 packets.
 -- Its cells are a list of 12; the packets stand first, oldest first, and the empty cells after them.
-use Prim.Native.Nat.{ℕ, suc, _+_}
+use Prim.Native.Nat.{ℕ, zero, suc, _+_}
 use mathlib.Core.Bool.{cond}
 use mathlib.Core.List.{List, [], _∷_, _++_}
 use lib.ListN.{getD, set, replicate}
@@ -51,6 +51,15 @@ normalsIn (c ∷ cs) = cond (isNormal (c .packet)) 1 0 + normalsIn cs
 
 abbrev pub normals : Line → ℕ
 normals l = normalsIn (l .cells)
+
+-- "removes the normal packet at place p from a line": those behind it move up; nothing changes past the line's end
+abbrev pub withoutCells : List Cell → ℕ → List Cell
+withoutCells [] k = []
+withoutCells (c ∷ cs) zero = cs ++ (emptyCell ∷ [])
+withoutCells (c ∷ cs) (suc k) = c ∷ withoutCells cs k
+
+abbrev pub without : Line → ℕ → Line
+without l k = record { cells = withoutCells (l .cells) k }
 
 -- another packet at a place; nothing changes past the line's end
 abbrev pub replaced : Line → ℕ → Packet → Line

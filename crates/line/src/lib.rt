@@ -3,7 +3,7 @@ use packet::Packet;
 ghost use mathlib.Core.Path.{_≡_};
 ghost use Prim.Native.Nat.{_≤_};
 ghost use mathlib.Core.Bool.{cond};
-ghost use Rattle.line.specs.Line.{emptyLine, oldest, rest, put, normals, packetAt, replaced, firstEmpty};
+ghost use Rattle.line.specs.Line.{emptyLine, oldest, rest, put, normals, packetAt, replaced, without, firstEmpty};
 
 pub struct Cell {
     pub packet: Packet,
@@ -102,6 +102,21 @@ impl Line {
         let mut l = self;
         if k < 12 {
             l.cells[k] = Cell { packet: p };
+        }
+        l
+    }
+
+    // The line without the packet at a place: those behind it move up. Past the line's end nothing changes.
+    pub fn without(self, place: u8) -> Line
+        ensures { λ r. ⌜ r ≡ without self place ⌝ }
+    {
+        let mut l = self;
+        let mut k = place;
+        while k < 12 {
+            let behind = l.packet_at(k + 1);
+            let moved = l.replaced(k, behind);
+            l = moved;
+            k += 1;
         }
         l
     }

@@ -1,5 +1,5 @@
--- Document 01, "Packets and the link check": what packets carry, the check registers, fault places, damage.
-use Prim.Native.Nat.{ℕ, _/_, _%_}
+-- Document 01, "Packets and the link check", with document 02, cards 2 and 3: what packets carry, the check registers, fault places, damage.
+use Prim.Native.Nat.{ℕ, _+_, _/_, _%_}
 use mathlib.Core.Bool.{Bool, true, false, cond, _&&_}
 use mathlib.Core.List.{List, [], _∷_}
 use lib.Bits.{bitXor}
@@ -17,16 +17,16 @@ use Rattle.packet.specs.declared.Packet.the-variants.{Empty, Normal, Che
 abbrev pub octetsOf : Payload → List ℕ
 octetsOf p = octetOf (p .outlet) ∷ p .amount / 256 ∷ p .amount % 256 ∷ []
 
--- a register at its start, and after the octets of one more normal packet
+-- "The check value becomes the CRC and a count of packets modulo 65,536": a register at its start, and after one more normal packet
 abbrev pub startCheck : Check
-startCheck = record { crc = start }
+startCheck = record { crc = start; count = 0 }
 
 abbrev pub stepCheck : Check → Payload → Check
-stepCheck c p = record { crc = crcFrom (c .crc) (octetsOf p) }
+stepCheck c p = record { crc = crcFrom (c .crc) (octetsOf p); count = (c .count + 1) % 65536 }
 
--- the comparison of a checkp with a register
+-- the comparison of a checkp, which "carries both", with a register
 abbrev pub sameCheck : Check → Check → Bool
-sameCheck c d = eqb (c .crc) (d .crc)
+sameCheck c d = eqb (c .crc) (d .crc) && eqb (c .count) (d .count)
 
 -- a link's place, "named lower number first"
 abbrev pub linkPlace : ℕ → ℕ → Place

@@ -16,6 +16,7 @@ pub struct Payload {
 // What a check register and a checkp packet hold.
 pub struct Check {
     pub crc: u16,
+    pub count: u16,
 }
 
 // Where a fault is: a cabinet, or a link named lower number first.
@@ -39,10 +40,13 @@ impl Check {
     pub fn start() -> Check
         ensures { λ r. ⌜ r ≡ startCheck ⌝ }
     {
-        Check { crc: 0xFFFF }
+        Check {
+            crc: 0xFFFF,
+            count: 0,
+        }
     }
 
-    // The register after the octets of one more normal packet.
+    // The register after one more normal packet.
     pub fn step(self, p: Payload) -> Check
         ensures { λ r. ⌜ r ≡ stepCheck self p ⌝ }
     {
@@ -53,13 +57,16 @@ impl Check {
         let second = crc::octet(first, high);
         Check {
             crc: crc::octet(second, low),
+            count: std::num::wrapping_add_u16(self.count, 1),
         }
     }
 
     pub fn same(self, other: Check) -> bool
         ensures { λ r. ⌜ r ≡ sameCheck self other ⌝ }
     {
-        self.crc == other.crc
+        let crcs = self.crc == other.crc;
+        let counts = self.count == other.count;
+        crcs && counts
     }
 }
 

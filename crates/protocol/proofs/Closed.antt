@@ -4,3 +4,4 @@ pub mod Examples
 pub mod Returns
 pub mod Outlets
 pub mod Tempting
+pub mod Losses

@@ -1,14 +1,14 @@
--- Document 01, "Steps": the refusal numbers that the paper lists for each kind of step, and which of its checks refuses.
+-- Document 01, "Steps", with document 02: the refusal numbers that the papers list for each kind of step, and which of its checks refuses.
 use Prim.Native.Nat.{ℕ, _-_}
 use mathlib.Core.Bool.{Bool, false, _||_}
 use mathlib.Core.List.{List, [], _∷_, _++_}
 use lib.Dec.{eqb}
 use Rattle.group.specs.declared.Group.{Group}
 use Rattle.protocol.specs.declared.Step.{Step}
-use Rattle.protocol.specs.declared.Step.the-variants.{Send, Note, Begin, Deliver, Write, Saved, Fetch, Restored, WaitOver, Fail, Damage}
+use Rattle.protocol.specs.declared.Step.the-variants.{Send, Note, Begin, Deliver, Write, Saved, Fetch, Restored, WaitOver, Fail, Damage, Lose}
 use Rattle.protocol.specs.declared.Decoded.{Decoded}
 use Rattle.protocol.specs.declared.Decoded.the-variants.{Malformed, Unused, Taken}
-use Rattle.protocol.specs.Kinds.{sendRefusal, noteRefusal, beginRefusal, deliverRefusal, writeRefusal, savedRefusal, fetchRefusal, restoredRefusal, waitOverRefusal, damageRefusal}
+use Rattle.protocol.specs.Kinds.{sendRefusal, noteRefusal, beginRefusal, deliverRefusal, writeRefusal, savedRefusal, fetchRefusal, restoredRefusal, waitOverRefusal, damageRefusal, loseRefusal}
 
 -- k stands in the list
 abbrev pub among : ℕ → List ℕ → Bool
@@ -28,6 +28,7 @@ workNumbers (Restored a) = 12 ∷ []
 workNumbers (WaitOver a) = 12 ∷ []
 workNumbers (Fail a) = 12 ∷ []
 workNumbers (Damage a b p q) = []
+workNumbers (Lose a b p) = 12 ∷ []
 
 -- the numbers under each kind
 abbrev pub kindNumbers : Step → List ℕ
@@ -42,6 +43,7 @@ kindNumbers (Restored a) = 14 ∷ 19 ∷ []
 kindNumbers (WaitOver a) = 14 ∷ 19 ∷ []
 kindNumbers (Fail a) = []
 kindNumbers (Damage a b p q) = 13 ∷ 18 ∷ 15 ∷ 20 ∷ []
+kindNumbers (Lose a b p) = 13 ∷ 18 ∷ 20 ∷ []
 
 -- "Every step first": 8, 9, or 10 to 12 and then those of the kind
 abbrev pub refusalNumbers : Decoded → List ℕ
@@ -62,3 +64,4 @@ kindRefusal g (Restored a) = restoredRefusal g (a - 1)
 kindRefusal g (WaitOver a) = waitOverRefusal g (a - 1)
 kindRefusal g (Fail a) = 0
 kindRefusal g (Damage a b p q) = damageRefusal g (a - 1) (b - 1) p q
+kindRefusal g (Lose a b p) = loseRefusal g (a - 1) (b - 1) p

@@ -1,4 +1,5 @@
--- Document 01, "The group crashes when, and only when": the cases of that sentence, each in the paper's own terms.
+-- Document 01, "The group crashes when, and only when": the cases of that sentence, each in the paper's own terms, with those that
+-- document 02 adds.
 -- In a step cabinets count from 1, everywhere else here from 0.
 use Prim.Native.Nat.{ℕ, _-_, _<_}
 use mathlib.Core.Path.{_≡_}
@@ -23,7 +24,7 @@ use Rattle.group.specs.declared.Group.{Group}
 use Rattle.cabinet.specs.Cabinet.{inUse}
 use Rattle.group.specs.Group.{cabinet, stateOf, line, rowsOf, working}
 use Rattle.protocol.specs.declared.Step.{Step}
-use Rattle.protocol.specs.declared.Step.the-variants.{Deliver, Fail, Damage}
+use Rattle.protocol.specs.declared.Step.the-variants.{Deliver, Fail, Damage, Lose}
 use Rattle.protocol.specs.declared.Decoded.{Decoded}
 use Rattle.protocol.specs.declared.Decoded.the-variants.{Taken}
 use Rattle.protocol.specs.Entry.{entryRefusal}
@@ -92,6 +93,8 @@ pub data Cause (g : Group) : Step → Type 0 where
   fails-in-recovery : {a : ℕ} → SomeRecovers g → Cause g (Fail a)
   -- "or damage is done, while some working cabinet is in error, recovering or recovered;"
   damage-in-recovery : {a b p q : ℕ} → SomeRecovers g → Cause g (Damage a b p q)
+  -- "a loss crashes the group where damage would"
+  loss-in-recovery : {a b p : ℕ} → SomeRecovers g → Cause g (Lose a b p)
   -- "two fault places meet;"
   places-meet : {a b : ℕ} → LineInUse g (a - 1) (b - 1) → PlacesMeet (cabinet g (b - 1)) (oldest (line g (a - 1) (b - 1))) → Cause g (Deliver a b)
   -- "or at a fail (the failing one left out) .. some working cabinet is not reached"

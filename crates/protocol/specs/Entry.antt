@@ -9,10 +9,10 @@ use Rattle.group.specs.declared.Outcome.{Outcome}
 use Rattle.state.specs.State.{works}
 use Rattle.group.specs.Group.{stateOf, isCrashed, answering}
 use Rattle.protocol.specs.declared.Step.{Step}
-use Rattle.protocol.specs.declared.Step.the-variants.{Send, Note, Begin, Deliver, Write, Saved, Fetch, Restored, WaitOver, Fail, Damage}
+use Rattle.protocol.specs.declared.Step.the-variants.{Send, Note, Begin, Deliver, Write, Saved, Fetch, Restored, WaitOver, Fail, Damage, Lose}
 use Rattle.protocol.specs.declared.Decoded.{Decoded}
 use Rattle.protocol.specs.declared.Decoded.the-variants.{Malformed, Unused, Taken}
-use Rattle.protocol.specs.Kinds.{need, orRefuse, sendStep, noteStep, beginStep, deliverStep, writeStep, savedStep, fetchStep, restoredStep, waitOverStep, failStep, damageStep}
+use Rattle.protocol.specs.Kinds.{need, orRefuse, sendStep, noteStep, beginStep, deliverStep, writeStep, savedStep, fetchStep, restoredStep, waitOverStep, failStep, damageStep, loseStep}
 
 -- ---- "A step record is six octets: kind, a, b, p, q (two octets)."
 
@@ -37,7 +37,8 @@ fieldsOf kind a b p q =
     (cond (eqb kind 2) (ifZero b (Taken (Note a p q)))
     (cond (eqb kind 4) (ifZero (p + q) (Taken (Deliver a b)))
     (cond (eqb kind 11) (Taken (Damage a b p q))
-    (cond (leb 1 kind && leb kind 10) (ifZero (b + p + q) (aloneOf kind a)) Malformed))))
+    (cond (eqb kind 12) (ifZero q (Taken (Lose a b p)))
+    (cond (leb 1 kind && leb kind 10) (ifZero (b + p + q) (aloneOf kind a)) Malformed)))))
 
 abbrev pub decode : List ℕ → Decoded
 decode r = cond (eqb (length r) 6) (fieldsOf (getD r 0 0) (getD r 1 0) (getD r 2 0) (getD r 3 0) (getD r 4 0 * 256 + getD r 5 0)) Malformed
@@ -63,6 +64,7 @@ firstOf (Restored a) = a
 firstOf (WaitOver a) = a
 firstOf (Fail a) = a
 firstOf (Damage a b p q) = a
+firstOf (Lose a b p) = a
 
 abbrev pub secondOf : Step → ℕ
 secondOf (Send a b p q) = b
@@ -76,6 +78,7 @@ secondOf (Restored a) = a
 secondOf (WaitOver a) = a
 secondOf (Fail a) = a
 secondOf (Damage a b p q) = b
+secondOf (Lose a b p) = b
 
 -- "12 a failed (in deliver, b failed; saved and damage skip this check)"
 abbrev pub actorWorks : Group → Step → Bool
@@ -90,6 +93,7 @@ actorWorks g (Restored a) = works (stateOf g (a - 1))
 actorWorks g (WaitOver a) = works (stateOf g (a - 1))
 actorWorks g (Fail a) = works (stateOf g (a - 1))
 actorWorks g (Damage a b p q) = true
+actorWorks g (Lose a b p) = works (stateOf g (a - 1))
 
 -- "cabinets, numbered 1 to n"
 abbrev pub isCabinet : Group → ℕ → Bool
@@ -113,6 +117,7 @@ perform g (Restored a) = restoredStep g (a - 1)
 perform g (WaitOver a) = waitOverStep g (a - 1)
 perform g (Fail a) = failStep g (a - 1)
 perform g (Damage a b p q) = damageStep g (a - 1) (b - 1) p q
+perform g (Lose a b p) = loseStep g (a - 1) (b - 1) p
 
 abbrev pub stepDecoded : Group → Decoded → Outcome
 stepDecoded g Malformed = answering (decodedNumber Malformed) g

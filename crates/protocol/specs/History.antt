@@ -1,9 +1,9 @@
--- Document 01, "Which save" and "Words of demand 3", with document 02, card 1: the history of a run, a fold over the file and the
+-- Document 01, "Which save" and "Words of demand 3", with document 02, cards 1 and 3: the history of a run, a fold over the file and the
 -- operations (step records, points taken, returns) with what the rules make of them. Of the groups before and after a step it reads
 -- states, tables, homes, images, the packet that is taken or damaged, and which checkps have come; no version, slot, register, report,
 -- piece or fault place. Of a point it reads whether it is taken: what it keeps, the history knows by itself. In a step cabinets count
 -- from 1, here from 0.
-use Prim.Native.Nat.{ℕ, _+_, _-_}
+use Prim.Native.Nat.{ℕ, _-_}
 use mathlib.Core.Bool.{Bool, true, false, cond, not, _&&_}
 use mathlib.Core.List.{List, [], _∷_, _++_, map}
 use mathlib.Core.Option.{Option, none, some}
@@ -25,7 +25,7 @@ use Rattle.group.specs.declared.Group.{Group}
 use Rattle.group.specs.declared.Outcome.{Outcome}
 use Rattle.group.specs.Group.{cabinet, stateOf, line}
 use Rattle.protocol.specs.declared.Step.{Step}
-use Rattle.protocol.specs.declared.Step.the-variants.{Send, Note, Begin, Deliver, Write, Saved, Fetch, Restored, WaitOver, Fail, Damage}
+use Rattle.protocol.specs.declared.Step.the-variants.{Send, Note, Begin, Deliver, Write, Saved, Fetch, Restored, WaitOver, Fail, Damage, Lose}
 use Rattle.protocol.specs.declared.Decoded.{Decoded}
 use Rattle.protocol.specs.declared.Decoded.the-variants.{Malformed, Unused, Taken}
 use Rattle.protocol.specs.Receive.{takesFrom}
@@ -76,7 +76,9 @@ pub record History : Type 0 where
   -- the points, of each name the one last taken with it
   pub points : Kept
   -- a normal packet was damaged since the start or the last recovery's end: no matter to demand 3, it is for `claims.Bounds.NeverWraps`
-  pub hurt : Bool
+  pub damaged : Bool
+  -- a normal packet of the line from one to another was hurt, damaged or lost, since then: no matter to it either, for `claims.Saves.CommitsUnhurt`
+  pub hurt : ℕ → ℕ → Bool
   -- what `claims.Saves` speaks of, no matter to demand 3 either: a begin was taken since the start or the last recovery's end; a save was
   -- committed since then, and the last one was not passed over nor is there a return after it, so that it is the newest
   pub begun : Bool
@@ -108,7 +110,8 @@ fresh saves start lost points = record {
   start = start;
   lost = lost;
   points = points;
-  hurt = false;
+  damaged = false;
+  hurt = λ a b. false;
   begun = false;
   standing = false;
 }
@@ -148,25 +151,28 @@ markKnown (x ∷ xs) = withKnown x true ∷ xs
 -- ---- the parts of a history, each replaced by one function
 
 abbrev pub withSent : History → Log → History
-withSent h l = record { sent = l; taken = h .taken; cuts = h .cuts; saves = h .saves; start = h .start; lost = h .lost; points = h .points; hurt = h .hurt; begun = h .begun; standing = h .standing }
+withSent h l = record { sent = l; taken = h .taken; cuts = h .cuts; saves = h .saves; start = h .start; lost = h .lost; points = h .points; damaged = h .damaged; hurt = h .hurt; begun = h .begun; standing = h .standing }
 
 abbrev pub withTaken : History → Log → History
-withTaken h l = record { sent = h .sent; taken = l; cuts = h .cuts; saves = h .saves; start = h .start; lost = h .lost; points = h .points; hurt = h .hurt; begun = h .begun; standing = h .standing }
+withTaken h l = record { sent = h .sent; taken = l; cuts = h .cuts; saves = h .saves; start = h .start; lost = h .lost; points = h .points; damaged = h .damaged; hurt = h .hurt; begun = h .begun; standing = h .standing }
 
 abbrev pub withCuts : History → (ℕ → Option Cut) → History
-withCuts h c = record { sent = h .sent; taken = h .taken; cuts = c; saves = h .saves; start = h .start; lost = h .lost; points = h .points; hurt = h .hurt; begun = h .begun; standing = h .standing }
+withCuts h c = record { sent = h .sent; taken = h .taken; cuts = c; saves = h .saves; start = h .start; lost = h .lost; points = h .points; damaged = h .damaged; hurt = h .hurt; begun = h .begun; standing = h .standing }
 
 abbrev pub withSaves : History → List Save → History
-withSaves h s = record { sent = h .sent; taken = h .taken; cuts = h .cuts; saves = s; start = h .start; lost = h .lost; points = h .points; hurt = h .hurt; begun = h .begun; standing = h .standing }
+withSaves h s = record { sent = h .sent; taken = h .taken; cuts = h .cuts; saves = s; start = h .start; lost = h .lost; points = h .points; damaged = h .damaged; hurt = h .hurt; begun = h .begun; standing = h .standing }
 
-abbrev pub withHurt : History → Bool → History
-withHurt h t = record { sent = h .sent; taken = h .taken; cuts = h .cuts; saves = h .saves; start = h .start; lost = h .lost; points = h .points; hurt = t; begun = h .begun; standing = h .standing }
+abbrev pub withDamaged : History → Bool → History
+withDamaged h t = record { sent = h .sent; taken = h .taken; cuts = h .cuts; saves = h .saves; start = h .start; lost = h .lost; points = h .points; damaged = t; hurt = h .hurt; begun = h .begun; standing = h .standing }
+
+abbrev pub withHurt : History → (ℕ → ℕ → Bool) → History
+withHurt h m = record { sent = h .sent; taken = h .taken; cuts = h .cuts; saves = h .saves; start = h .start; lost = h .lost; points = h .points; damaged = h .damaged; hurt = m; begun = h .begun; standing = h .standing }
 
 abbrev pub withBegun : History → Bool → History
-withBegun h t = record { sent = h .sent; taken = h .taken; cuts = h .cuts; saves = h .saves; start = h .start; lost = h .lost; points = h .points; hurt = h .hurt; begun = t; standing = h .standing }
+withBegun h t = record { sent = h .sent; taken = h .taken; cuts = h .cuts; saves = h .saves; start = h .start; lost = h .lost; points = h .points; damaged = h .damaged; hurt = h .hurt; begun = t; standing = h .standing }
 
 abbrev pub withStanding : History → Bool → History
-withStanding h t = record { sent = h .sent; taken = h .taken; cuts = h .cuts; saves = h .saves; start = h .start; lost = h .lost; points = h .points; hurt = h .hurt; begun = h .begun; standing = t }
+withStanding h t = record { sent = h .sent; taken = h .taken; cuts = h .cuts; saves = h .saves; start = h .start; lost = h .lost; points = h .points; damaged = h .damaged; hurt = h .hurt; begun = h .begun; standing = t }
 
 -- ---- what a taken step adds to the history; g is the group before it and g′ after it
 
@@ -198,10 +204,14 @@ abbrev pub noteCommit : Bool → History → ℕ → History
 noteCommit true h k = withStanding (withSaves h (record { by = k; cut = h .cuts; known = false } ∷ h .saves)) true
 noteCommit false h k = h
 
+-- a normal packet of the line from a to b is hurt
+abbrev pub noteHurt : History → ℕ → ℕ → History
+noteHurt h a b = withHurt h (upd (h .hurt) a (upd (h .hurt a) b true))
+
 -- damage hits a normal packet
-abbrev pub noteHurt : Bool → History → History
-noteHurt true h = withHurt h true
-noteHurt false h = h
+abbrev pub noteDamage : Bool → History → ℕ → ℕ → History
+noteDamage true h a b = noteHurt (withDamaged h true) a b
+noteDamage false h a b = h
 
 -- a save whose coordinator fails before it is known is passed over
 abbrev pub notePassed : History → ℕ → History
@@ -241,7 +251,9 @@ observe h g g′ (Fetch a) = noteKnown (goes g g′ (a - 1) Recovering Recovered
 observe h g g′ (Restored a) = noteEnd (ends g g′ (a - 1)) h g′
 observe h g g′ (WaitOver a) = h
 observe h g g′ (Fail a) = notePassed h (a - 1)
-observe h g g′ (Damage a b p q) = noteHurt (isNormal (packetAt (line g (a - 1) (b - 1)) p)) h
+observe h g g′ (Damage a b p q) = noteDamage (isNormal (packetAt (line g (a - 1) (b - 1)) p)) h (a - 1) (b - 1)
+-- a packet that is lost was sent and is never taken
+observe h g g′ (Lose a b p) = noteHurt h (a - 1) (b - 1)
 
 -- "A cut belongs to the last begin taken by then, and its image is the cabinet's as that step leaves it."
 abbrev pub cutIn : History → Group → ℕ → Cut
@@ -263,7 +275,7 @@ imageNow h i = savedImage (h .lost i) (imageIn (latest h .cut i))
 
 -- "A name used again replaces the old point."
 abbrev pub withPoints : History → Kept → History
-withPoints h p = record { sent = h .sent; taken = h .taken; cuts = h .cuts; saves = h .saves; start = h .start; lost = h .lost; points = p; hurt = h .hurt; begun = h .begun; standing = h .standing }
+withPoints h p = record { sent = h .sent; taken = h .taken; cuts = h .cuts; saves = h .saves; start = h .start; lost = h .lost; points = p; damaged = h .damaged; hurt = h .hurt; begun = h .begun; standing = h .standing }
 
 abbrev pub notePoint : History → List ℕ → History
 notePoint h name = withPoints h (λ other. cond (sameName other name) (some (imageNow h)) (h .points other))
@@ -281,6 +293,7 @@ noteReturn (some images) h g = record {
   start = h .start;
   lost = λ i. cond (works (stateOf g i)) none (images i);
   points = h .points;
+  damaged = h .damaged;
   hurt = h .hurt;
   begun = h .begun;
   standing = false;

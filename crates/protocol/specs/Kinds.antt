@@ -1,4 +1,4 @@
--- The eleven kinds of step: of each its refusals, "the first in the order written", and what it does when it is taken.
+-- The twelve kinds of step: of each its refusals, "the first in the order written", and what it does when it is taken.
 -- Cabinets are numbered from 0 here; the step entry has made checks 8 to 12.
 use Prim.Native.Nat.{ℕ}
 use mathlib.Core.Bool.{Bool, true, false, cond, not, _&&_, _||_}
@@ -12,7 +12,7 @@ use Rattle.packet.specs.declared.Payload.{Payload}
 use Rattle.packet.specs.declared.Packet.{Packet}
 use Rattle.packet.specs.declared.Packet.the-variants.{Normal as NormalPacket}
 use Rattle.packet.specs.Packet.{isEmpty, isNormal, damaged}
-use Rattle.line.specs.Line.{oldest, rest, put, normals, packetAt, replaced}
+use Rattle.line.specs.Line.{oldest, rest, put, normals, packetAt, replaced, without}
 use Rattle.state.specs.declared.State.the-variants.{Normal, Checkpointing, Error, Recovering, Recovered}
 use Rattle.cabinet.specs.declared.Alarm.{Alarm}
 use Rattle.cabinet.specs.declared.Alarm.the-variants.{Quiet, Fault}
@@ -208,11 +208,17 @@ failCrashes g a =
 unfoldable pub failStep : Group → ℕ → Outcome
 failStep g a = cond (failCrashes g a) (crashed g) (taken (alarmTo 8 (markFailed g a) a))
 
--- ---- 11 damage
+-- ---- one hurt for each line
 
--- a normal packet may be hurt once until the receiver's register restarts
+-- "a normal packet of that line was hurt since the receiver's register restarted", damaged or lost: it may be once
 abbrev pub hurtAlready : Group → ℕ → ℕ → Packet → Bool
 hurtAlready g a b p = isNormal p && marked (cabinet g b .registers .hurt) a
+
+-- "One hurt for each line still holds, loss or damage": the receiver's mark
+abbrev pub markHurt : Group → ℕ → ℕ → Group
+markHurt g a b = withCabinet g b (hurtFrom (cabinet g b) a)
+
+-- ---- 11 damage
 
 abbrev pub damageRefusal : Group → ℕ → ℕ → ℕ → ℕ → ℕ
 damageRefusal g a b p q =
@@ -222,7 +228,7 @@ damageRefusal g a b p q =
     (need (not (hurtAlready g a b (packetAt (line g a b) p))) 20 0)))
 
 abbrev pub hurtIf : Bool → Group → ℕ → ℕ → Group
-hurtIf true g a b = withCabinet g b (hurtFrom (cabinet g b) a)
+hurtIf true g a b = markHurt g a b
 hurtIf false g a b = g
 
 unfoldable pub hurt : Group → ℕ → ℕ → ℕ → ℕ → Group
@@ -233,3 +239,20 @@ hurt g a b p q =
 unfoldable pub damageStep : Group → ℕ → ℕ → ℕ → ℕ → Outcome
 damageStep g a b p q =
     orRefuse (damageRefusal g a b p q) g (cond (some (recoveringOnes g)) (crashed g) (taken (hurt g a b p q)))
+
+-- ---- 12 lose
+
+-- "lose has damage's 13, 18 and 20, 18 also for a fail-safe packet"
+abbrev pub loseRefusal : Group → ℕ → ℕ → ℕ → ℕ
+loseRefusal g a b p =
+    need (mark (rowsOf (g .links)) a b) 13
+    (need (isNormal (packetAt (line g a b) p)) 18
+    (need (not (hurtAlready g a b (packetAt (line g a b) p))) 20 0))
+
+-- "removes the normal packet at place p from a line"
+unfoldable pub lost : Group → ℕ → ℕ → ℕ → Group
+lost g a b p = markHurt (withLine g a b (without (line g a b) p)) a b
+
+-- "a loss crashes the group where damage would"
+unfoldable pub loseStep : Group → ℕ → ℕ → ℕ → Outcome
+loseStep g a b p = orRefuse (loseRefusal g a b p) g (cond (some (recoveringOnes g)) (crashed g) (taken (lost g a b p)))

@@ -94,6 +94,9 @@ fn fields_of(kind: u8, a: u8, b: u8, p: u8, q: u16) -> Decoded
             q: q,
         });
     }
+    if kind == 12 {
+        return if_zero(q == 0, Decoded::Taken(Step::Lose { a: a, b: b, p: p }));
+    }
     if marks::and(1 <= kind, kind <= 10) {
         let unused = three_fields(b, p, q);
         return if_zero(unused == 0, alone_of(kind, a));
@@ -151,6 +154,7 @@ fn first_of(s: Step) -> u8
             p: _,
             q: _,
         } => a,
+        Step::Lose { a, b: _, p: _ } => a,
     }
 }
 
@@ -179,6 +183,7 @@ fn second_of(s: Step) -> u8
             p: _,
             q: _,
         } => b,
+        Step::Lose { a: _, b, p: _ } => b,
     }
 }
 
@@ -226,6 +231,7 @@ fn actor_works(s: Step, first: bool, second: bool) -> bool
             p: _,
             q: _,
         } => true,
+        Step::Lose { a: _, b: _, p: _ } => first,
     }
 }
 

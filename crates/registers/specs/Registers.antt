@@ -1,4 +1,4 @@
--- Document 01, "Packets and the link check": the check registers of one cabinet, and which lines in had a packet hurt.
+-- Document 01, "Packets and the link check", with document 02, card 3: the check registers of one cabinet, and which lines in had a packet hurt.
 use Prim.Native.Nat.{ℕ, zero, suc}
 use mathlib.Core.Bool.{Bool, true, false}
 use mathlib.Core.List.{List}

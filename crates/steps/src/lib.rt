@@ -26,13 +26,14 @@ fn perform(g: Group, s: Step) -> Outcome
         Step::Restored { a } => restoring::restored_step(g, records::before(a)),
         Step::WaitOver { a } => restoring::wait_over_step(g, records::before(a)),
         Step::Fail { a } => failing::fail_step(g, records::before(a)),
-        Step::Damage { a, b, p, q } => damage::damage_step(
+        Step::Damage { a, b, p, q } => hurting::damage_step(
             g,
             records::before(a),
             records::before(b),
             p,
             q,
         ),
+        Step::Lose { a, b, p } => hurting::lose_step(g, records::before(a), records::before(b), p),
     }
 }
 

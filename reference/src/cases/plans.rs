@@ -4,7 +4,7 @@
 
 use super::{damaged_group_file, record, Case, Dice, GroupDraft, Record, Run, Wishes, LONG};
 use crate::evening::PLAN_RECORD_LENGTH;
-use crate::model::{self, Event, Group, Number, Outcome, State, TAKEN};
+use crate::model::{self, Event, Group, Number, Outcome, State, KINDS, TAKEN};
 use crate::points::{Name, Points, NAME_LENGTH};
 
 pub fn make_plan_case(seed: u64, wishes: Wishes) -> Case {
@@ -45,7 +45,8 @@ fn cabinets_free_to_fail(draft: &GroupDraft) -> usize {
 
 /// The start of a record that would be one if it were longer.
 fn add_short_record(dice: &mut Dice, plan: &mut Vec<u8>) {
-    let whole = [dice.below(4) as u8, dice.between(1, 11) as u8, 1, 2, 0, 0, 1, 0, 0];
+    let whole =
+        [dice.below(4) as u8, dice.between(1, usize::from(KINDS)) as u8, 1, 2, 0, 0, 1, 0, 0];
     plan.extend_from_slice(&whole[..dice.between(1, PLAN_RECORD_LENGTH - 1)]);
 }
 
@@ -79,6 +80,7 @@ enum Scene {
     StrikeAtCommit,
     Fail,
     Damage,
+    Loss,
     HurtOverReturn,
     Crash,
     Probe,
@@ -98,6 +100,7 @@ fn drawn_weights(dice: &mut Dice, damage: bool) -> Vec<(Scene, usize)> {
         (Scene::StrikeAtCommit, dice.pick(&[0, 1, 3])),
         (Scene::Fail, dice.pick(&[0, 1, 3])),
         (Scene::Damage, if damage { dice.pick(&[0, 2, 4]) } else { 0 }),
+        (Scene::Loss, if damage { dice.pick(&[0, 2, 4]) } else { 0 }),
         (Scene::HurtOverReturn, if damage { dice.pick(&[0, 1, 2]) } else { 0 }),
         (Scene::Crash, dice.pick(&[0, 0, 0, 0, 1])),
         (Scene::Probe, dice.pick(&[1, 3])),
@@ -183,6 +186,7 @@ impl Planner<'_> {
             Scene::StrikeAtCommit => self.strike_scene(),
             Scene::Fail => self.fail_scene(),
             Scene::Damage => self.damage_scene(),
+            Scene::Loss => self.loss_scene(),
             Scene::HurtOverReturn => self.hurt_over_return_scene(),
             Scene::Crash => self.crash_scene(),
             Scene::Probe => self.probe_scene(),
@@ -199,9 +203,7 @@ impl Planner<'_> {
         self.plan.push(0);
         self.plan.extend_from_slice(&record);
         self.plan.extend_from_slice(&[0, 0]);
-        let outcome = self.run.group.step(&record, self.run.wishes.highest_kind);
-        self.run.last_event = outcome.event;
-        outcome
+        self.run.take(record)
     }
 
     fn take_point(&mut self, name: Name) {
@@ -486,8 +488,43 @@ impl Planner<'_> {
         self.settle_mostly();
     }
 
-    /// A packet hurt before a return is still found after it: by damage on the same line, which
-    /// is refused, or by the next save.
+    /// A packet is lost, and a save finds it; mostly another one commits after the recovery.
+    fn loss_scene(&mut self) {
+        if self.chance(700) {
+            self.settle();
+        }
+        for _ in 0..self.run.dice.between(1, 3) {
+            self.crowd_a_line();
+        }
+        let silent = self.chance(500);
+        let record = if silent { self.run.silent_send() } else { self.run.sensible_loss() };
+        record.map(|record| self.step(record));
+        self.take_what_follows();
+        if self.chance(800) {
+            self.save_up_to_commit();
+        }
+        self.settle_mostly();
+        if self.chance(500) {
+            self.save_and_settle();
+        }
+    }
+
+    fn crowd_a_line(&mut self) {
+        if let Some((from, to)) = self.send_some() {
+            for _ in 0..self.run.dice.below(4) {
+                self.send_on(from, to);
+            }
+        }
+    }
+
+    fn take_what_follows(&mut self) {
+        while let Some(record) = self.run.next_to_follow() {
+            self.step(record);
+        }
+    }
+
+    /// A packet hurt before a return is still found after it: by another hurt of the same line,
+    /// which is refused, or by the next save.
     fn hurt_over_return_scene(&mut self) {
         self.have_a_point();
         self.settle();
@@ -495,10 +532,13 @@ impl Planner<'_> {
             return;
         };
         let pattern = self.run.dice.between(1, 65_535) as u16;
-        self.step(record(11, from, to, 0, pattern));
+        let hurts = [record(11, from, to, 0, pattern), record(12, from, to, 0, 0)];
+        let first = self.run.dice.pick(&hurts);
+        self.step(first);
         self.settled_return();
         if self.chance(500) && self.send_on(from, to) {
-            self.step(record(11, from, to, 0, pattern));
+            let second = self.run.dice.pick(&hurts);
+            self.step(second);
         }
         if self.chance(500) {
             self.save_up_to_commit();
@@ -507,8 +547,19 @@ impl Planner<'_> {
     }
 
     fn crash_scene(&mut self) {
-        let record = self.run.crashing_fail();
+        let by_loss = self.run.wishes.damage && self.chance(400);
+        let record = if by_loss { self.loss_in_recovery() } else { self.run.crashing_fail() };
         record.map(|record| self.step(record));
+    }
+
+    /// Of a packet put before the recovery, if a line still holds one.
+    fn loss_in_recovery(&mut self) -> Option<Record> {
+        for _ in 0..8 {
+            self.send_some();
+        }
+        let cabinet = self.run.some_failing_with(|crash| crash.is_none())?;
+        self.step(record(10, cabinet, 0, 0, 0));
+        self.run.any_loss_taken()
     }
 
     /// One ampere more than a booking, refused, and then all of it: the answers tell it.
@@ -607,7 +658,7 @@ mod tests {
     use crate::model::{booking_in, Image, Outlet};
 
     fn wishes(damage: bool) -> Wishes {
-        Wishes { damage, highest_kind: 11, cabinets: None }
+        Wishes { damage, highest_kind: KINDS, cabinets: None }
     }
 
     #[test]
@@ -616,11 +667,11 @@ mod tests {
     }
 
     #[test]
-    fn without_damage_no_step_has_kind_11() {
+    fn without_damage_no_step_has_kind_11_or_12() {
         for index in 0..200 {
             let case = make_plan_case(case_seed(3, index), wishes(false));
             let mut operations = case.steps.chunks(PLAN_RECORD_LENGTH).filter_map(operation);
-            assert!(!operations.any(|op| matches!(op, Operation::Step([11, ..]))));
+            assert!(!operations.any(|op| matches!(op, Operation::Step([11 | 12, ..]))));
         }
     }
 
@@ -629,7 +680,7 @@ mod tests {
         let mut tally = Tally::default();
         for index in 0..600 {
             let case = make_plan_case(case_seed(7, index), wishes(true));
-            tally.add(&counted_evening(&case.group, &case.steps, 11).1);
+            tally.add(&counted_evening(&case.group, &case.steps, KINDS).1);
         }
         assert!(tally.point_answers.keys().eq(&[0, 10, 22, 23]));
         assert!(tally.return_answers.keys().eq(&[0, 10, 21, 22]));
@@ -698,7 +749,7 @@ mod tests {
         match operation {
             Operation::Step(record) => {
                 let before = group.clone();
-                let event = group.step(&record, 11).event;
+                let event = group.step(&record, KINDS).event;
                 told.note_cuts(&before, group);
                 told.note_event(event, group);
             }

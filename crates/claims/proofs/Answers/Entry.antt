@@ -13,14 +13,14 @@ use Rattle.group.specs.declared.Outcome.{Outcome}
 use Rattle.cabinet.specs.Cabinet.{inUse}
 use Rattle.group.specs.Group.{cabinet, line, some, working, recoveringOnes, taken, crashAll}
 use Rattle.protocol.specs.declared.Step.{Step}
-use Rattle.protocol.specs.declared.Step.the-variants.{Send, Note, Begin, Deliver, Write, Saved, Fetch, Restored, WaitOver, Fail, Damage}
+use Rattle.protocol.specs.declared.Step.the-variants.{Send, Note, Begin, Deliver, Write, Saved, Fetch, Restored, WaitOver, Fail, Damage, Lose}
 use Rattle.protocol.specs.declared.Decoded.{Decoded}
 use Rattle.protocol.specs.declared.Decoded.the-variants.{Malformed, Unused, Taken}
-use Rattle.protocol.specs.Kinds.{need, orRefuse, sendStep, noteStep, beginStep, deliverRefusal, delivered, deliverStep, writeStep, savedStep, fetchStep, restoredStep, waitOverStep, failCrashes, failStep, damageRefusal, damageStep}
+use Rattle.protocol.specs.Kinds.{need, orRefuse, sendStep, noteStep, beginStep, deliverRefusal, delivered, deliverStep, writeStep, savedStep, fetchStep, restoredStep, waitOverStep, failCrashes, failStep, damageRefusal, damageStep, loseRefusal, loseStep}
 use Rattle.protocol.specs.Entry.{decode, actorWorks, entryRefusal, perform, stepDecoded, step}
 use Rattle.protocol.specs.Answers.{among, workNumbers, kindNumbers, refusalNumbers, kindRefusal}
 use Rattle.protocol.specs.Crash.{SomeRecovers, Unreached, soundLinks, LineInUse, Cause, Crashes}
-use Rattle.protocol.specs.Crash.Cause.{store-fails, fails-in-recovery, damage-in-recovery, places-meet, fail-parts, link-parts}
+use Rattle.protocol.specs.Crash.Cause.{store-fails, fails-in-recovery, damage-in-recovery, loss-in-recovery, places-meet, fail-parts, link-parts}
 use Rattle.protocol.specs.Crash.Crashes.{crashes}
 use Rattle.claims.proofs.Answers.Tests.{Reflects, itself, or-reflects, some-recovers, not-reached}
 use Rattle.claims.proofs.Answers.Answer.{Listed, checks, Answer, recast, refusing, guarded, only-if, crash-if, keeps, listed, crashes-all, exactly}
@@ -43,6 +43,7 @@ kind-listed g (Restored a) = search (checks, nothing)
 kind-listed g (WaitOver a) = search (checks, nothing)
 kind-listed g (Fail a) = nothing
 kind-listed g (Damage a b p q) = search (checks, nothing)
+kind-listed g (Lose a b p) = search (checks, nothing)
 
 -- what a step that passed checks 8 to 12 answers
 abbrev Answers : Group → Step → Outcome → Type 0
@@ -98,6 +99,17 @@ damage-answers g a b p q =
     from : Cause g (Damage a b p q) → SomeRecovers g
     from (damage-in-recovery r) = r
 
+-- ---- lose
+
+lose-answers : (g : Group) (a b p : ℕ) → Answers g (Lose a b p) (loseStep g (a - 1) (b - 1) p)
+unfolding loseStep
+lose-answers g a b p =
+    guarded (loseRefusal g (a - 1) (b - 1) p) (kind-listed g (Lose a b p))
+    (recast (λ r. loss-in-recovery r, from) (crash-if (some (recoveringOnes g)) _ (some-recovers g)))
+  where
+    from : Cause g (Lose a b p) → SomeRecovers g
+    from (loss-in-recovery r) = r
+
 -- ---- deliver
 
 deliver-answers : (g : Group) (a b : ℕ) → Answers g (Deliver a b) (deliverStep g (a - 1) (b - 1))
@@ -131,6 +143,7 @@ performs g (Restored a) = harmless g (Restored a) _ (λ c. elim c [ ])
 performs g (WaitOver a) = harmless g (WaitOver a) _ (λ c. elim c [ ])
 performs g (Fail a) = fail-answers g a
 performs g (Damage a b p q) = damage-answers g a b p q
+performs g (Lose a b p) = lose-answers g a b p
 
 -- ---- checks 8 to 12
 
@@ -146,6 +159,7 @@ work-listed g (Restored a) = search (checks, nothing)
 work-listed g (WaitOver a) = search (checks, nothing)
 work-listed g (Fail a) = search (checks, nothing)
 work-listed g (Damage a b p q) = nothing
+work-listed g (Lose a b p) = search (checks, nothing)
 
 entry-listed : (g : Group) (s : Step) → Listed (10 ∷ 11 ∷ workNumbers s) (entryRefusal g s)
 entry-listed g s = search (checks, work-listed)
@@ -176,6 +190,7 @@ not-fifty (Taken (Restored a)) = refl
 not-fifty (Taken (WaitOver a)) = refl
 not-fifty (Taken (Fail a)) = refl
 not-fifty (Taken (Damage a b p q)) = refl
+not-fifty (Taken (Lose a b p)) = refl
 
 -- ---- the theorems
 

@@ -25,6 +25,7 @@ use Rattle.state.specs.State.{rank, isIn, inRecovery, inSaving}
 use Rattle.group.specs.Group.{cabinet, stateOf, those, some, recoveringOnes}
 use Rattle.protocol.specs.Receive.{serving}
 use Rattle.protocol.specs.Crash.{Recovers, Saves, Serves, SomeRecovers, Unreached}
+use Rattle.claims.proofs.State.Fun.{and-true, and-intro}
 
 -- the test holds exactly if the fact does
 abbrev pub Reflects : Bool → Type 0 → Type 0
@@ -117,7 +118,10 @@ fault-for Quiet p = (λ e. absurd (false≢true e), λ e. let z : _≡_ {A = ℕ
 fault-for (For q) p = (λ e. ap For (same-place q p .0 e), λ e. same-place q p .1 (cc))
 
 pub same-check : (v w : Check) → Reflects (sameCheck v w) (v ≡ w)
-same-check v w = (λ e i. record { crc = eqb-true (v .crc) (w .crc) e i }, λ e. eq-eqb (v .crc) (w .crc) (ap (λ (c : Check). c .crc) e))
+same-check v w = (
+  λ e i. let f = and-true {s = eqb (v .crc) (w .crc)} e in record { crc = eqb-true (v .crc) (w .crc) (f .0) i; count = eqb-true (v .count) (w .count) (f .1) i },
+  λ e. and-intro (eq-eqb (v .crc) (w .crc) (ap (λ (c : Check). c .crc) e)) (eq-eqb (v .count) (w .count) (ap (λ (c : Check). c .count) e)),
+)
 
 -- ---- some cabinet
 

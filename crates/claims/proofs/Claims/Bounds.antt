@@ -28,10 +28,9 @@ use Rattle.claims.specs.Bounds.{LinesBounded, HasRoom, NeverWraps}
 use Rattle.claims.proofs.State.Fun.{never, is-true, sum-add, sum-swap}
 use Rattle.claims.proofs.State.View.{View, packetOf, content, view}
 use Rattle.claims.proofs.State.ViewMoves.{sim-off}
-use Rattle.claims.proofs.Invariant.Facts.{Ghost, Pair, unaware}
+use Rattle.claims.proofs.Invariant.Facts.{Ghost, Pair, unaware, amountsIn, amount}
 use Rattle.claims.proofs.Invariant.Whole.{Inv, outOf, gotOf}
 use Rattle.claims.proofs.Invariant.Words.{un-of, un-works, live-line}
-use Rattle.claims.proofs.Moves.Taking.{taken-pair}
 use Rattle.claims.proofs.Claims.Demand.{Runs, every-list}
 
 -- ---- sizes
@@ -115,12 +114,11 @@ module _ (total : ℕ) (g : Group) (γ : Ghost) (i : Inv (g .n) total (view g) �
 
   -- no more was taken than was sent, on this line with the packet that stands first
   taken-within : (c d : ℕ) → γ .wire c d .got ≤ γ .wire c d .out
-  taken-within c d = i .core .pairs c d .noMore clean
+  taken-within c d = omega (arith, i .core .pairs c d .noMore clean)
 
   with-first : γ .wire a b .got + p .amount ≤ γ .wire a b .out
-  with-first =
-      let n = i .core .nodes a in
-      taken-pair _ _ _ _ _ _ _ _ _ left _ p here (n .placeKnown) (n .placed) calm (v .own b .image) .noMore clean
+  unfolding amountsIn amount
+  with-first = omega (arith, here .noMore clean)
 
   -- over all lines
   all-within : sum (λ c. gotOf γ c) 8 + p .amount ≤ sum (λ c. outOf γ c) 8
@@ -148,4 +146,4 @@ module _ (total : ℕ) (g : Group) (γ : Ghost) (i : Inv (g .n) total (view g) �
 pub never-wraps : NeverWraps
 never-wraps f of e xs o c unhurt =
     let w = running f of e xs o c in
-    no-wrap _ _ (w .ghost) (w .inv) (is-true (w .ghost .big .clean) (λ x. never (w .past .hurt ∙ ap not x) unhurt))
+    no-wrap _ _ (w .ghost) (w .inv) (is-true (w .ghost .big .clean) (λ x. never (w .past .damaged ∙ ap not x) unhurt))

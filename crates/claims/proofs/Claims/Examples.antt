@@ -1,4 +1,4 @@
--- Demand 3 for each of the runs of `specs/Examples`, `specs/Returns` and `specs/Outlets`: its premises are met in runs that restore a save.
+-- Demand 3 for each of the runs of `specs/Examples`, `specs/Returns`, `specs/Outlets` and `specs/Losses`: its premises are met in runs that restore a save.
 use Prim.Native.Nat.{ℕ, zero, suc}
 use mathlib.Core.Path.{_≡_, refl, ap, sym, subst, _∙_}
 use mathlib.Core.Bool.{Bool, true, _&&_}
@@ -19,8 +19,10 @@ use Rattle.claims.proofs.Claims.Demand.{run-append, demand-three}
 use Rattle.protocol.specs.Returns.{foundKept, return-first, return-first-finds, return-stays, return-stays-finds, return-between, return-between-finds}
 use Rattle.protocol.proofs.Closed.Examples.{runs-found}
 use Rattle.protocol.specs.Outlets.{both-outlets, both-outlets-finds}
+use Rattle.protocol.specs.Losses.{silent-loss, silent-loss-finds}
 use Rattle.protocol.proofs.Closed.Returns.{returns-found}
 use Rattle.protocol.proofs.Closed.Outlets.{outlets-found}
+use Rattle.protocol.proofs.Closed.Losses.{loss-found}
 
 -- ---- octets
 
@@ -113,3 +115,6 @@ return-between-restored = demanded return-between return-between-finds (ap (λ (
 
 pub both-outlets-restored : Demanded both-outlets
 both-outlets-restored = demanded both-outlets both-outlets-finds outlets-found refl refl refl refl refl
+
+pub silent-loss-restored : Demanded silent-loss
+silent-loss-restored = demanded silent-loss silent-loss-finds loss-found refl refl refl refl refl

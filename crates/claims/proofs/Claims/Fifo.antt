@@ -11,16 +11,16 @@ use native.Mathlib.Omega.{arith}
 use Rattle.marks.specs.Reach.{mark}
 use Rattle.packet.specs.declared.Packet.the-variants.{Normal as NormalPacket}
 use Rattle.line.specs.declared.Cell.{Cell}
-use Rattle.packet.specs.Packet.{isEmpty, isNormal}
-use Rattle.line.specs.Line.{emptyCell, oldest, packetAt}
+use Rattle.packet.specs.Packet.{isEmpty}
+use Rattle.line.specs.Line.{emptyCell, oldest}
 use Rattle.group.specs.declared.Group.{Group}
 use Rattle.group.specs.declared.Outcome.{Outcome}
 use Rattle.group.specs.Group.{cabinet, stateOf, line, rowsOf, isCrashed, some, recoveringOnes}
 use Rattle.load.specs.Load.{feederTotal}
 use Rattle.protocol.specs.declared.Step.{Step}
-use Rattle.protocol.specs.declared.Step.the-variants.{Send, Note, Begin, Deliver, Write, Saved, Fetch, Restored, WaitOver, Fail, Damage}
+use Rattle.protocol.specs.declared.Step.the-variants.{Send, Note, Begin, Deliver, Write, Saved, Fetch, Restored, WaitOver, Fail, Damage, Lose}
 use Rattle.protocol.specs.declared.Decoded.the-variants.{Taken}
-use Rattle.protocol.specs.Kinds.{need, orRefuse, sendRefusal, carried, sent, sendStep, noteRefusal, noteStep, beginRefusal, beginStep, deliverRefusal, deliverStep, writeRefusal, writeStep, savedRefusal, savedStep, fetchRefusal, fetchStep, restoredRefusal, restoredStep, waitOverRefusal, waitOverStep, failCrashes, failStep, damageRefusal, hurt, damageStep}
+use Rattle.protocol.specs.Kinds.{need, orRefuse, sendRefusal, carried, sent, sendStep, noteRefusal, noteStep, beginRefusal, beginStep, deliverRefusal, deliverStep, writeRefusal, writeStep, savedRefusal, savedStep, fetchRefusal, fetchStep, restoredRefusal, restoredStep, waitOverRefusal, waitOverStep, failCrashes, failStep, damageRefusal, hurt, damageStep, loseRefusal, lost, loseStep}
 use Rattle.protocol.specs.Entry.{step, stepDecoded, decode, firstOf, secondOf, actorWorks, isCabinet, entryRefusal, perform}
 use Rattle.protocol.specs.History.{History}
 use Rattle.protocol.specs.Restored.{worldAfter}
@@ -36,7 +36,8 @@ use Rattle.claims.proofs.Invariant.Facts.{Ghost}
 use Rattle.claims.proofs.Invariant.Whole.{Inv}
 use Rattle.claims.proofs.Invariant.Past.{Past}
 use Rattle.claims.proofs.Moves.Sending.{seen as send-seen}
-use Rattle.claims.proofs.Moves.Damaging.{hit, seen-mark as damage-seen}
+use Rattle.claims.proofs.Moves.Damaging.{hit, seen as damage-seen}
+use Rattle.claims.proofs.Moves.Losing.{left, seen as lose-seen}
 use Rattle.claims.proofs.Fifo.Unbounded.{Unbounded, idle-same, still}
 use Rattle.claims.proofs.Fifo.Alarms.{puts-fail}
 use Rattle.claims.proofs.Moves.FailStep.{nobody}
@@ -67,7 +68,7 @@ module _ (total : ℕ) (g : Group) (h : History) (γ : Ghost) (w : Fit g) (i : I
   at = below total g h γ w i past
 
   performed : (s : Step) → Fits s → isCabinet g (firstOf s) ≡ true → isCabinet g (secondOf s) ≡ true → actorWorks g s ≡ true → Owed s (perform g s)
-  unfolding sendStep noteStep beginStep deliverStep writeStep savedStep fetchStep restoredStep waitOverStep failStep damageStep hurt
+  unfolding sendStep noteStep beginStep deliverStep writeStep savedStep fetchStep restoredStep waitOverStep failStep damageStep loseStep
   performed (Send a b p q) f x y o =
       checked (Send a b p q) (sendRefusal g (a - 1) (b - 1) p q) _ (λ e _.
       let seen = send-seen total g h γ w i past (a - 1) (b - 1) p q (at a x .1) (at b y .1) f e in
@@ -90,9 +91,15 @@ module _ (total : ℕ) (g : Group) (h : History) (γ : Ghost) (w : Fit g) (i : I
   performed (Damage a b p q) f x y o =
       checked (Damage a b p q) (damageRefusal g (a - 1) (b - 1) p q) _ (λ e.
       cond-elim (Owed (Damage a b p q)) (some (recoveringOnes g)) (λ _ d. absurd (omega arith)) (λ r _.
-      let seen = damage-seen total g h γ w i past (a - 1) (b - 1) p q (at a x .1) (at b y .1) f e r (isNormal (packetAt (line g (a - 1) (b - 1)) p)) in
+      let seen = damage-seen total g h γ w i past (a - 1) (b - 1) p q (at a x .1) (at b y .1) f e r in
       line-ends (Damage a b p q) (view (hurt g (a - 1) (b - 1) p q)) (λ c. ap (λ (u : View). u .own c .state) seen)
       (λ c d. ap (λ (u : View). u .lines c d) seen ∙ line-at (v .lines) (λ l. hit l p q) (a - 1) (b - 1) c d)))
+  performed (Lose a b p) f x y o =
+      checked (Lose a b p) (loseRefusal g (a - 1) (b - 1) p) _ (λ e.
+      cond-elim (Owed (Lose a b p)) (some (recoveringOnes g)) (λ _ d. absurd (omega arith)) (λ r _.
+      let seen = lose-seen total g h γ w i past (a - 1) (b - 1) p (at a x .1) (at b y .1) e r in
+      line-ends (Lose a b p) (view (lost g (a - 1) (b - 1) p)) (λ c. ap (λ (u : View). u .own c .state) seen)
+      (λ c d. ap (λ (u : View). u .lines c d) seen ∙ line-at (v .lines) (λ l. left l p) (a - 1) (b - 1) c d)))
 
   -- the checks that come before every step
   entered : (s : Step) → Fits s → Owed s (orRefuse (entryRefusal g s) g (perform g s))

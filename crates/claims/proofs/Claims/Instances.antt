@@ -13,13 +13,13 @@ use Rattle.group.specs.Group.{cabinet, withCabinet, outgoing, withOutgoing, lin
 use Rattle.load.specs.Load.{load}
 use Rattle.protocol.specs.Moves.{broadcast, join, cutIfAll, takeCheckp, resumeWith, commit, adopt, recoverWith, raise, enterError, hear, findLinkFault, markFailed, alarmTo, endRecovery, noteLost}
 use Rattle.protocol.specs.Receive.{receiveNormal, receiveCheckp, receiveResume, receiveRecover, receiveFault}
-use Rattle.protocol.specs.Kinds.{sent, sendStep, noteStep, beginStep, delivered, deliverStep, writePiece, writeStep, reportSaved, commitIfAll, savedStep, fetchPiece, fetchStep, reportRestored, endIfAll, restoredStep, waitOverStep, failStep, hurt, damageStep}
+use Rattle.protocol.specs.Kinds.{sent, sendStep, noteStep, beginStep, delivered, deliverStep, writePiece, writeStep, reportSaved, commitIfAll, savedStep, fetchPiece, fetchStep, reportRestored, endIfAll, restoredStep, waitOverStep, failStep, hurt, damageStep, lost, loseStep}
 use Rattle.protocol.specs.Entry.{step}
 use Rattle.protocol.specs.Points.{imagesKept, takePoint, returned, returnTo}
 use Rattle.protocol.specs.History.{upd, logged, advance, run, imageIn}
 use Rattle.protocol.specs.Restored.{amperes}
 use Rattle.claims.specs.Bounds.{content}
-use Rattle.claims.specs.Instances.{Wraps, ResumesOnward, OtherSlotIsOlder, LostOnesCount, PointsOfLostOnes, StillTheReturn}
+use Rattle.claims.specs.Instances.{Wraps, ResumesOnward, LossMovesUp, OtherSlotIsOlder, LostOnesCount, PointsOfLostOnes, StillTheReturn}
 
 pub wraps : Wraps
 unfolding crcBit crcBits crcOctet crcFrom lowest covers both struck connected emptyLines lineTo withLineTo putAll putCheckps cabinet withCabinet outgoing withOutgoing line withLine blankSlots slot withSlots withSlot rowsOf ofRows withSound some working recoveringOnes isCrashed sum load broadcast join cutIfAll takeCheckp resumeWith commit adopt recoverWith raise enterError hear findLinkFault markFailed alarmTo endRecovery noteLost receiveNormal receiveCheckp receiveResume receiveRecover receiveFault sent sendStep noteStep beginStep delivered deliverStep writePiece writeStep reportSaved commitIfAll savedStep fetchPiece fetchStep reportRestored endIfAll restoredStep failStep hurt damageStep step upd logged advance run
@@ -31,6 +31,10 @@ wraps = (
 pub resumes-onward : ResumesOnward
 unfolding crcBit crcBits crcOctet crcFrom lowest covers both struck connected emptyLines lineTo withLineTo putAll putCheckps cabinet withCabinet outgoing withOutgoing line withLine blankSlots slot withSlots withSlot rowsOf ofRows withSound some working recoveringOnes isCrashed sum load broadcast join cutIfAll takeCheckp resumeWith commit adopt recoverWith raise enterError hear findLinkFault markFailed alarmTo endRecovery noteLost receiveNormal receiveCheckp receiveResume receiveRecover receiveFault sent sendStep noteStep beginStep delivered deliverStep writePiece writeStep reportSaved commitIfAll savedStep fetchPiece fetchStep reportRestored endIfAll restoredStep failStep hurt damageStep step upd logged advance run content
 resumes-onward = (refl, refl, refl, refl)
+
+pub loss-moves-up : LossMovesUp
+unfolding crcBit crcBits crcOctet crcFrom lowest covers both connected emptyLines lineTo withLineTo cabinet withCabinet outgoing withOutgoing line withLine blankSlots rowsOf ofRows some working recoveringOnes isCrashed sum load sent sendStep lost loseStep step upd logged advance run content
+loss-moves-up = (refl, refl, refl, refl)
 
 -- its cut has 75 amperes, the start 50
 pub other-slot-is-older : OtherSlotIsOlder

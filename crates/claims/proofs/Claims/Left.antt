@@ -16,11 +16,11 @@ use Rattle.group.specs.declared.Group.{Group}
 use Rattle.group.specs.declared.Outcome.{Outcome}
 use Rattle.group.specs.Group.{cabinet, line}
 use Rattle.protocol.specs.declared.Step.{Step}
-use Rattle.protocol.specs.declared.Step.the-variants.{Send, Note, Begin, Deliver, Write, Saved, Fetch, Restored, WaitOver, Fail, Damage}
+use Rattle.protocol.specs.declared.Step.the-variants.{Send, Note, Begin, Deliver, Write, Saved, Fetch, Restored, WaitOver, Fail, Damage, Lose}
 use Rattle.protocol.specs.declared.Decoded.{Decoded}
 use Rattle.protocol.specs.declared.Decoded.the-variants.{Malformed, Unused, Taken}
 use Rattle.protocol.specs.Receive.{takesFrom}
-use Rattle.protocol.specs.History.{History, goes, noteTaken, noteKnown, commits, noteCommit, noteHurt, lostNow, noteEnd, ends, observe, recordDecoded}
+use Rattle.protocol.specs.History.{History, goes, noteTaken, noteKnown, commits, noteCommit, noteDamage, lostNow, noteEnd, ends, observe, recordDecoded}
 use Rattle.claims.proofs.State.Fun.{cond-elim}
 
 pub record Leaves (h h′ : History) : Type 0 where
@@ -56,9 +56,9 @@ end-leaves : (t : Bool) (h : History) (g : Group) → Leaves h (noteEnd t h g)
 end-leaves true h g = record { points = refl; lost = λ c m e. ap (lostNow h g c) e }
 end-leaves false h g = nothing h
 
-hurt-leaves : (t : Bool) (h : History) → Leaves h (noteHurt t h)
-hurt-leaves true h = record { points = refl; lost = λ c m e. e }
-hurt-leaves false h = nothing h
+damage-leaves : (t : Bool) (h : History) (a b : ℕ) → Leaves h (noteDamage t h a b)
+damage-leaves true h a b = record { points = refl; lost = λ c m e. e }
+damage-leaves false h a b = nothing h
 
 observed-leaves : (h : History) (g g′ : Group) (s : Step) → Leaves h (observe h g g′ s)
 observed-leaves h g g′ (Send a b p q) = record { points = refl; lost = λ c m e. e }
@@ -75,7 +75,8 @@ observed-leaves h g g′ (Fetch a) = known-leaves (goes g g′ (a - 1) Recoverin
 observed-leaves h g g′ (Restored a) = end-leaves (ends g g′ (a - 1)) h g′
 observed-leaves h g g′ (WaitOver a) = nothing h
 observed-leaves h g g′ (Fail a) = record { points = refl; lost = λ c m e. e }
-observed-leaves h g g′ (Damage a b p q) = hurt-leaves (isNormal (packetAt (line g (a - 1) (b - 1)) p)) h
+observed-leaves h g g′ (Damage a b p q) = damage-leaves (isNormal (packetAt (line g (a - 1) (b - 1)) p)) h (a - 1) (b - 1)
+observed-leaves h g g′ (Lose a b p) = record { points = refl; lost = λ c m e. e }
 
 pub step-leaves : (h : History) (g : Group) (o : Outcome) (d : Decoded) → Leaves h (recordDecoded h g o d)
 step-leaves h g o Malformed = nothing h

@@ -24,12 +24,13 @@ use Rattle.group.specs.declared.Outcome.{Outcome}
 use Rattle.group.specs.Group.{cabinet, stateOf, line, slot, isCrashed, taken, sum}
 use Rattle.load.specs.Load.{load, feederTotal}
 use Rattle.protocol.specs.declared.Step.the-variants.{Saved}
+use Rattle.protocol.specs.declared.Decoded.{Decoded}
 use Rattle.protocol.specs.declared.Decoded.the-variants.{Taken}
 use Rattle.protocol.specs.Kinds.{need, orRefuse, writeRefusal, fetchRefusal, savedRefusal, savedStep, reportSaved, commitIfAll}
 use Rattle.protocol.specs.Entry.{step, stepDecoded, entryRefusal, isCabinet}
-use Rattle.protocol.specs.History.{Cut, Save, History, Operation, advance, commits, latest, newest, imageNow}
+use Rattle.protocol.specs.History.{Cut, Save, History, Operation, advance, commits, noteCommit, recordDecoded, latest, newest, imageNow}
 use Rattle.protocol.specs.Restored.{Octets, AllOctets, worldAfter, Balanced, amperes}
-use Rattle.claims.specs.Saves.{Commits, savedTotal, CommitsWhole, CommitsBetweenResumes, TakesResume, ResumeOfNewest, VersionsNameNewest, KnownWhereUsed, FetchedOfNewest, CutsSinceBegin}
+use Rattle.claims.specs.Saves.{Commits, savedTotal, CommitsWhole, CommitsUnhurt, CommitsBetweenResumes, TakesResume, ResumeOfNewest, VersionsNameNewest, KnownWhereUsed, FetchedOfNewest, CutsSinceBegin}
 use Rattle.claims.proofs.State.Fun.{never, is-true, and-true, and-intro, not-true-false, cond-elim, sum-cong}
 use Rattle.claims.proofs.State.Every.{passed}
 use Rattle.claims.proofs.State.Counting.{step-n}
@@ -37,11 +38,11 @@ use Rattle.claims.proofs.State.View.{view}
 use Rattle.claims.proofs.State.Cells.{content-set}
 use Rattle.claims.proofs.Answers.Tests.{in-state}
 use Rattle.claims.proofs.Invariant.States.{restoring-works}
-use Rattle.claims.proofs.Invariant.Facts.{Ghost}
+use Rattle.claims.proofs.Invariant.Facts.{Ghost, linked}
 use Rattle.claims.proofs.Invariant.Past.{held-now, cut-held, tops-add}
 use Rattle.claims.proofs.Invariant.Words.{un-of}
 use Rattle.claims.proofs.Moves.Waking.{resume-open, resume-fresh}
-use Rattle.claims.proofs.Moves.Saving.{all-wrote}
+use Rattle.claims.proofs.Moves.Saving.{chief-alive, all-wrote}
 use Rattle.claims.proofs.Claims.Stepping.{below}
 use Rattle.claims.proofs.Claims.Demand.{Runs, open-step, taken-runs, count-after}
 use Rattle.claims.proofs.Claims.Bounds.{running}
@@ -181,14 +182,31 @@ module _ (g : Group) (r : List ℕ) (c : Commits g r) where
       (ap (λ (x : Outcome). x .answer) (sym (decoded ∙ entry .1)) ∙ c .taken) in
       (s .0, ap (λ (x : Outcome). x .group) (decoded ∙ entry .1 ∙ s .1))
 
-  -- no line holds a resume: its receiver would have written, and with that have its cut
-  no-resumes : (total : ℕ) (h : History) → Runs total g h → (x y k : ℕ) → packetAt (line g x y) k ≡ Resume → ⊥
-  no-resumes total h w x y k e =
-      let n = w .inv .core .nodes y in
-      let u = resume-open (g .n) total (view g) (w .ghost) (w .inv) x y k (on-line total g h w x y k e) in
-      let wrote = all-wrote total g h (w .ghost) (w .fit) (w .inv) (w .past) a (below total g h (w .ghost) (w .fit) (w .inv) (w .past) (c .about) (entered .1) .1)
-      (report .0) (ap (λ (z : Group). commits g z K) (sym (report .1)) ∙ c .commit) in
-      never (n .wroteDone (wrote y (n .placed (u .0)))) (u .1)
+  module _ (total : ℕ) (h : History) (w : Runs total g h) where
+    named : a < 8
+    named = below total g h (w .ghost) (w .fit) (w .inv) (w .past) (c .about) (entered .1) .1
+
+    -- every cabinet of the save has its cut
+    all-cut : (y : ℕ) → w .ghost .mind y .tab ≡ true → w .ghost .mind y .done ≡ true
+    all-cut y t =
+        w .inv .core .nodes y .wroteDone
+        (all-wrote total g h (w .ghost) (w .fit) (w .inv) (w .past) a named (report .0) (ap (λ (z : Group). commits g z K) (sym (report .1)) ∙ c .commit) y t)
+
+    -- no line holds a resume: its receiver would have its cut
+    no-resumes : (x y k : ℕ) → packetAt (line g x y) k ≡ Resume → ⊥
+    no-resumes x y k e =
+        let u = resume-open (g .n) total (view g) (w .ghost) (w .inv) x y k (on-line total g h w x y k e) in
+        never (all-cut y (w .inv .core .nodes y .placed (u .0))) (u .1)
+
+    -- nothing was hurt on a line whose receiver has its cut, nor on one that joins nobody
+    none-hurt : (x y : ℕ) → h .hurt x y ≡ false
+    none-hurt x y = w .past .hurt x y ∙ go (linked (w .ghost .mind x) (w .ghost .mind y) (w .ghost .wire x y)) refl
+      where
+        go : (t : Bool) → linked (w .ghost .mind x) (w .ghost .mind y) (w .ghost .wire x y) ≡ t → w .ghost .wire x y .hurt ≡ false
+        go true e =
+            let tab = and-true {s = w .ghost .mind x .tab} (and-true {s = w .ghost .wire x y .lk} e .1) .1 in
+            w .inv .core .pairs x y .closedEqual e (rw (all-cut y tab)) (chief-alive total g h (w .ghost) (w .fit) (w .inv) (w .past) a named (report .0)) .2
+        go false e = w .inv .core .pairs x y .apart e .4
 
 module _ (f : List ℕ) (of : Octets f) (e : load f .answer ≡ 0) (xs : List Operation) (o : AllOctets xs) (r : List ℕ)
     (c : Commits (worldAfter f xs .group) r) where
@@ -197,6 +215,24 @@ module _ (f : List ℕ) (of : Octets f) (e : load f .answer ≡ 0) (xs : List Op
 
 pub commits-between-resumes : CommitsBetweenResumes
 commits-between-resumes f of e xs o r or c = no-resumes (worldAfter f xs .group) r c (feederTotal f) (worldAfter f xs .history) (before f of e xs o r c)
+
+-- a saved report hurts nothing
+saved-hurts : (h : History) (g : Group) (o : Outcome) (x : ℕ) → recordDecoded h g o (Taken (Saved x)) .hurt ≡ h .hurt
+saved-hurts h g o x =
+    cond-elim (λ (y : History). y .hurt ≡ h .hurt) (eqb (o .answer) 0)
+    (λ _. committed (commits g (o .group) (coordinator (cabinet g (cabinet g (x - 1) .home)))) (coordinator (cabinet g (cabinet g (x - 1) .home)))) (λ _. refl)
+  where
+    committed : (t : Bool) (k : ℕ) → noteCommit t h k .hurt ≡ h .hurt
+    committed true k = refl
+    committed false k = refl
+
+pub commits-unhurt : CommitsUnhurt
+unfolding advance
+commits-unhurt f of e xs o r or c a b =
+    let g = worldAfter f xs .group in
+    let h = worldAfter f xs .history in
+    ap (λ (m : ℕ → ℕ → Bool). m a b) (ap (λ (d : Decoded). recordDecoded h g (step g r) d .hurt) (c .saved) ∙ saved-hurts h g (step g r) (c .about))
+    ∙ none-hurt g r c (feederTotal f) h (before f of e xs o r c) a b
 
 pub commits-whole : CommitsWhole
 unfolding advance

@@ -13,8 +13,8 @@ use Rattle.group.specs.declared.Group.{Group}
 use Rattle.group.specs.declared.Outcome.{Outcome}
 use Rattle.group.specs.Group.{line, rowsOf, isCrashed, some, recoveringOnes}
 use Rattle.protocol.specs.declared.Step.{Step}
-use Rattle.protocol.specs.declared.Step.the-variants.{Send, Note, Begin, Deliver, Write, Saved, Fetch, Restored as RestoredStep, WaitOver, Fail, Damage}
-use Rattle.protocol.specs.Kinds.{orRefuse, sendRefusal, sendStep, noteRefusal, noteStep, beginRefusal, beginStep, deliverRefusal, deliverStep, writeRefusal, writeStep, savedRefusal, savedStep, fetchRefusal, fetchStep, restoredRefusal, restoredStep, waitOverRefusal, waitOverStep, failCrashes, failStep, damageRefusal, damageStep}
+use Rattle.protocol.specs.declared.Step.the-variants.{Send, Note, Begin, Deliver, Write, Saved, Fetch, Restored as RestoredStep, WaitOver, Fail, Damage, Lose}
+use Rattle.protocol.specs.Kinds.{orRefuse, sendRefusal, sendStep, noteRefusal, noteStep, beginRefusal, beginStep, deliverRefusal, deliverStep, writeRefusal, writeStep, savedRefusal, savedStep, fetchRefusal, fetchStep, restoredRefusal, restoredStep, waitOverRefusal, waitOverStep, failCrashes, failStep, damageRefusal, damageStep, loseRefusal, loseStep}
 use Rattle.protocol.specs.Entry.{firstOf, secondOf, actorWorks, isCabinet, entryRefusal, perform}
 use Rattle.protocol.specs.History.{History}
 use Rattle.claims.proofs.State.Fun.{and-true, cond-elim, not-true-false}
@@ -30,6 +30,7 @@ use Rattle.claims.proofs.Moves.Beginning.{keeps-begin}
 use Rattle.claims.proofs.Moves.Writing.{keeps-write}
 use Rattle.claims.proofs.Moves.Saving.{keeps-saved}
 use Rattle.claims.proofs.Moves.Damaging.{keeps-damage}
+use Rattle.claims.proofs.Moves.Losing.{keeps-lose}
 use Rattle.claims.proofs.Moves.FailStep.{keeps-fail}
 use Rattle.claims.proofs.Moves.WaitingOver.{keeps-wait-over}
 use Rattle.claims.proofs.Moves.Fetching.{keeps-fetch}
@@ -60,7 +61,7 @@ module _ (total : ℕ) (g : Group) (h : History) (γ : Ghost) (w : Fit g) (i : I
   Named s = (isCabinet g (firstOf s) ≡ true) × (isCabinet g (secondOf s) ≡ true)
 
   performed : (s : Step) → Fits s → Named s → actorWorks g s ≡ true → Owed s (perform g s)
-  unfolding sendStep noteStep beginStep deliverStep writeStep savedStep fetchStep restoredStep waitOverStep failStep damageStep
+  unfolding sendStep noteStep beginStep deliverStep writeStep savedStep fetchStep restoredStep waitOverStep failStep damageStep loseStep
   performed (Send a b p q) f c o =
       checked (Send a b p q) (sendRefusal g (a - 1) (b - 1) p q) _
       (λ e _. kept-next (keeps-send total g h γ w i past (a - 1) (b - 1) p q (below a (c .0) .1) (below b (c .1) .1) f e))
@@ -93,6 +94,10 @@ module _ (total : ℕ) (g : Group) (h : History) (γ : Ghost) (w : Fit g) (i : I
       checked (Damage a b p q) (damageRefusal g (a - 1) (b - 1) p q) _
       (λ e. cond-elim (Owed (Damage a b p q)) (some (recoveringOnes g)) (λ _ d. absurd (omega arith))
       (λ r _. kept-next (keeps-damage total g h γ w i past (a - 1) (b - 1) p q (below a (c .0) .1) (below b (c .1) .1) f e r)))
+  performed (Lose a b p) f c o =
+      checked (Lose a b p) (loseRefusal g (a - 1) (b - 1) p) _
+      (λ e. cond-elim (Owed (Lose a b p)) (some (recoveringOnes g)) (λ _ d. absurd (omega arith))
+      (λ r _. kept-next (keeps-lose total g h γ w i past (a - 1) (b - 1) p (below a (c .0) .1) (below b (c .1) .1) e r)))
 
   -- the checks that come before every step
   pub entered : (s : Step) → Fits s → Owed s (orRefuse (entryRefusal g s) g (perform g s))

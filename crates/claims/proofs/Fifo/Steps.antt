@@ -1,4 +1,4 @@
--- The kinds of step beside deliver, fail, send and damage: what they put, in a group that meets the invariant.
+-- The kinds of step beside deliver, fail, send, damage and lose: what they put, in a group that meets the invariant.
 use Prim.Native.Nat.{ℕ, _<_}
 use mathlib.Core.Path.{_≡_, refl, sym, ap, _∙_, subst}
 use mathlib.Core.Bool.{Bool, true, false, not, _&&_}

@@ -39,7 +39,7 @@ pub record Big : Type 0 where
   pub begun : Bool
   -- some cabinet that is aware of the fault has known its version
   pub frozen : Bool
-  -- no damage, and no damage to a normal packet, since the last recovery's end
+  -- no damage and no loss, and no damage to a normal packet, since the last recovery's end
   pub calm : Bool
   pub clean : Bool
 
@@ -69,6 +69,8 @@ pub record Wire : Type 0 where
   -- the amperes sent and taken since the images of `base` were
   pub out : ℕ
   pub got : ℕ
+  -- a normal packet of the line was hurt, damaged or lost, since the last recovery's end
+  pub hurt : Bool
   -- the link was in use at the last recovery's end
   pub lk : Bool
 
@@ -191,10 +193,11 @@ unfoldable pub amount : List Payload → ℕ
 amount [] = 0
 amount (p ∷ l) = p .amount + amount l
 
--- equal, or different in exactly one place, by another amount for the same outlet
+-- equal, or different in exactly one place, by another amount for the same outlet or by a packet left out
 pub data Differ : Bool → List Payload → List Payload → Type 0 where
   same : {l : List Payload} → Differ false l l
   here : {p : Payload} {m : ℕ} {l : List Payload} → p .amount ≢ m → Differ true (p ∷ l) (record { outlet = p .outlet; amount = m } ∷ l)
+  missing : {p : Payload} {l : List Payload} → Differ true (p ∷ l) l
   later : {b : Bool} {p : Payload} {k l : List Payload} → Differ b k l → Differ b (p ∷ k) (p ∷ l)
 
 -- G5: what is sent after the last comparison, beside what is taken after it or still on the way
@@ -208,6 +211,8 @@ pub record Stream (waiting hurt : Bool) (put took : Check) (w : Wire) (l : List 
   pub carries : (v : Check) (k : List Packet) → l ≡ k ++ (Checkp v ∷ []) → v ≡ checkOf (drop (w .ver) (w .sent))
   -- D8: the amperes that are not taken are on the way, unless a packet is hurt
   pub onWay : hurt ≡ false → w .out ≡ w .got + amount (amountsIn l)
+  -- the mark tells of all that was hurt since the last recovery's end
+  pub tells : hurt ≡ w .hurt
 
 -- G1: the line out of an aware cabinet: its fault and its recover, or what is left of them
 pub record Alarms (x : Version) (q : Place) (l : List Packet) : Type 0 where
@@ -226,10 +231,10 @@ pub record Pair (b : Big) (c d : ℕ) (o : Own) (m : Mind) (p : Own) (n : Mind) 
       → (s .cab ≡ (n .tab && not (hitsCabinet q d))) × (s .link ≡ (w .lk && not (hitsLink q c d)))
   -- D2
   pub closedJoined : linked m n w ≡ true → closed b p n t ≡ true → m .joined ≡ true
-  pub closedEqual : linked m n w ≡ true → closed b p n t ≡ true → b .alive ≡ true → (w .sent ≡ w .taken) × (w .out ≡ w .got)
+  pub closedEqual : linked m n w ≡ true → closed b p n t ≡ true → b .alive ≡ true → (w .sent ≡ w .taken) × (w .out ≡ w .got) × (w .hurt ≡ false)
   pub closedEmpty : linked m n w ≡ true → closed b p n t ≡ true → unaware b o ≡ true → l ≡ []
   -- D3
-  pub apart : linked m n w ≡ false → (w .sent ≡ []) × (w .taken ≡ []) × (w .out ≡ 0) × (w .got ≡ 0)
+  pub apart : linked m n w ≡ false → (w .sent ≡ []) × (w .taken ≡ []) × (w .out ≡ 0) × (w .got ≡ 0) × (w .hurt ≡ false)
   -- F1, F2, F4
   pub owes : s .owed ≡ true → (n .wrote ≡ true) × (n .told ≡ false) × (unaware b o ≡ true)
   pub owesHome : s .owed ≡ true → p .home ≡ c
@@ -263,10 +268,11 @@ pub record Pair (b : Big) (c d : ℕ) (o : Own) (m : Mind) (p : Own) (n : Mind) 
   pub fresh : aware b o ≡ true → isIn (o .state) Recovered ≡ true → (s .put ≡ startCheck) × (s .took ≡ startCheck) × (s .hurt ≡ false)
   -- G7
   pub room : unaware b o ≡ true → count isSafe l ≤ 2 + cond (m .joined) 1 0
-  -- G8, and what damage has not touched
+  -- G8, and what damage and loss have not touched
   pub sound : b .calm ≡ true → count isInvalid l ≡ 0
-  pub unhurt : b .clean ≡ true → unaware b p ≡ true → t .hurt ≡ false
-  pub noMore : b .clean ≡ true → w .got ≤ w .out
+  pub unhurt : b .calm ≡ true → unaware b p ≡ true → t .hurt ≡ false
+  -- W: no more is taken or on the way than was sent; a loss leaves less
+  pub noMore : b .clean ≡ true → w .got + amount (amountsIn l) ≤ w .out
   pub small : Amounts (w .sent) × (Amounts (w .taken) × Amounts (amountsIn l))
 
 -- ---- facts about one cabinet; z are its slots in the store
@@ -288,7 +294,7 @@ pub record Node (b : Big) (c : ℕ) (o : Own) (m : Mind) (z : Bool → Image) : 
   pub inCheckpointing : unaware b o ≡ true → o .state ≡ Checkpointing → (m .done ≡ true) × (m .wrote ≡ false) × (o .pieces < 4)
   pub inCheckpointed : unaware b o ≡ true → o .state ≡ Checkpointed → (m .joined ≡ false) ⊎ (m .wrote ≡ true)
   pub chiefSaved : unaware b o ≡ true → o .state ≡ Checkpointed → c ≡ b .chief → m .joined ≡ true
-  pub inRecovered : unaware b o ≡ true → o .state ≡ Recovered → (m .joined ≡ false) × (c ≢ b .chief) × (b .calm ≡ true) × (b .clean ≡ true)
+  pub inRecovered : unaware b o ≡ true → o .state ≡ Recovered → (m .joined ≡ false) × (c ≢ b .chief) × (b .calm ≡ true)
   pub inError : aware b o ≡ true → o .state ≡ Error → o .pieces ≡ 0
   pub inRecovering : aware b o ≡ true → o .state ≡ Recovering → (o .pieces < 4) × SameTo (8 * o .pieces) (o .image) (m .top)
   pub restored : aware b o ≡ true → o .state ≡ Recovered → (o .image ≡ m .top) × (b .adopted ≡ true)

@@ -1,6 +1,6 @@
--- Lines and logs: one packet more or less, and what may be on a line. Two logs of which at most one amount differs have equal check values
--- only if they are equal, so an equal comparison covers nothing hurt.
-use Prim.Native.Nat.{ℕ, zero, suc, _+_, _≤_, _<_}
+-- Lines and logs: one packet more or less, and what may be on a line. Two logs of which at most one amount differs, or one packet is missing,
+-- have equal check values only if they are equal, so an equal comparison covers nothing hurt.
+use Prim.Native.Nat.{ℕ, zero, suc, _+_, _%_, _≤_, _<_}
 use mathlib.Core.Path.{_≡_, refl, ap, _∙_, sym}
 use mathlib.Core.Bool.{Bool, true, false, cond, false≢true, true≢false}
 use mathlib.Core.List.{List, [], _∷_, _++_, nil≢cons, append-nil}
@@ -14,12 +14,12 @@ use Rattle.packet.specs.declared.Payload.{Payload}
 use Rattle.packet.specs.declared.Packet.{Packet}
 use Rattle.packet.specs.declared.Packet.the-variants.{Empty, Normal as NormalPacket, Checkp, Resume, Recover, Fault, Invalid}
 use Rattle.packet.specs.Packet.{octetsOf, startCheck, stepCheck, isNormal, isEmpty}
-use mathlib.Core.Logic.{_⊎_, inl, inr, ⊎-elim}
+use mathlib.Core.Logic.{_≢_, _⊎_, inl, inr, ⊎-elim}
 use Rattle.packet.specs.declared.Place.{Place}
 use Rattle.state.specs.declared.Version.{Version}
 use Rattle.state.specs.declared.Version.the-variants.{Known}
 use Rattle.claims.proofs.State.Fun.{never}
-use Rattle.claims.proofs.Invariant.Facts.{amountsIn, isCheckp, count, resumeFirst, checkFrom, checkOf, Amounts, Differ, same, here, later, Alarms, amount, isFault, isSafe, isInvalid, checkpLast}
+use Rattle.claims.proofs.Invariant.Facts.{amountsIn, isCheckp, count, resumeFirst, checkFrom, checkOf, Amounts, Differ, same, here, missing, later, Alarms, amount, isFault, isSafe, isInvalid, checkpLast}
 
 -- ---- one packet more
 
@@ -110,6 +110,17 @@ amounts-rest Resume k e = refl
 amounts-rest (Recover v) k e = refl
 amounts-rest (Fault q) k e = refl
 amounts-rest Invalid k e = refl
+
+-- without one packet there is no more on the way
+pub amount-rest : (p : Packet) (k : List Packet) → amount (amountsIn k) ≤ amount (amountsIn (p ∷ k))
+unfolding amountsIn amount
+amount-rest Empty k = omega arith
+amount-rest (NormalPacket q) k = omega arith
+amount-rest (Checkp v) k = omega arith
+amount-rest Resume k = omega arith
+amount-rest (Recover v) k = omega arith
+amount-rest (Fault q) k = omega arith
+amount-rest Invalid k = omega arith
 
 pub small-rest : (p : Packet) (k : List Packet) → Amounts (amountsIn (p ∷ k)) → Amounts (amountsIn k)
 unfolding amountsIn Amounts
@@ -207,6 +218,7 @@ short-first l = ⊎-elim (λ e. rw e refl) (λ e. rw (e .1) refl)
 pub differ-more : {b : Bool} {k l : List Payload} (x : List Payload) → Differ b k l → Differ b (k ++ x) (l ++ x)
 differ-more x same = same
 differ-more x (here n) = here n
+differ-more x missing = missing
 differ-more x (later d) = later (differ-more x d)
 
 -- the register after one packet more
@@ -235,13 +247,30 @@ unfolding checkFrom crcFrom
 check-octets c [] = refl
 check-octets c (p ∷ l) = check-octets (stepCheck c p) l
 
--- one amount that differs is seen, from any register
-seen : (c : Check) {k l : List Payload} → Differ true k l → Amounts k → Amounts l → checkFrom c k ≡ checkFrom c l → ⊥
+mod-lt : (k : ℕ) → k % 65536 < 65536
+mod-lt k = omega arith
+
+-- one packet more is another count, modulo 65,536 too, and counts that differ still do after the same packets
+one-more : (k : ℕ) → k < 65536 → (k + 1) % 65536 ≢ k
+one-more k s e = omega arith
+
+counts-stay : (k l : ℕ) → k < 65536 → l < 65536 → (k + 1) % 65536 ≡ (l + 1) % 65536 → k ≡ l
+counts-stay k l a b e = omega arith
+
+counts-apart : (c d : Check) (l : List Payload) → c .count < 65536 → d .count < 65536 → c .count ≢ d .count → checkFrom c l ≡ checkFrom d l → ⊥
+unfolding checkFrom
+counts-apart c d [] a b n e = n (ap (λ (x : Check). x .count) e)
+counts-apart c d (p ∷ l) a b n e =
+    counts-apart (stepCheck c p) (stepCheck d p) l (mod-lt (c .count + 1)) (mod-lt (d .count + 1)) (λ f. n (counts-stay (c .count) (d .count) a b f)) e
+
+-- one amount that differs is seen by the CRC, and a packet that is missing by the count, from any register
+seen : (c : Check) {k l : List Payload} → Differ true k l → Amounts k → Amounts l → c .count < 65536 → checkFrom c k ≡ checkFrom c l → ⊥
 unfolding Amounts checkFrom
-seen c (here {p} {m} {l} n) a b e =
+seen c (here {p} {m} {l} n) a b s e =
     one-differs (octetOf (p .outlet) ∷ []) (octetsIn l) (c .crc) (p .amount) m (a .0) (b .0) n
     (sym (check-octets c (p ∷ l)) ∙ ap (λ (x : Check). x .crc) e ∙ check-octets c (record { outlet = p .outlet; amount = m } ∷ l))
-seen c (later {p = p} d) a b e = seen (stepCheck c p) d (a .1) (b .1) e
+seen c (missing {p} {l}) a b s e = counts-apart (stepCheck c p) c l (mod-lt (c .count + 1)) s (one-more (c .count) s) e
+seen c (later {p = p} d) a b s e = seen (stepCheck c p) d (a .1) (b .1) (mod-lt (c .count + 1)) e
 
 pub differ-none : {k l : List Payload} → Differ false k l → k ≡ l
 differ-none same = refl
@@ -250,5 +279,5 @@ differ-none (later {p = p} d) = ap (λ (r : List Payload). p ∷ r) (differ-none
 -- nothing hurt passes an equal comparison
 pub equal-checks : (b : Bool) (k l : List Payload) → Differ b k l → Amounts k → Amounts l → checkOf k ≡ checkOf l → (b ≡ false) × (k ≡ l)
 unfolding checkOf
-equal-checks true k l d a c e = absurd (seen startCheck d a c e)
+equal-checks true k l d a c e = absurd (seen startCheck d a c (omega arith) e)
 equal-checks false k l d a c e = (refl, differ-none d)

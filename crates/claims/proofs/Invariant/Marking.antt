@@ -65,6 +65,7 @@ module _ (n : ℕ) (v : View) (γ : Ghost) (h : History) (p : Past n v γ h) (a 
   past-mind = record {
     sent = p .sent;
     taken = p .taken;
+    damaged = p .damaged;
     hurt = p .hurt;
     cuts = λ e c f.
         let x = p .cuts e c (sym (kept-at (λ (x : Mind). x .done) (γ .mind) a m done c) ∙ f) in

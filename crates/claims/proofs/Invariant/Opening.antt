@@ -25,7 +25,7 @@ use Rattle.image.specs.Image.{booked}
 use Rattle.cabinet.specs.Cabinet.{absent}
 use Rattle.group.specs.declared.Group.{Group}
 use Rattle.group.specs.Group.{cabinet, slot, rowsOf, sum}
-use Rattle.load.specs.Load.{present, feederTotal}
+use Rattle.load.specs.Load.{feederTotal}
 use Rattle.load.specs.Starts.{Starts}
 use Rattle.protocol.specs.History.{Cut, atStart, bareCut}
 use Rattle.marks.proofs.Lists.{getD-in}
@@ -50,7 +50,7 @@ abbrev m₀ : Bool → Image → Mind
 m₀ t x = record { tab = t; joined = false; done = false; wrote = false; told = false; ready = false; cut = x; base = x; top = x; prev = x }
 
 abbrev w₀ : Bool → Wire
-w₀ t = record { sent = []; taken = []; ver = 0; out = 0; got = 0; lk = t }
+w₀ t = record { sent = []; taken = []; ver = 0; out = 0; got = 0; hurt = false; lk = t }
 
 -- a cabinet at the start: in normal with version 0, or no cabinet at all
 record Ready (tab : Bool) (o : Own) : Type 0 where
@@ -97,6 +97,7 @@ module _ (c d : ℕ) (o p : Own) (x y : Image) (s t : Side) (to td lk : Bool) (r
     writes = cs .put ∙ sym check-none;
     carries = λ v k e. absurd (no-checkp-end [] v k (count-none isCheckp) e);
     onWay = λ e. refl;
+    tells = ct .hurt;
   }
 
   p-not : (s : State) → isIn Normal s ≡ false → isIn Failed s ≡ false → isIn (p .state) s ≡ true → ⊥
@@ -115,14 +116,14 @@ module _ (c d : ℕ) (o p : Own) (x y : Image) (s t : Side) (to td lk : Bool) (r
   p-open e = p-not CheckpBegin refl refl (and-true {s = isIn (p .state) CheckpBegin} e .0)
 
   start-pair : Pair b₀ c d o (m₀ to x) p (m₀ td y) s t [] (w₀ lk)
-  unfolding count checkpLast Amounts amountsIn
+  unfolding count checkpLast Amounts amountsIn amount
   start-pair = record {
     table = λ u. tables (sym (working-tab to o ro) ∙ un-works b₀ o u);
     struck = λ a. absurd (false≢true a);
     closedJoined = λ k e. absurd (p-open e);
-    closedEqual = λ k e a. (refl, refl);
+    closedEqual = λ k e a. (refl, refl, refl);
     closedEmpty = λ k e u. refl;
-    apart = λ e. (refl, refl, refl, refl);
+    apart = λ e. (refl, refl, refl, refl, refl);
     owes = λ e. absurd (never e (cs .owed));
     owesHome = λ e. absurd (never e (cs .owed));
     reported = λ i e. absurd (o-saves e);
@@ -354,7 +355,8 @@ module _ (f : List ℕ) (g : Group) (st : Starts f g) (fit : Fit g) where
   starts-past = record {
     sent = λ c d. refl;
     taken = λ c d. refl;
-    hurt = refl;
+    damaged = refl;
+    hurt = λ c d. refl;
     cuts = λ e c d. absurd (false≢true d);
     noCut = λ e b. absurd (false≢true b);
     known = refl;

@@ -34,7 +34,8 @@ pub record Past (n : ℕ) (v : View) (γ : Ghost) (h : History) : Type 0 where
   -- the logs
   pub sent : (c d : ℕ) → h .sent c d ≡ γ .wire c d .sent
   pub taken : (c d : ℕ) → h .taken c d ≡ γ .wire c d .taken
-  pub hurt : h .hurt ≡ not (γ .big .clean)
+  pub damaged : h .damaged ≡ not (γ .big .clean)
+  pub hurt : (c d : ℕ) → h .hurt c d ≡ γ .wire c d .hurt
   -- D1: the logs at a cut are the logs now
   pub cuts : γ .big .alive ≡ true → (c : ℕ) → γ .mind c .done ≡ true → (x : Cut) × (h .cuts c ≡ some x) × (x .image ≡ γ .mind c .cut)
       × ((d : ℕ) → x .sent d ≡ γ .wire c d .sent) × ((d : ℕ) → x .taken d ≡ γ .wire d c .taken)
@@ -121,6 +122,7 @@ pub past-view : {n : ℕ} {v w : View} {γ : Ghost} {h : History} → ((j : ℕ)
 past-view e f p = record {
   sent = p .sent;
   taken = p .taken;
+  damaged = p .damaged;
   hurt = p .hurt;
   cuts = p .cuts;
   noCut = p .noCut;

@@ -20,7 +20,7 @@ use Rattle.points.specs.Points.{noPoint, noPoints, pointAt, withPoint, imageAt,
 use Rattle.group.specs.Group.{sum}
 use Rattle.protocol.specs.History.{History}
 use Rattle.claims.specs.Points.{Stand}
-use Rattle.claims.proofs.State.Fun.{never, is-false, and-true, and-intro, not-true-false, cond-elim, sum-tail}
+use Rattle.claims.proofs.State.Fun.{never, is-false, and-true, and-intro, cond-elim, sum-tail}
 use Rattle.claims.proofs.State.Every.{getD-repeated}
 use Rattle.claims.proofs.State.Shape.{Pictured}
 
@@ -88,9 +88,6 @@ module _ (ps : Points) (name : List ℕ) where
   pub place-none : (placeOf ps name < 4 → ⊥) → (k : ℕ) → k < 4 → pointAt ps k .kept ≡ true → pointAt ps k .name ≡ name → ⊥
   unfolding placeOf
   place-none n k l e f = n (passes-first (isNamed ps name) k l (and-intro e (same-name (pointAt ps k .name) name .1 f)))
-
-pub place-free : (ps : Points) → firstPlace (isFree ps) < 4 → pointAt ps (firstPlace (isFree ps)) .kept ≡ false
-place-free ps l = not-true-false (first-passes (isFree ps) l)
 
 -- ---- the points that stand
 

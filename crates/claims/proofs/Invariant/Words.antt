@@ -124,6 +124,10 @@ chief-of n total g γ i a un =
     (i .pairs a (γ .big .chief) .table un .0 ∙ i .ground .chiefIn)
     (λ j e. i .ground .chiefLeast j (sym (i .pairs a j .table un .0) ∙ e))
 
+-- one that is not aware of a fault works
+pub chief-lives : (n total : ℕ) (v : View) (γ : Ghost) → Core n total v γ → unaware (γ .big) (v .own (γ .big .chief)) ≡ true → γ .big .alive ≡ true
+chief-lives n total v γ i un = i .ground .aliveIs ∙ un-works (γ .big) (v .own (γ .big .chief)) un
+
 -- ---- a line has room
 
 counted-once : (p : Packet) (cs : List Cell) → length (content cs) ≤ count isSafe (content cs) + normalsIn cs

@@ -102,6 +102,7 @@ pub past-adopted : (n : ℕ) (v : View) (γ : Ghost) (h : History) → Past n v 
 past-adopted n v γ h p = record {
   sent = p .sent;
   taken = p .taken;
+  damaged = p .damaged;
   hurt = p .hurt;
   cuts = p .cuts;
   noCut = p .noCut;

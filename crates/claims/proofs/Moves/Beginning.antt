@@ -49,7 +49,7 @@ use Rattle.claims.proofs.Moves.Cutting.{mCut, gCut, cut-inv}
 
 module _ (n : ℕ) (v : View) (γ δ : Ghost) (h : History)
     (sent : (c d : ℕ) → δ .wire c d .sent ≡ γ .wire c d .sent) (taken : (c d : ℕ) → δ .wire c d .taken ≡ γ .wire c d .taken)
-    (clean : δ .big .clean ≡ γ .big .clean) (alive : δ .big .alive ≡ γ .big .alive) (adopted : δ .big .adopted ≡ γ .big .adopted)
+    (hurt : (c d : ℕ) → δ .wire c d .hurt ≡ γ .wire c d .hurt) (clean : δ .big .clean ≡ γ .big .clean) (alive : δ .big .alive ≡ γ .big .alive) (adopted : δ .big .adopted ≡ γ .big .adopted)
     (chief : δ .big .chief ≡ γ .big .chief) (tab : (c : ℕ) → δ .mind c .tab ≡ γ .mind c .tab)
     (top : (c : ℕ) → δ .mind c .top ≡ γ .mind c .top) (prev : (c : ℕ) → δ .mind c .prev ≡ γ .mind c .prev)
     (joins : (c : ℕ) → γ .mind c .joined ≡ true → δ .mind c .joined ≡ true) (begins : δ .big .begun ≡ true → h .begun ≡ true) where
@@ -64,7 +64,8 @@ module _ (n : ℕ) (v : View) (γ δ : Ghost) (h : History)
   past-ghost cuts′ cuts noCut p = record {
     sent = λ c d. p .sent c d ∙ sym (sent c d);
     taken = λ c d. p .taken c d ∙ sym (taken c d);
-    hurt = p .hurt ∙ sym (ap not clean);
+    damaged = p .damaged ∙ sym (ap not clean);
+    hurt = λ c d. p .hurt c d ∙ sym (hurt c d);
     cuts = cuts;
     noCut = noCut;
     known = p .known ∙ sym adopted;
@@ -85,7 +86,7 @@ join-more γ c x e = upd-elim (λ (m : Mind). m .joined ≡ true) (γ .mind) c (
 -- a cabinet joins the save under way
 pub past-join : (n : ℕ) (v : View) (γ : Ghost) (h : History) (c : ℕ) → γ .big .begun ≡ true → Past n v γ h → Past n v (gJoin γ c) h
 past-join n v γ h c begun p =
-    past-ghost n v γ (gJoin γ c) h (λ x y. refl) (λ x y. refl) refl refl refl refl (one (λ m. m .tab) refl) (one (λ m. m .top) refl)
+    past-ghost n v γ (gJoin γ c) h (λ x y. refl) (λ x y. refl) (λ x y. refl) refl refl refl refl (one (λ m. m .tab) refl) (one (λ m. m .top) refl)
     (one (λ m. m .prev) refl) (join-more γ c) (λ _. p .begun (inl begun)) (h .cuts)
     (λ a x e. let y = p .cuts a x (sym (one (λ m. m .done) refl x) ∙ e) in (y .0, y .1, y .2 ∙ sym (one (λ m. m .cut) refl x), y .3, y .4))
     (λ a e x f. p .noCut a begun x (sym (one (λ m. m .tab) refl x) ∙ f)) p
@@ -98,6 +99,7 @@ past-begun : {n : ℕ} {v : View} {γ : Ghost} {h : History} → Past n v γ h �
 past-begun p = record {
   sent = p .sent;
   taken = p .taken;
+  damaged = p .damaged;
   hurt = p .hurt;
   cuts = p .cuts;
   noCut = p .noCut;
@@ -116,7 +118,7 @@ past-begun p = record {
 pub past-begin : (n total : ℕ) (v : View) (γ : Ghost) (h : History) (c : ℕ) → Inv n total v γ → γ .big .begun ≡ false → Past n v γ h
     → (g g′ : Group) → Past n v (gJoin γ c) (observe h g g′ (Begin (suc c)))
 past-begin n total v γ h c i fresh p g g′ =
-    past-ghost n v γ (gJoin γ c) (withBegun h true) (λ x y. refl) (λ x y. refl) refl refl refl refl (one (λ m. m .tab) refl) (one (λ m. m .top) refl)
+    past-ghost n v γ (gJoin γ c) (withBegun h true) (λ x y. refl) (λ x y. refl) (λ x y. refl) refl refl refl refl (one (λ m. m .tab) refl) (one (λ m. m .top) refl)
     (one (λ m. m .prev) refl) (join-more γ c) (λ _. refl) (λ x. none)
     (λ a x e. absurd (never (i .core .nodes x .joinedBegun (i .core .nodes x .doneJoined (sym (one (λ m. m .done) refl x) ∙ e))) fresh))
     (λ a e x f. refl) (past-begun p)
@@ -127,7 +129,7 @@ past-begin n total v γ h c i fresh p g g′ =
 -- a comparison adds nothing to the logs
 pub past-compare : (n : ℕ) (v : View) (γ : Ghost) (h : History) (a b : ℕ) → Past n v γ h → Past n v (gCompare γ a b) h
 past-compare n v γ h a b p =
-    past-ghost n v γ (gCompare γ a b) h sent taken refl refl refl refl (λ x. refl) (λ x. refl) (λ x. refl) (λ x e. e)
+    past-ghost n v γ (gCompare γ a b) h sent taken (kept-pair (λ (y : Wire). y .hurt) (γ .wire) a b (wCovered (γ .wire a b)) refl) refl refl refl refl (λ x. refl) (λ x. refl) (λ x. refl) (λ x e. e)
     (λ e. p .begun (inl e)) (h .cuts)
     (λ e x f. let y = p .cuts e x f in (y .0, y .1, y .2, (λ d. y .3 d ∙ sym (sent x d)), (λ d. y .4 d ∙ sym (taken d x)))) (p .noCut) p
   where
@@ -232,7 +234,7 @@ module _ (total : ℕ) (g₀ : Group) (γ₀ : Ghost) (h : History) (g : Group) 
 
     past-cut : Past (g₀ .n) (view g) γ′ (noteCuts h g₀ g′)
     past-cut =
-        past-ghost (g₀ .n) (view g) γ γ′ h (λ x y. refl) (λ x y. refl) refl refl refl refl (one (λ m. m .tab) refl) (one (λ m. m .top) refl)
+        past-ghost (g₀ .n) (view g) γ γ′ h (λ x y. refl) (λ x y. refl) (λ x y. refl) refl refl refl refl (one (λ m. m .tab) refl) (one (λ m. m .top) refl)
         (one (λ m. m .prev) refl) (λ x e. one (λ m. m .joined) refl x ∙ e) (λ e. past .begun (inl e)) cuts′ cut-of
         (λ a e x f. let g = sym (one (λ m. m .tab) refl x) ∙ f in cut-there x (tabbed x g) ∙ past .noCut a e x g) past
 

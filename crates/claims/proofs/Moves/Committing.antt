@@ -21,7 +21,7 @@ use Rattle.claims.proofs.State.ViewMoves.{vPut, vBroadcast, vResumed}
 use Rattle.claims.proofs.Invariant.Facts.{Big, Mind, Ghost, Pair, aware, unaware, linked}
 use Rattle.claims.proofs.Invariant.Whole.{Inv, Place-of, PairAt, ChainOf, SumsOf, PlacesOf, workOf, alarmOf, tabOf, lkOf, outOf, gotOf}
 use Rattle.claims.proofs.Invariant.Logs.{resumedBy}
-use Rattle.claims.proofs.Invariant.Words.{un-works, un-not-aware, used-linked}
+use Rattle.claims.proofs.Invariant.Words.{chief-lives, un-works, un-not-aware, used-linked}
 use Rattle.claims.proofs.Invariant.Frame.{same-ghost, moved, minded, move-pairs, move-nodes, move-books, move-ground, move-meets}
 use Rattle.claims.proofs.Moves.Rousing.{oResumed, resumed-not-aware, roused-from, roused-to}
 use Rattle.claims.proofs.Moves.CommitPairs.{bCommit, mCommit, gCommit, sUnsaved, Through, unsaved-from, turned, line-empty, not-closed}
@@ -44,7 +44,7 @@ module _ (n total : ℕ) (v : View) (γ : Ghost) (i : Inv n total v γ) (un : un
   δ = gCommit γ
 
   pub lives : b .alive ≡ true
-  lives = i .core .ground .aliveIs ∙ un-works b (v .own k) un
+  lives = chief-lives n total v γ (i .core) un
 
   pub through : (c : ℕ) → Through (γ .mind c)
   through c t =
@@ -70,7 +70,7 @@ module _ (n total : ℕ) (v : View) (γ : Ghost) (i : Inv n total v γ) (un : un
       go : (t : Bool) → linked (γ .mind c) (γ .mind d) (γ .wire c d) ≡ t → (γ .wire c d .sent ≡ γ .wire c d .taken) × (γ .wire c d .out ≡ γ .wire c d .got)
       go true e =
           let tab = and-true {s = γ .mind c .tab} (and-true {s = γ .wire c d .lk} e .1) .1 in
-          i .core .pairs c d .closedEqual e (rw (through d tab .1)) lives
+          let a = i .core .pairs c d .closedEqual e (rw (through d tab .1)) lives in (a .0, a .1)
       go false e = let a = i .core .pairs c d .apart e in (a .0 ∙ sym (a .1), a .2 ∙ sym (a .3))
 
   -- ---- pairs

@@ -100,10 +100,10 @@ module _ (b : Big) (c d : ℕ) (o : Own) (m : Mind) (p : Own) (n : Mind) (s t : 
           ∙ (ap (λ (r : List Payload). r ++ drop (w .ver) (w .sent)) (stream .equal)
           ∙ (ap (λ (r : List Payload). take (w .ver) (w .taken) ++ r) (unhurt-equal .1) ∙ take-append-drop (w .ver) (w .taken)))
 
-      -- and nothing is on the way
-      pub equal-sums : w .out ≡ w .got
+      -- nothing is on the way, and nothing was hurt
+      pub equal-sums : (w .out ≡ w .got) × (w .hurt ≡ false)
       unfolding amountsIn amount
-      equal-sums = omega (arith, stream .onWay (unhurt-equal .0), ap amount (ap amountsIn checkp-end))
+      equal-sums = (omega (arith, stream .onWay (unhurt-equal .0), ap amount (ap amountsIn checkp-end)), sym (stream .tells) ∙ unhurt-equal .0)
 
       not-come : t .come ≡ false
       not-come = is-false (t .come) (λ e. never (comes e) checkp-open)
@@ -117,14 +117,14 @@ module _ (b : Big) (c d : ℕ) (o : Own) (m : Mind) (p : Own) (n : Mind) (s t : 
 -- ---- an equal comparison covers all that was sent
 
 abbrev pub wCovered : Wire → Wire
-wCovered w = record { sent = w .sent; taken = w .taken; ver = length (w .sent); out = w .out; got = w .got; lk = w .lk }
+wCovered w = record { sent = w .sent; taken = w .taken; ver = length (w .sent); out = w .out; got = w .got; hurt = w .hurt; lk = w .lk }
 
 abbrev pub gCompare : Ghost → ℕ → ℕ → Ghost
 gCompare γ a b = record { big = γ .big; mind = γ .mind; wire = upd (γ .wire) a (upd (γ .wire a) b (wCovered (γ .wire a b))) }
 
-covered-stream : (w : Wire) → w .sent ≡ w .taken → w .out ≡ w .got → Stream false false startCheck startCheck (wCovered w) []
+covered-stream : (w : Wire) → w .sent ≡ w .taken → w .out ≡ w .got → w .hurt ≡ false → Stream false false startCheck startCheck (wCovered w) []
 unfolding amountsIn amount
-covered-stream w e f = record {
+covered-stream w e f u = record {
   equal = ap (take (length (w .sent))) e;
   within = omega (arith, ap length e);
   withinSent = omega arith;
@@ -133,6 +133,7 @@ covered-stream w e f = record {
   writes = sym (ap checkOf (drop-length (w .sent)) ∙ check-none);
   carries = λ v k x. absurd (no-checkp-end [] v k (count-none isCheckp) x);
   onWay = λ x. omega arith;
+  tells = sym u;
 }
   where
     ended : drop (length (w .sent)) (w .taken) ≡ []
@@ -144,19 +145,21 @@ module _ (b : Big) (c d : ℕ) (o : Own) (m : Mind) (p : Own) (n : Mind) (s t : 
   un : unaware b o ≡ true
   un = checkp-un _ _ _ _ _ _ _ _ _ _ _ _ h z node
 
-  all-equal : (w .sent ≡ w .taken) × (w .out ≡ w .got)
-  all-equal = (equal-logs _ _ _ _ _ _ _ _ _ _ _ _ h z node up equal begins joined, equal-sums _ _ _ _ _ _ _ _ _ _ _ _ h z node up equal begins joined)
+  all-equal : (w .sent ≡ w .taken) × (w .out ≡ w .got) × (w .hurt ≡ false)
+  all-equal =
+      let sums = equal-sums _ _ _ _ _ _ _ _ _ _ _ _ h z node up equal begins joined in
+      (equal-logs _ _ _ _ _ _ _ _ _ _ _ _ h z node up equal begins joined, sums .0, sums .1)
 
   covered : Stream (m .joined && not (n .joined && true)) false (s .put) startCheck (wCovered w) []
   covered =
       rw (checkp-joined _ _ _ _ _ _ _ _ _ _ _ _ h z node, joined, restarted _ _ _ _ _ _ _ _ _ _ _ _ h z node up equal begins joined)
-      (covered-stream w (all-equal .0) (all-equal .1))
+      (covered-stream w (all-equal .0) (all-equal .1) (all-equal .2))
 
   not-aware : {A : Type 0} → aware b o ≡ true → A
   not-aware e = absurd (un-not-aware b o un e)
 
   pub compare-here : Pair b c d o m p n s (sCompared t) [] (wCovered w)
-  unfolding count checkpLast amountsIn Amounts
+  unfolding count checkpLast amountsIn Amounts amount
   compare-here = record {
     table = h .table;
     struck = h .struck;
@@ -187,7 +190,7 @@ module _ (b : Big) (c d : ℕ) (o : Own) (m : Mind) (p : Own) (n : Mind) (s t : 
     room = λ u. omega arith;
     sound = λ e. refl;
     unhurt = λ e u. refl;
-    noMore = h .noMore;
+    noMore = λ e. omega (arith, h .noMore e);
     small = (h .small .0, (h .small .1 .0, tt));
   }
 

@@ -144,7 +144,7 @@ module _ (total : ℕ) (g : Group) (h : History) (γ : Ghost) (w : Fit g) (i : I
     -- ---- a link fault
 
     link-owed : (sv : serving (stateOf g b) ≡ true) → noteTaken taking-it h a b p ≡ h
-        → (serving (stateOf g b) ≡ true → γ .big .calm ≡ true → γ .big .clean ≡ true → ⊥) → Owed (findLinkFault g (off g a b) a b)
+        → (serving (stateOf g b) ≡ true → γ .big .calm ≡ true → ⊥) → Owed (findLinkFault g (off g a b) a b)
     unfolding findLinkFault
     link-owed sv e upset =
         cond-elim Owed (connected (struck (rowsOf (off g a b .sound)) a b) (working (off g a b)))

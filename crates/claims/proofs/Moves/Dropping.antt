@@ -26,7 +26,7 @@ use Rattle.claims.proofs.State.ViewMoves.{sim-off, view-off}
 use Rattle.claims.proofs.Invariant.Facts.{Big, Mind, Wire, Ghost, Pair, Stream, aware, unaware, linked, behind, count, isFault, isCheckp, isInvalid, checkpLast, resumeFirst, Differ, amount}
 use Rattle.claims.proofs.Invariant.Whole.{Inv, PairAt}
 use Rattle.claims.proofs.Invariant.Past.{Past, Kept, aware-not-normal, past-still}
-use Rattle.claims.proofs.Invariant.Logs.{head-eq, tail-eq, alarms-rest, amounts-rest, small-rest, count-rest}
+use Rattle.claims.proofs.Invariant.Logs.{head-eq, tail-eq, alarms-rest, amounts-rest, amount-rest, small-rest, count-rest}
 
 -- ---- the pair of sender and receiver
 
@@ -45,6 +45,7 @@ module _ (b : Big) (c d : ℕ) (o : Own) (m : Mind) (p : Own) (n : Mind) (s t : 
         writes = f .writes;
         carries = λ v r e. f .carries v (x ∷ r) (ap (λ (y : List Packet). x ∷ y) e);
         onWay = λ e. omega (arith, f .onWay e, ap amount (amounts-rest x k plain));
+        tells = f .tells;
       }
 
   rest-end : (x ∷ k ≡ []) ⊎ ((v : Bool) × (isIn (o .state) Recovered ≡ true) × (x ∷ k ≡ Recover v ∷ [])) → k ≡ []
@@ -84,7 +85,7 @@ module _ (b : Big) (c d : ℕ) (o : Own) (m : Mind) (p : Own) (n : Mind) (s t : 
     room = λ u. omega (arith, h .room u);
     sound = λ e. count-rest isInvalid x k (h .sound e);
     unhurt = h .unhurt;
-    noMore = h .noMore;
+    noMore = λ e. omega (arith, h .noMore e, amount-rest x k);
     small = (h .small .0, (h .small .1 .0, small-rest x k (h .small .1 .1)));
   }
 

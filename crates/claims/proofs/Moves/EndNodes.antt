@@ -68,7 +68,7 @@ module _ (b : Big) (k c : ℕ) (o : Own) (m : Mind) (z : Bool → Image) (h : No
         inCheckpointing = λ u e. absurd (not-in Checkpointing refl (wo u) e);
         inCheckpointed = λ u e. absurd (not-in Checkpointed refl (wo u) e);
         chiefSaved = λ u e. absurd (not-in Checkpointed refl (wo u) e);
-        inRecovered = λ u e. (refl, other, refl, refl);
+        inRecovered = λ u e. (refl, other, refl);
         inError = λ a. absurd (false≢true a);
         inRecovering = λ a. absurd (false≢true a);
         restored = λ a. absurd (false≢true a);

@@ -42,7 +42,7 @@ mEnd m t = record {
 }
 
 abbrev pub wEnd : Bool → Wire
-wEnd t = record { sent = []; taken = []; ver = 0; out = 0; got = 0; lk = t }
+wEnd t = record { sent = []; taken = []; ver = 0; out = 0; got = 0; hurt = false; lk = t }
 
 -- ---- what is left on a line: at most a recover
 
@@ -138,6 +138,7 @@ module _ (b : Big) (k : ℕ) (q : Place) (c d : ℕ) (o : Own) (m : Mind) (p : O
         writes = f .0 ∙ sym check-none;
         carries = λ x j y. absurd (no-checkp-end l x j (bare .checkps) y);
         onWay = λ x. omega (arith, ap amount (bare .none));
+        tells = e .2;
       }
 
   owed-none : s .owed ≡ true → ⊥
@@ -146,14 +147,14 @@ module _ (b : Big) (k : ℕ) (q : Place) (c d : ℕ) (o : Own) (m : Mind) (p : O
       un-not-aware b o u (co .knows (un-works b o u))
 
   pub ended-pair : Pair b′ c d o (mEnd m (works (o .state))) p (mEnd n (works (p .state))) s t l (wEnd sound)
-  unfolding Amounts
+  unfolding Amounts amount
   ended-pair = record {
     table = λ u. table′ (o-works u);
     struck = λ a. absurd (false≢true a);
     closedJoined = λ j e. absurd (open-yet e);
     closedEqual = λ j e a. absurd (open-yet e);
     closedEmpty = λ j e u. absurd (open-yet e);
-    apart = λ e. (refl, refl, refl, refl);
+    apart = λ e. (refl, refl, refl, refl, refl);
     owes = λ e. absurd (owed-none e);
     owesHome = h .owesHome;
     reported = λ i e u. absurd (o-saving u e);
@@ -177,7 +178,7 @@ module _ (b : Big) (k : ℕ) (q : Place) (c d : ℕ) (o : Own) (m : Mind) (p : O
     room = λ u. omega (arith, bare .safe);
     sound = λ e. bare .invalids;
     unhurt = λ e u. fresh-back (p-works u) .2;
-    noMore = λ e. omega arith;
+    noMore = λ e. omega (arith, ap amount (bare .none));
     small = (tt, (tt, small-line));
   }
     where

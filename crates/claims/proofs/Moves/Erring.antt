@@ -21,13 +21,13 @@ use Rattle.claims.proofs.State.Fun.{never, is-true, is-false, and-true,
 use Rattle.claims.proofs.State.View.{View, Own, Side, used, setSound}
 use Rattle.claims.proofs.State.Methods.{sAlarmed, hitsCabinet, hitsLink}
 use Rattle.claims.proofs.Invariant.States.{place-same}
-use Rattle.claims.proofs.Invariant.Facts.{Big, Mind, Wire, Ghost, Pair, Node, Books, aware, unaware, closed}
+use Rattle.claims.proofs.Invariant.Facts.{Big, Mind, Wire, Ghost, Pair, Node, Books, aware, unaware, closed, amount, Amounts}
 use Rattle.claims.proofs.Invariant.Whole.{Core, Place-of, failed, faulty, PairAt, PlacesOf, MeetsOf, ChainOf, workOf, alarmOf, awareOf, calmOf, knownOf, tabOf, lkOf}
 use Rattle.claims.proofs.Invariant.Past.{Past}
 use Rattle.claims.proofs.Invariant.Words.{un-of, un-works, un-not-aware, aware-recovers, aware-not-un}
 use Rattle.claims.proofs.Invariant.Frame.{minded, move-pairs, move-nodes, move-books, move-ground, move-sums, same-mind}
 use Rattle.claims.proofs.Moves.FirstFault.{bFaulted, bFrozen, gBig, gFaulted, gError, fault-core}
-use Rattle.claims.proofs.Moves.ErrorSeen.{vError, erredState, erredRest, erredLine, oErred, sErred, erred, error-seen, erred-recovers, erred-works, erred-running, erred-not-begun, erred-not-restored, erred-unknown, erred-alarms, erred-sound, erred-small, strike-used, error-works}
+use Rattle.claims.proofs.Moves.ErrorSeen.{vError, erredState, erredRest, erredLine, oErred, sErred, erred, error-seen, erred-recovers, erred-works, erred-running, erred-not-begun, erred-not-restored, erred-unknown, erred-alarms, erred-sound, erred-bare, strike-used, error-works}
 
 -- ---- pairs
 
@@ -52,6 +52,7 @@ module _ (b : Big) (c d : ℕ) (o : Own) (m : Mind) (p : Own) (n : Mind) (s t : 
   l′ = erredLine (o .version) q (used (sAlarmed q c d s))
 
   erred-from : unaware b o ≡ true → (used s′ ≡ true → works (p .state) ≡ true) → Pair b c d (oErred o q) m p n s′ t l′ w
+  unfolding amount Amounts
   erred-from un meets =
       record {
         table = no;
@@ -83,8 +84,8 @@ module _ (b : Big) (c d : ℕ) (o : Own) (m : Mind) (p : Own) (n : Mind) (s t : 
         room = no;
         sound = λ e. erred-sound (o .version) q (used s′);
         unhurt = h .unhurt;
-        noMore = h .noMore;
-        small = (h .small .0, (h .small .1 .0, erred-small (o .version) q (used s′)));
+        noMore = λ e. omega (arith, h .noMore e, ap amount (erred-bare (o .version) q (used s′)));
+        small = (h .small .0, (h .small .1 .0, rw (erred-bare (o .version) q (used s′)) tt));
       }
     where
       no : {A : Type 0} → unaware b (oErred o q) ≡ true → A

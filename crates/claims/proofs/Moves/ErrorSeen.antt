@@ -26,7 +26,7 @@ use Rattle.claims.proofs.State.Shape.{Shaped, Lined, Pictured, shaped}
 use Rattle.claims.proofs.State.Sim.{Fit}
 use Rattle.claims.proofs.State.Methods.{sAlarmed, hitsCabinet, hitsLink}
 use Rattle.claims.proofs.State.ViewMoves.{Room, vBroadcast, vAlarmed, vSilenced, vRecovering, oPhase, oPieces, sim-raise, sim-recover}
-use Rattle.claims.proofs.Invariant.Facts.{Ghost, Alarms, aware, amountsIn, Amounts, isInvalid, count}
+use Rattle.claims.proofs.Invariant.Facts.{Ghost, Alarms, aware, amountsIn, isInvalid, count}
 use Rattle.claims.proofs.Invariant.Whole.{Core, workOf}
 use Rattle.claims.proofs.Invariant.Words.{room-aware}
 use Rattle.claims.proofs.Invariant.Frame.{moved}
@@ -192,11 +192,11 @@ erred-sound (Known x) q true = refl
 erred-sound (Unknown x) q true = refl
 erred-sound x q false = refl
 
-pub erred-small : (x : Version) (q : Place) (u : Bool) → Amounts (amountsIn (erredLine x q u))
-unfolding amountsIn Amounts
-erred-small (Known x) q true = tt
-erred-small (Unknown x) q true = tt
-erred-small x q false = tt
+pub erred-bare : (x : Version) (q : Place) (u : Bool) → amountsIn (erredLine x q u) ≡ []
+unfolding amountsIn
+erred-bare (Known x) q true = refl
+erred-bare (Unknown x) q true = refl
+erred-bare x q false = refl
 
 and-part : (s t x y : Bool) → ((s && x) && (t && y)) ≡ true → (s && t) ≡ true
 and-part true true x y e = refl

@@ -52,7 +52,8 @@ pub past-big : (n : ℕ) (v w : View) (γ : Ghost) (b : Big) (h : History) → b
 past-big n v w γ b h clean adopted chief begun alive fewer wait p = record {
   sent = p .sent;
   taken = p .taken;
-  hurt = p .hurt ∙ ap not (sym clean);
+  damaged = p .damaged ∙ ap not (sym clean);
+  hurt = p .hurt;
   cuts = λ a. p .cuts (alive a);
   noCut = λ a e. p .noCut (alive a) (sym begun ∙ e);
   known = p .known ∙ sym adopted;
@@ -112,7 +113,8 @@ module _ (n : ℕ) (v : View) (γ : Ghost) (h : History) (p : Past n v γ h) (a 
       rw (mine-goes a (h .saves) (x .1) (x .0) (x .2) (x .3 ∙ sym chief) unknown) (record {
         sent = p .sent;
         taken = p .taken;
-        hurt = p .hurt ∙ ap not (sym clean);
+        damaged = p .damaged ∙ ap not (sym clean);
+        hurt = p .hurt;
         cuts = λ e. absurd (never e dead);
         noCut = λ e. absurd (never e dead);
         known = x .4 j other up ∙ sym adopted;

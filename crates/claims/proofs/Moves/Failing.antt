@@ -16,7 +16,7 @@ use Rattle.state.specs.State.{works, inRecovery, isUnknown}
 use Rattle.claims.proofs.State.Fun.{never, is-false, and-true, cond-elim, upd-elim, upd-same, upd-other, upd-id, kept}
 use Rattle.claims.proofs.State.View.{View, Own, Side}
 use Rattle.claims.proofs.State.ViewMoves.{vFailed, oPhase}
-use Rattle.claims.proofs.Invariant.Facts.{Big, Mind, Wire, Ghost, Pair, Node, Books, aware, unaware, amountsIn, Amounts, count, checkpLast}
+use Rattle.claims.proofs.Invariant.Facts.{Big, Mind, Wire, Ghost, Pair, Node, Books, aware, unaware, amountsIn, Amounts, amount, count, checkpLast}
 use Rattle.claims.proofs.Invariant.Whole.{Ground, Core, PairAt, NodeAt, BooksAt, workOf, calmOf, knownOf, storeOf, homeOf, tabOf, lkOf}
 use Rattle.claims.proofs.Invariant.Words.{un-of, aware-recovers}
 use Rattle.claims.proofs.Invariant.Reaching.{Reach}
@@ -40,7 +40,7 @@ module _ (b : Big) (c d : ℕ) (o : Own) (m : Mind) (p : Own) (n : Mind) (s t : 
   failed-aware a = not-aware (oFailed o) refl a
 
   pub fail-from : inRecovery (p .state) ≡ false → s .owed ≡ false → Pair b c d (oFailed o) m p n s t [] w
-  unfolding count checkpLast amountsIn Amounts
+  unfolding count checkpLast amountsIn Amounts amount
   fail-from calm bare = record {
     table = λ u. absurd (false≢true u);
     struck = failed-aware;
@@ -71,12 +71,12 @@ module _ (b : Big) (c d : ℕ) (o : Own) (m : Mind) (p : Own) (n : Mind) (s t : 
     room = λ u. omega arith;
     sound = λ e. refl;
     unhurt = h .unhurt;
-    noMore = h .noMore;
+    noMore = λ e. omega (arith, h .noMore e);
     small = (h .small .0, (h .small .1 .0, search));
   }
 
   pub fail-to : inRecovery (o .state) ≡ false → Pair b c d o m (oFailed p) n s t [] w
-  unfolding count checkpLast amountsIn Amounts
+  unfolding count checkpLast amountsIn Amounts amount
   fail-to calm = record {
     table = h .table;
     struck = not-aware o calm;
@@ -107,7 +107,7 @@ module _ (b : Big) (c d : ℕ) (o : Own) (m : Mind) (p : Own) (n : Mind) (s t : 
     room = λ u. omega arith;
     sound = λ e. refl;
     unhurt = λ e u. absurd (false≢true u);
-    noMore = h .noMore;
+    noMore = λ e. omega (arith, h .noMore e);
     small = (h .small .0, (h .small .1 .0, search));
   }
 

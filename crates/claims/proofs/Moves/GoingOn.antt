@@ -93,7 +93,7 @@ module _ (b : Big) (c d : ℕ) (o : Own) (m : Mind) (p : Own) (n : Mind) (s t : 
     room = no;
     sound = λ e. goes-count isInvalid x l (used s) refl ∙ h .sound e;
     unhurt = h .unhurt;
-    noMore = h .noMore;
+    noMore = λ e. rw (goes-amounts x l (used s)) (h .noMore e);
     small = (h .small .0, (h .small .1 .0, rw (goes-amounts x l (used s)) (h .small .1 .1)));
   }
     where

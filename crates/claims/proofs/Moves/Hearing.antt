@@ -132,7 +132,7 @@ module _ (b : Big) (c d : ℕ) (o : Own) (m : Mind) (p : Own) (n : Mind) (s t : 
     room = no-calm;
     sound = λ e. invalid-left (h .sound e);
     unhurt = h .unhurt;
-    noMore = h .noMore;
+    noMore = λ e. rw (← same-amounts) (h .noMore e);
     small = (h .small .0, (h .small .1 .0, rw (← same-amounts) (h .small .1 .1)));
   }
 

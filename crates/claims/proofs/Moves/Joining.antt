@@ -179,6 +179,7 @@ module _ (b : Big) (c d : ℕ) (o : Own) (m : Mind) (p : Own) (n : Mind) (s t : 
         writes = rw (us, not-come up k);
         carries = λ v j e. same-last (s .put) v l j (rw us at e) ∙ (rw apart at (f .writes));
         onWay = λ e. rw same-amounts (f .onWay e);
+        tells = f .tells;
       }
 
   pub join-from : Pair b c d (oBegun o) (mJoined m) p n (sBegun s) t l′ w
@@ -212,7 +213,7 @@ module _ (b : Big) (c d : ℕ) (o : Own) (m : Mind) (p : Own) (n : Mind) (s t : 
     room = λ u. omega (arith, line-count isSafe 1 (omega arith), rw apart at (h .room un));
     sound = λ e. none-more isInvalid refl (h .sound e);
     unhurt = h .unhurt;
-    noMore = h .noMore;
+    noMore = λ e. rw same-amounts (h .noMore e);
     small = (h .small .0, (h .small .1 .0, rw same-amounts (h .small .1 .1)));
   }
     where

@@ -71,9 +71,9 @@ struck-unused a b s n = is-false _ (λ e. never (link-hit a b n) (no-hit (and-tr
     no-hit : not (hitsLink (linkPlace a b) b a) ≡ true → hitsLink (linkPlace a b) b a ≡ false
     no-hit e = is-false (hitsLink (linkPlace a b) b a) (λ f. never e (ap not f))
 
--- ---- nobody is on the way out of a recovery where damage was done
+-- ---- nobody is on the way out of a recovery where a packet was damaged or lost
 
-upset-first : (n total : ℕ) (v : View) (γ : Ghost) → Core n total v γ → (γ .big .calm ≡ true → γ .big .clean ≡ true → ⊥)
+upset-first : (n total : ℕ) (v : View) (γ : Ghost) → Core n total v γ → (γ .big .calm ≡ true → ⊥)
     → γ .big .faulted ≡ false → (j : ℕ) → inRecovery (v .own j .state) ≡ false
 upset-first n total v γ i upset calm j = go (v .own j .state) refl
   where
@@ -88,7 +88,7 @@ upset-first n total v γ i upset calm j = go (v .own j .state) refl
     go Checkpointed e = refl
     go Error e = absurd (never (ap (λ (s : State). isIn s Error) e) (i .nodes j .quiet calm .0))
     go Recovering e = absurd (never (ap (λ (s : State). isIn s Recovering) e) (i .nodes j .quiet calm .1))
-    go Recovered e = let k = i .nodes j .inRecovered (un Recovered e refl) e in absurd (upset (k .2) (k .3))
+    go Recovered e = let k = i .nodes j .inRecovered (un Recovered e refl) e in absurd (upset (k .2))
     go Crashed e = refl
 
 -- ---- the links once that of a and b is struck
@@ -127,7 +127,7 @@ module _ (old sound : ℕ → ℕ → Bool) (a b : ℕ) (other : a ≢ b) (there
 
 module _ (n total : ℕ) (v : View) (γ : Ghost) (i : Inv n total v γ) (a b : ℕ) (other : a ≢ b) (p : Packet) (k : List Packet) (here : v .lines a b ≡ p ∷ k)
     (wb : works (v .own b .state) ≡ true) (rb : inRecovery (v .own b .state) ≡ false) (uses : used (v .side b a) ≡ true)
-    (upset : γ .big .calm ≡ true → γ .big .clean ≡ true → ⊥) (sound : ℕ → ℕ → Bool) (there : sound a b ≡ false) (back : sound b a ≡ false)
+    (upset : γ .big .calm ≡ true → ⊥) (sound : ℕ → ℕ → Bool) (there : sound a b ≡ false) (back : sound b a ≡ false)
     (elsewhere : (x y : ℕ) → ((x ≡ a) × (y ≡ b) → ⊥) → ((x ≡ b) × (y ≡ a) → ⊥) → sound x y ≡ v .sound x y) (reach : Reach (workOf v) sound) where
   abbrev q : Place
   q = linkPlace a b
@@ -278,7 +278,7 @@ module _ (total : ℕ) (g : Group) (h : History) (γ : Ghost) (w : Fit g) (i : I
   below : (j : ℕ) → works (stateOf g j) ≡ true → j < 8
   below j e = omega (arith, i .core .ground .within j (i .core .nodes j .placed e), i .core .ground .most)
 
-  module _ (upset : γ .big .calm ≡ true → γ .big .clean ≡ true → ⊥) (all : connected rows (working g1) ≡ true) where
+  module _ (upset : γ .big .calm ≡ true → ⊥) (all : connected rows (working g1) ≡ true) where
     reaches : Reach (workOf (view g)) (mark rows)
     reaches =
         reach-group g rows (ap (connected rows) (sym (working-kept g a b (rest (line g a b)))) ∙ all) below
@@ -307,15 +307,15 @@ module _ (total : ℕ) (g : Group) (h : History) (γ : Ghost) (w : Fit g) (i : I
   fault-state = ap (λ (u : View). isIn (u .own b .state) Normal) seen ∙ error-here (view g) b (linkPlace a b)
 
   -- damage to the packet itself
-  pub invalid-upset : oldest (line g a b) ≡ Invalid → γ .big .calm ≡ true → γ .big .clean ≡ true → ⊥
+  pub invalid-upset : oldest (line g a b) ≡ Invalid → γ .big .calm ≡ true → ⊥
   unfolding count
-  invalid-upset e c d =
+  invalid-upset e c =
       let here = sim-off g a b full ∙ ap (λ (p : Packet). p ∷ left) e in
       let z : count isInvalid (Invalid ∷ left) ≡ 0 = subst (λ (l : List Packet). count isInvalid l ≡ 0) here (i .core .pairs a b .sound c) in
       omega arith
 
-  -- damage to a packet before it: the values are unequal
-  pub unequal-upset : (x : Check) → oldest (line g a b) ≡ Checkp x → x ≢ view g .side b a .took → γ .big .calm ≡ true → γ .big .clean ≡ true → ⊥
-  unequal-upset x e n c d =
+  -- damage to a packet before it, or its loss: the values are unequal
+  pub unequal-upset : (x : Check) → oldest (line g a b) ≡ Checkp x → x ≢ view g .side b a .took → γ .big .calm ≡ true → ⊥
+  unequal-upset x e n c =
       let un = un-of (γ .big) (view g .own b) (calm .0) (calm .1) in
-      never (unequal-hurt (g .n) total (view g) γ i a b x left (sim-off g a b full ∙ ap (λ (p : Packet). p ∷ left) e) un n) (i .core .pairs a b .unhurt d un)
+      never (unequal-hurt (g .n) total (view g) γ i a b x left (sim-off g a b full ∙ ap (λ (p : Packet). p ∷ left) e) un n) (i .core .pairs a b .unhurt c un)

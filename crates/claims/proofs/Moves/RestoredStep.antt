@@ -316,7 +316,8 @@ module _ (total : ℕ) (g : Group) (h : History) (γ : Ghost) (w : Fit g) (i : I
     past2 = record {
       sent = λ c d. refl;
       taken = λ c d. refl;
-      hurt = refl;
+      damaged = refl;
+      hurt = λ c d. refl;
       cuts = λ y c d. absurd (false≢true d);
       noCut = λ y f. absurd (false≢true f);
       known = pastN .known ∙ invN .core .nodes k .restored awareN recovered-k .1;

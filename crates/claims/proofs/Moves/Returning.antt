@@ -103,7 +103,7 @@ abbrev mSet : Mind → Image → Mind
 mSet m x = record { tab = m .tab; joined = m .joined; done = m .done; wrote = m .wrote; told = m .told; ready = m .ready; cut = m .cut; base = x; top = x; prev = m .prev }
 
 abbrev wSet : Wire → Wire
-wSet w = record { sent = w .sent; taken = w .taken; ver = w .ver; out = 0; got = 0; lk = w .lk }
+wSet w = record { sent = w .sent; taken = w .taken; ver = w .ver; out = 0; got = 0; hurt = w .hurt; lk = w .lk }
 
 abbrev pub gReturned : Ghost → Point → Ghost
 gReturned γ p = record { big = bSet (γ .big); mind = λ c. mSet (γ .mind c) (imageAt p c); wire = λ c d. wSet (γ .wire c d) }
@@ -117,14 +117,15 @@ set-stream {hurt} {w} {l} e s = let way : hurt ≡ false → wSet w .out ≡ wSe
 
 set-pair : {b : Big} {c d : ℕ} {o : Own} {m : Mind} {p : Own} {n : Mind} {s t : Side} {l : List Packet} {w : Wire} (x y : Image) → l ≡ []
     → Pair b c d o m p n s t l w → Pair (bSet b) c d (oImage o x) (mSet m x) (oImage p y) (mSet n y) s t l (wSet w)
+unfolding amountsIn amount
 set-pair {b} {o} {m} {p} {n} {s} {t} {l} {w} x y e h =
-    let equal : linked m n w ≡ true → closed b p n t ≡ true → b .alive ≡ true → (w .sent ≡ w .taken) × (wSet w .out ≡ wSet w .got) =
-    λ k z a. (h .closedEqual k z a .0, refl) in
-    let apart : linked m n w ≡ false → (w .sent ≡ []) × (w .taken ≡ []) × (wSet w .out ≡ 0) × (wSet w .got ≡ 0) =
-    λ k. let z = h .apart k in (z .0, z .1, refl, refl) in
+    let equal : linked m n w ≡ true → closed b p n t ≡ true → b .alive ≡ true → (w .sent ≡ w .taken) × (wSet w .out ≡ wSet w .got) × (w .hurt ≡ false) =
+    λ k z a. let y = h .closedEqual k z a in (y .0, refl, y .2) in
+    let apart : linked m n w ≡ false → (w .sent ≡ []) × (w .taken ≡ []) × (wSet w .out ≡ 0) × (wSet w .got ≡ 0) × (w .hurt ≡ false) =
+    λ k. let z = h .apart k in (z .0, z .1, refl, refl, z .4) in
     let stream : linked m n w ≡ true → unaware b o ≡ true → unaware b p ≡ true
     → Stream (m .joined && not (n .joined && t .come)) (t .hurt) (s .put) (t .took) (wSet w) l = λ k u v. set-stream e (h .stream k u v) in
-    let fewer : b .clean ≡ true → wSet w .got ≤ wSet w .out = λ _. omega arith in
+    let fewer : b .clean ≡ true → wSet w .got + amount (amountsIn l) ≤ wSet w .out = λ _. rw e (omega arith) in
     search
 
 -- of a cabinet that has not joined a save
@@ -367,6 +368,7 @@ module _ (total : ℕ) (g : Group) (h : History) (γ : Ghost) (w : Fit g) (i : I
   set-past = record {
     sent = past .sent;
     taken = past .taken;
+    damaged = past .damaged;
     hurt = past .hurt;
     cuts = past .cuts;
     noCut = past .noCut;

@@ -80,6 +80,7 @@ module _ (b : Big) (c d : ℕ) (o : Own) (m : Mind) (p : Own) (n : Mind) (s t : 
         writes = f .writes;
         carries = λ v k e. absurd (no-checkp-end _ v k (bare .checkps) e);
         onWay = λ e. omega (arith, f .onWay e, ap amount (before ∙ sym (bare .none)));
+        tells = f .tells;
       }
 
   pub roused-from : Pair b c d (oResumed o x) m p n (sCleared s) t (resumedBy r l) w
@@ -113,7 +114,7 @@ module _ (b : Big) (c d : ℕ) (o : Own) (m : Mind) (p : Own) (n : Mind) (s t : 
     room = λ u. omega (arith, bare .safe);
     sound = λ e. bare .invalids;
     unhurt = h .unhurt;
-    noMore = h .noMore;
+    noMore = λ e. omega (arith, h .noMore e, ap amount (before ∙ sym (bare .none)));
     small = (h .small .0, (h .small .1 .0, subst Amounts (before ∙ sym (bare .none)) (h .small .1 .1)));
   }
 

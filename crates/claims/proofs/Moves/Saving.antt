@@ -32,7 +32,7 @@ use Rattle.claims.proofs.Invariant.States.{known-is-known, saving-works
 use Rattle.claims.proofs.Invariant.Facts.{Ghost, aware, unaware, linked, Mind}
 use Rattle.claims.proofs.Invariant.Whole.{Inv, NodeAt, workOf}
 use Rattle.claims.proofs.Invariant.Past.{Past, HeldIn, Kept, no-cuts, past-same, aware-not-normal}
-use Rattle.claims.proofs.Invariant.Words.{un-of, un-works, un-not-aware, chief-of, room-calm}
+use Rattle.claims.proofs.Invariant.Words.{chief-lives, un-of, un-works, un-not-aware, chief-of, room-calm}
 use Rattle.claims.proofs.Invariant.Marking.{past-mind}
 use Rattle.claims.proofs.Moves.Reporting.{gTold, mTold, vReported, report-inv, sim-report}
 use Rattle.claims.proofs.Moves.CommitPairs.{gCommit, mCommit}
@@ -108,6 +108,7 @@ module _ (n total : ℕ) (v : View) (γ : Ghost) (h : History) (i : Inv n total 
   past-commit = record {
     sent = p .sent;
     taken = p .taken;
+    damaged = p .damaged;
     hurt = p .hurt;
     cuts = λ a c e. absurd (false≢true e);
     noCut = λ a e. absurd (false≢true e);
@@ -151,6 +152,9 @@ module _ (total : ℕ) (g : Group) (h : History) (γ : Ghost) (w : Fit g) (i : I
 
   chief-calm : unaware (γ .big) (v .own K) ≡ true
   chief-calm = let s = saving-works (v .own K .state) chief-saves in un-of (γ .big) (v .own K) (s .0) (s .1)
+
+  pub chief-alive : γ .big .alive ≡ true
+  chief-alive = chief-lives (g .n) total v γ (i .core) chief-calm
 
   home-below : home < 8
   home-below = omega (arith, i .core .ground .within home (i .core .nodes home .placed (un-works (γ .big) (v .own home) home-calm)), i .core .ground .most)

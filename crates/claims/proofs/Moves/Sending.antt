@@ -30,7 +30,7 @@ use Rattle.group.specs.declared.Group.{Group}
 use Rattle.group.specs.Group.{cabinet, stateOf, line, sum}
 use Rattle.protocol.specs.Kinds.{need, sendRefusal, carried, sent}
 use Rattle.protocol.specs.History.{History, upd, logged, withSent, noteCuts}
-use Rattle.claims.proofs.State.Fun.{never, and-true, and-intro, upd-same, upd-other, upd-elim, sum-cong, sum-at, kept-at, upd-pair, pair-same, pair-other}
+use Rattle.claims.proofs.State.Fun.{never, and-true, and-intro, upd-same, upd-other, upd-elim, sum-cong, sum-at, kept-at, upd-pair, pair-same, pair-other, pair-both}
 use Rattle.claims.proofs.State.Every.{passed}
 use Rattle.claims.proofs.State.View.{View, Own, Side, used, view}
 use Rattle.claims.proofs.State.Sim.{Fit, in-use}
@@ -48,7 +48,7 @@ use Rattle.claims.proofs.Moves.Noting.{image-from, image-to, image-node
 -- ---- the logs of one pair replaced
 
 abbrev pub wSent : Wire → Payload → Wire
-wSent w q = record { sent = w .sent ++ (q ∷ []); taken = w .taken; ver = w .ver; out = w .out + q .amount; got = w .got; lk = w .lk }
+wSent w q = record { sent = w .sent ++ (q ∷ []); taken = w .taken; ver = w .ver; out = w .out + q .amount; got = w .got; hurt = w .hurt; lk = w .lk }
 
 abbrev pub wires : Ghost → ℕ → ℕ → Wire → ℕ → ℕ → Wire
 wires γ a b w = upd (γ .wire) a (upd (γ .wire a) b w)
@@ -100,6 +100,7 @@ module _ (b : Big) (c d : ℕ) (o : Own) (m : Mind) (p : Own) (n : Mind) (s t : 
         writes = rw (longer, check-snoc, early) (ap (λ (k : Check). stepCheck k q) (rw early at (f .writes)));
         carries = λ v k e. absurd (no-checkp-end more v k no-checkps e);
         onWay = λ e. omega (arith, f .onWay e, ap amount (amounts-snoc l q), amount-snoc (amountsIn l) q);
+        tells = f .tells;
       }
 
   pub sent-pair : Pair b c d (oImage o x) m p n s′ t more (wSent w q)
@@ -133,7 +134,7 @@ module _ (b : Big) (c d : ℕ) (o : Own) (m : Mind) (p : Own) (n : Mind) (s t : 
     room = λ u. omega (arith, count-snoc isSafe l (NormalPacket q), h .room u);
     sound = λ e. count-snoc isInvalid l (NormalPacket q) ∙ ap (λ (k : ℕ). k + 0) (h .sound e);
     unhurt = h .unhurt;
-    noMore = λ e. omega (arith, h .noMore e);
+    noMore = λ e. omega (arith, h .noMore e, ap amount (amounts-snoc l q), amount-snoc (amountsIn l) q);
     small = (small-snoc (w .sent) q (h .small .0) small, (h .small .1 .0, rw (amounts-snoc l q) (small-snoc (amountsIn l) q (h .small .1 .1) small)));
   }
 
@@ -330,14 +331,9 @@ module _ (total : ℕ) (g : Group) (h : History) (γ : Ghost) (w : Fit g) (i : I
 
   log-sent : (c d : ℕ) → h′ .sent c d ≡ δ .wire c d .sent
   unfolding logged
-  log-sent c d = elim (ℕ-discrete c a) [
-    | yes e ↦ elim (ℕ-discrete d b) [
-      | yes f ↦ rw (e, f, pair-same (h .sent) a b (h .sent a b ++ (p ∷ [])), pair-same (γ .wire) a b (wSent (γ .wire a b) p))
-          (ap (λ (l : List Payload). l ++ (p ∷ [])) (past .sent a b))
-      | no f ↦ rw (pair-other (h .sent) a b (h .sent a b ++ (p ∷ [])) c d (λ y z. f z), pair-other (γ .wire) a b (wSent (γ .wire a b) p) c d (λ y z. f z)) (past .sent c d)
-    ]
-    | no e ↦ rw (pair-other (h .sent) a b (h .sent a b ++ (p ∷ [])) c d (λ y z. e y), pair-other (γ .wire) a b (wSent (γ .wire a b) p) c d (λ y z. e y)) (past .sent c d)
-  ]
+  log-sent =
+      pair-both (λ (x : Wire). x .sent) (h .sent) (γ .wire) a b (h .sent a b ++ (p ∷ [])) (wSent (γ .wire a b) p)
+      (ap (λ (l : List Payload). l ++ (p ∷ [])) (past .sent a b)) (past .sent)
 
   taken-kept : (c d : ℕ) → δ .wire c d .taken ≡ γ .wire c d .taken
   taken-kept = wire-kept (λ (x : Wire). x .taken) γ a b (wSent (γ .wire a b) p) refl
@@ -347,7 +343,8 @@ module _ (total : ℕ) (g : Group) (h : History) (γ : Ghost) (w : Fit g) (i : I
   past′ = record {
     sent = log-sent;
     taken = λ c d. past .taken c d ∙ sym (taken-kept c d);
-    hurt = past .hurt;
+    damaged = past .damaged;
+    hurt = λ c d. past .hurt c d ∙ sym (wire-kept (λ (x : Wire). x .hurt) γ a b (wSent (γ .wire a b) p) refl c d);
     cuts = λ e c f.
         let x = past .cuts e c f in
         let away : c ≢ a = λ j. undone (g .n) total v γ i a b lb normal us p lq paidImage paid (rw j at f) in

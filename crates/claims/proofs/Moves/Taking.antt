@@ -28,7 +28,7 @@ use Rattle.group.specs.declared.Group.{Group}
 use Rattle.group.specs.Group.{cabinet, withCabinet, stateOf, line, withLine, sum}
 use Rattle.protocol.specs.Receive.{takesFrom}
 use Rattle.protocol.specs.History.{History, upd, logged, withTaken, noteCuts}
-use Rattle.claims.proofs.State.Fun.{never, and-true, and-intro, is-false, upd-same, upd-other, upd-elim, sum-cong, sum-at, or-right, kept-at, pair-same, pair-other}
+use Rattle.claims.proofs.State.Fun.{never, and-true, and-intro, is-false, upd-same, upd-other, upd-elim, sum-cong, sum-at, or-right, kept-at, pair-same, pair-other, pair-both}
 use Rattle.claims.proofs.State.Every.{with-line}
 use Rattle.claims.proofs.State.View.{View, Own, Side, used, content, view}
 use Rattle.claims.proofs.State.Shape.{Shaped, Lined, Pictured, shaped}
@@ -45,7 +45,7 @@ use Rattle.claims.proofs.Moves.Noting.{image-from, image-to}
 use Rattle.claims.proofs.Moves.Sending.{wires, gWire, wire-kept}
 
 abbrev pub wTaken : Wire → Payload → Wire
-wTaken w q = record { sent = w .sent; taken = w .taken ++ (q ∷ []); ver = w .ver; out = w .out; got = w .got + q .amount; lk = w .lk }
+wTaken w q = record { sent = w .sent; taken = w .taken ++ (q ∷ []); ver = w .ver; out = w .out; got = w .got + q .amount; hurt = w .hurt; lk = w .lk }
 
 -- ---- where a normal packet stands first on a line
 
@@ -106,10 +106,11 @@ module _ (b : Big) (c d : ℕ) (o : Own) (m : Mind) (p : Own) (n : Mind) (s t : 
           writes = f .writes;
           carries = λ v j e. f .carries v (NormalPacket q ∷ j) (ap (λ (r : List Packet). NormalPacket q ∷ r) e);
           onWay = λ e. omega (arith, f .onWay e);
+          tells = f .tells;
         }
 
-    pub taken-pair : Pair b c d o m (oImage p x) n s t′ k (wTaken w q)
-    unfolding count checkpLast
+    taken-pair : Pair b c d o m (oImage p x) n s t′ k (wTaken w q)
+    unfolding count checkpLast amountsIn amount
     taken-pair = record {
       table = h .table;
       struck = h .struck;
@@ -140,7 +141,7 @@ module _ (b : Big) (c d : ℕ) (o : Own) (m : Mind) (p : Own) (n : Mind) (s t : 
       room = λ u. omega (arith, h .room u);
       sound = λ e. count-rest isInvalid (NormalPacket q) k (h .sound e);
       unhurt = h .unhurt;
-      noMore = λ e. omega (arith, streams .onWay (h .unhurt e up));
+      noMore = λ e. omega (arith, h .noMore e);
       small = (h .small .0, (small-snoc (w .taken) q (h .small .1 .0) (small-taken .0), small-taken .1));
     }
 
@@ -381,14 +382,9 @@ module _ (total : ℕ) (g : Group) (γ : Ghost) (i : Inv (g .n) total (view g) �
 
     log-taken : (c d : ℕ) → h′ .taken c d ≡ δ .wire c d .taken
     unfolding logged
-    log-taken c d = elim (ℕ-discrete c a) [
-      | yes e ↦ elim (ℕ-discrete d b) [
-        | yes f ↦ rw (e, f, pair-same (h .taken) a b (h .taken a b ++ (q ∷ [])), pair-same (γ .wire) a b wire1)
-            (ap (λ (l : List Payload). l ++ (q ∷ [])) (past .taken a b))
-        | no f ↦ rw (pair-other (h .taken) a b (h .taken a b ++ (q ∷ [])) c d (λ y z. f z), pair-other (γ .wire) a b wire1 c d (λ y z. f z)) (past .taken c d)
-      ]
-      | no e ↦ rw (pair-other (h .taken) a b (h .taken a b ++ (q ∷ [])) c d (λ y z. e y), pair-other (γ .wire) a b wire1 c d (λ y z. e y)) (past .taken c d)
-    ]
+    log-taken =
+        pair-both (λ (x : Wire). x .taken) (h .taken) (γ .wire) a b (h .taken a b ++ (q ∷ [])) wire1
+        (ap (λ (l : List Payload). l ++ (q ∷ [])) (past .taken a b)) (past .taken)
 
     sent-kept : (c d : ℕ) → δ .wire c d .sent ≡ γ .wire c d .sent
     sent-kept = wire-kept (λ (x : Wire). x .sent) γ a b wire1 refl
@@ -398,7 +394,8 @@ module _ (total : ℕ) (g : Group) (γ : Ghost) (i : Inv (g .n) total (view g) �
     past′ = record {
       sent = λ c d. past .sent c d ∙ sym (sent-kept c d);
       taken = log-taken;
-      hurt = past .hurt;
+      damaged = past .damaged;
+      hurt = λ c d. past .hurt c d ∙ sym (wire-kept (λ (x : Wire). x .hurt) γ a b wire1 refl c d);
       cuts = λ e c f.
           let x = past .cuts e c f in
           let away : c ≢ b = λ j. take-undone (g .n) total v γ i a b la q left lined (rw j at f) in

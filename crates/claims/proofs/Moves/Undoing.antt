@@ -70,7 +70,7 @@ gUndo γ = record { big = bUndo (γ .big); mind = λ c. mUndo (γ .mind c); wire
 pub lost-pair : (b : Big) (c d : ℕ) (o : Own) (m : Mind) (p : Own) (n : Mind) (s t : Side) (l : List Packet) (w : Wire)
     → Pair b c d o m p n s t l w → Pair (bLost b) c d o m p n s t l w
 lost-pair b c d o m p n s t l w h =
-    let e : linked m n w ≡ true → closed b p n t ≡ true → false ≡ true → (w .sent ≡ w .taken) × (w .out ≡ w .got) = λ k f a. absurd (false≢true a) in
+    let e : linked m n w ≡ true → closed b p n t ≡ true → false ≡ true → (w .sent ≡ w .taken) × (w .out ≡ w .got) × (w .hurt ≡ false) = λ k f a. absurd (false≢true a) in
     search
 
 pub lost-node : (b : Big) (c : ℕ) (o : Own) (m : Mind) (z : Bool → Image) → Node b c o m z → Node (bLost b) c o m z

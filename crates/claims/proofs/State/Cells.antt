@@ -1,15 +1,15 @@
--- A line's cells as the list of its packets: putting, taking off, replacing.
+-- A line's cells as the list of its packets: putting, taking off, replacing, losing.
 use Prim.Native.Nat.{ℕ, zero, suc, _<_}
 use mathlib.Core.Path.{_≡_, refl, sym, ap, _∙_}
 use mathlib.Core.Bool.{Bool, true, false, cond, false≢true}
 use mathlib.Core.List.{List, [], _∷_, _++_, nil≢cons}
-use lib.ListN.{length, getD, set, length-append}
+use lib.ListN.{length, getD, set, take, drop, length-append}
 use native.Mathlib.Omega.{arith}
 use Rattle.packet.specs.declared.Packet.{Packet}
 use Rattle.packet.specs.declared.Packet.the-variants.{Empty, Normal as NormalPacket, Checkp, Resume, Recover, Fault, Invalid}
 use Rattle.line.specs.declared.Cell.{Cell}
 use Rattle.packet.specs.Packet.{isEmpty}
-use Rattle.line.specs.Line.{emptyCell, restCells, putCells}
+use Rattle.line.specs.Line.{emptyCell, restCells, putCells, withoutCells}
 use Rattle.claims.proofs.State.Fun.{cond-elim}
 use Rattle.claims.proofs.State.View.{packetOf, content}
 
@@ -142,3 +142,40 @@ unfolding content Packed
 packed-set [] k p f e h = h
 packed-set (c ∷ cs) zero p f e h = ((λ x. absurd (false≢true (sym f ∙ x))), h .1)
 packed-set (c ∷ cs) (suc k) p f e h = ((λ x. absurd (nothing-there cs k (h .0 x) e)), packed-set cs k p f e (h .1))
+
+-- ---- without the packet at a place that holds one
+
+-- the packets without the one at a place
+abbrev Without : List Cell → ℕ → Type 0
+Without cs k = content (withoutCells cs k) ≡ take k (content cs) ++ drop (suc k) (content cs)
+
+pub content-without : (cs : List Cell) (k : ℕ) → isEmpty (getD cs k emptyCell .packet) ≡ false → Packed cs → Without cs k
+unfolding content Packed
+content-without [] k e h = absurd (false≢true (sym e))
+content-without (c ∷ cs) zero e h = rw (full-is (c .packet) (content cs) e) (content-pad cs)
+content-without (c ∷ cs) (suc k) e h = go (content-without cs k e (h .1)) (isEmpty (c .packet)) refl
+  where
+    go : Without cs k → (t : Bool) → isEmpty (c .packet) ≡ t
+        → packetOf (c .packet) (content (withoutCells cs k)) ≡ take (suc k) (packetOf (c .packet) (content cs)) ++ drop (suc (suc k)) (packetOf (c .packet) (content cs))
+    go ih true t = absurd (nothing-there cs k (h .0 t) e)
+    go ih false t =
+        rw (full-is (c .packet) (content (withoutCells cs k)) t, full-is (c .packet) (content cs) t) (ap (λ (r : List Packet). c .packet ∷ r) ih)
+
+pub length-without : (cs : List Cell) (k : ℕ) → length (withoutCells cs k) ≡ length cs
+length-without [] k = refl
+length-without (c ∷ cs) zero = omega (arith, length-append cs (emptyCell ∷ []))
+length-without (c ∷ cs) (suc k) = ap suc (length-without cs k)
+
+-- a line with no packets has none after a loss
+content-still : (cs : List Cell) (k : ℕ) → content cs ≡ [] → content (withoutCells cs k) ≡ []
+unfolding content
+content-still [] k e = refl
+content-still (c ∷ cs) zero e = content-pad cs ∙ tail-nil (c .packet) (content cs) e
+content-still (c ∷ cs) (suc k) e =
+    rw (content-still cs k (tail-nil (c .packet) (content cs) e)) (sym (ap (packetOf (c .packet)) (tail-nil (c .packet) (content cs) e)) ∙ e)
+
+pub packed-without : (cs : List Cell) (k : ℕ) → Packed cs → Packed (withoutCells cs k)
+unfolding Packed
+packed-without [] k h = h
+packed-without (c ∷ cs) zero h = packed-pad cs (h .1)
+packed-without (c ∷ cs) (suc k) h = ((λ e. content-still cs k (h .0 e)), packed-without cs k (h .1))

@@ -25,12 +25,12 @@ use Rattle.group.specs.declared.Group.{Group}
 use Rattle.group.specs.declared.Outcome.{Outcome}
 use Rattle.group.specs.Group.{cabinet, withCabinet, stateOf, withOutgoing, line, withLine, withSlot, withSlots, rowsOf, withSound, working, some, recoveringOnes, crashAll}
 use Rattle.protocol.specs.declared.Step.{Step}
-use Rattle.protocol.specs.declared.Step.the-variants.{Send, Note, Begin, Deliver, Write, Saved, Fetch, Restored, WaitOver, Fail, Damage}
+use Rattle.protocol.specs.declared.Step.the-variants.{Send, Note, Begin, Deliver, Write, Saved, Fetch, Restored, WaitOver, Fail, Damage, Lose}
 use Rattle.protocol.specs.declared.Decoded.{Decoded}
 use Rattle.protocol.specs.declared.Decoded.the-variants.{Malformed, Unused, Taken}
 use Rattle.protocol.specs.Moves.{broadcast, join, cutIfAll, takeCheckp, resumeWith, commit, adopt, recoverWith, recoverIfKnown, raise, enterError, hear, findLinkFault, emptiedTo, markFailed, neighbours, enterErrorIf, alarmTo, endRecovery, noteAt, noteFor, noteLost}
 use Rattle.protocol.specs.Receive.{serving, takesFrom, joinIf, resumesFrom, receiveNormal, receiveCheckp, receiveResume, receiveRecover, receiveFault, receiveInvalid, receive}
-use Rattle.protocol.specs.Kinds.{orRefuse, sendStep, sendRefusal, sent, noteStep, noteRefusal, beginStep, beginRefusal, deliverStep, deliverRefusal, delivered, writeStep, writeRefusal, writePiece, oweIf, savedStep, savedRefusal, reportSaved, commitIfAll, fetchStep, fetchRefusal, fetchPiece, restoredStep, restoredRefusal, reportRestored, endIfAll, waitOverStep, waitOverRefusal, failStep, failCrashes, hurtIf, hurt, damageStep, damageRefusal}
+use Rattle.protocol.specs.Kinds.{orRefuse, sendStep, sendRefusal, sent, noteStep, noteRefusal, beginStep, beginRefusal, deliverStep, deliverRefusal, delivered, writeStep, writeRefusal, writePiece, oweIf, savedStep, savedRefusal, reportSaved, commitIfAll, fetchStep, fetchRefusal, fetchPiece, restoredStep, restoredRefusal, reportRestored, endIfAll, waitOverStep, waitOverRefusal, failStep, failCrashes, hurtIf, hurt, damageStep, damageRefusal, lost, loseStep, loseRefusal}
 use Rattle.protocol.specs.Entry.{step, stepDecoded, perform, entryRefusal, decode}
 use Rattle.claims.proofs.State.Fun.{cond-elim}
 
@@ -181,6 +181,10 @@ module _ (g : Group) where
       marked-one true = refl
       marked-one false = refl
 
+  lose-n : (a b p : ℕ) → Kept (loseStep g a b p)
+  unfolding loseStep lost withLine withOutgoing withCabinet
+  lose-n a b p = refused (loseRefusal g a b p) _ (cond-elim Kept (some (recoveringOnes g)) (λ _. crash-n g) (λ _. refl))
+
   perform-n : (s : Step) → Kept (perform g s)
   unfolding sendStep sent noteStep beginStep fetchStep fetchPiece waitOverStep failStep withCabinet withLine withOutgoing
   perform-n (Send a b p q) = refused (sendRefusal g (a - 1) (b - 1) p q) _ refl
@@ -194,6 +198,7 @@ module _ (g : Group) where
   perform-n (WaitOver a) = refused (waitOverRefusal g (a - 1)) _ (recover-n g (a - 1) _)
   perform-n (Fail a) = cond-elim Kept (failCrashes g (a - 1)) (λ _. crash-n g) (λ _. alarm-n 8 (markFailed g (a - 1)) (a - 1) ∙ failed-n g (a - 1))
   perform-n (Damage a b p q) = damage-n (a - 1) (b - 1) p q
+  perform-n (Lose a b p) = lose-n (a - 1) (b - 1) p
 
   decoded-n : (d : Decoded) → Kept (stepDecoded g d)
   decoded-n Malformed = refl

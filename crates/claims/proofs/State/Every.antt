@@ -21,7 +21,7 @@ use Rattle.packet.specs.declared.Packet.the-variants.{Empty, Normal as NormalPa
 use Rattle.line.specs.declared.Cell.{Cell}
 use Rattle.line.specs.declared.Line.{Line}
 use Rattle.packet.specs.Packet.{isNormal, damaged, linkPlace, sameCheck, startCheck}
-use Rattle.line.specs.Line.{emptyCell, emptyLine, put, rest, oldest, normals, packetAt, replaced}
+use Rattle.line.specs.Line.{emptyCell, emptyLine, put, rest, oldest, normals, packetAt, replaced, without}
 use Rattle.state.specs.declared.State.{State}
 use Rattle.state.specs.declared.State.the-variants.{Failed, Normal, CheckpBegin, Checkpointing, Checkpointed, Error, Recovered, Crashed}
 use Rattle.state.specs.declared.Version.{Version}
@@ -41,12 +41,12 @@ use Rattle.group.specs.declared.Outcome.{Outcome}
 use Rattle.outgoing.specs.Lines.{emptyLines, lineTo, withLineTo, putIf, putRowTo, putAll, checkps, putCheckps}
 use Rattle.group.specs.Group.{cabinet, withCabinet, stateOf, outgoing, withOutgoing, line, withLine, blankSlots, slot, withSlot, rowsOf, withSound, working, some, recoveringOnes, taken, crashAll, crashed, withSlots}
 use Rattle.protocol.specs.declared.Step.{Step}
-use Rattle.protocol.specs.declared.Step.the-variants.{Send, Note, Begin, Deliver, Write, Saved, Fetch, Restored, WaitOver, Fail, Damage}
+use Rattle.protocol.specs.declared.Step.the-variants.{Send, Note, Begin, Deliver, Write, Saved, Fetch, Restored, WaitOver, Fail, Damage, Lose}
 use Rattle.protocol.specs.declared.Decoded.{Decoded}
 use Rattle.protocol.specs.declared.Decoded.the-variants.{Malformed, Unused, Taken}
 use Rattle.protocol.specs.Moves.{broadcast, join, cutIfAll, takeCheckp, resumeWith, commit, adopt, recoverWith, recoverIfKnown, raise, enterError, hear, findLinkFault, emptiedTo, markFailed, neighbours, enterErrorIf, alarmTo, endRecovery, noteAt, noteFor, noteLost}
 use Rattle.protocol.specs.Receive.{serving, takesFrom, receiveNormal, joinIf, receiveCheckp, resumesFrom, receiveResume, receiveRecover, receiveFault, receiveInvalid, receive}
-use Rattle.protocol.specs.Kinds.{need, orRefuse, sendRefusal, carried, sent, sendStep, noteRefusal, noteStep, beginStep, beginRefusal, deliverRefusal, delivered, deliverStep, writeRefusal, writePiece, oweIf, writeStep, savedRefusal, reportSaved, commitIfAll, savedStep, fetchRefusal, fetchPiece, fetchStep, restoredRefusal, reportRestored, endIfAll, restoredStep, waitOverRefusal, waitOverStep, failCrashes, failStep, hurtIf, hurt, damageRefusal, damageStep}
+use Rattle.protocol.specs.Kinds.{need, orRefuse, sendRefusal, carried, sent, sendStep, noteRefusal, noteStep, beginStep, beginRefusal, deliverRefusal, delivered, deliverStep, writeRefusal, writePiece, oweIf, writeStep, savedRefusal, reportSaved, commitIfAll, savedStep, fetchRefusal, fetchPiece, fetchStep, restoredRefusal, reportRestored, endIfAll, restoredStep, waitOverRefusal, waitOverStep, failCrashes, failStep, hurtIf, hurt, damageRefusal, damageStep, loseRefusal, lost, loseStep}
 use Rattle.protocol.specs.Entry.{step, stepDecoded, perform, entryRefusal, decode, fieldsOf, aloneOf}
 use Rattle.claims.proofs.State.Fun.{cond-elim, and-true}
 
@@ -108,6 +108,7 @@ Fits (Restored a) = Unit {0}
 Fits (WaitOver a) = Unit {0}
 Fits (Fail a) = Unit {0}
 Fits (Damage a b p q) = q < 65536
+Fits (Lose a b p) = Unit {0}
 
 abbrev pub FitsIn : Decoded → Type 0
 FitsIn Malformed = Unit {0}
@@ -129,8 +130,9 @@ fields-fit kind a b p q l =
     (λ _. cond-elim FitsIn (eqb kind 2) (λ _. cond-elim FitsIn (eqb b 0) (λ _. tt) (λ _. tt))
     (λ _. cond-elim FitsIn (eqb kind 4) (λ _. cond-elim FitsIn (eqb (p + q) 0) (λ _. tt) (λ _. tt))
     (λ _. cond-elim FitsIn (eqb kind 11) (λ _. l)
+    (λ _. cond-elim FitsIn (eqb kind 12) (λ _. cond-elim FitsIn (eqb q 0) (λ _. tt) (λ _. tt))
     (λ _. cond-elim FitsIn (leb 1 kind && leb kind 10)
-    (λ _. cond-elim FitsIn (eqb (b + p + q) 0) (λ _. alone-fits kind a) (λ _. tt)) (λ _. tt)))))
+    (λ _. cond-elim FitsIn (eqb (b + p + q) 0) (λ _. alone-fits kind a) (λ _. tt)) (λ _. tt))))))
 
 pub decode-fits : (r : List ℕ) → ((i : ℕ) → getD r i 0 < 256) → FitsIn (decode r)
 decode-fits r o =
@@ -165,6 +167,7 @@ pub record Closed (C : Cabinet → Type 0) (L : Line → Type 0) (I : Image → 
   pub more : (l : Line) (p : Packet) → isNormal p ≡ false → L l → L (put l p)
   pub sends : (l : Line) (p : Payload) → p .amount < 65536 → normals l < 8 → L l → L (put l (NormalPacket p))
   pub damages : (l : Line) (k q : ℕ) → q < 65536 → L l → L (replaced l k (damaged (packetAt l k) q))
+  pub loses : (l : Line) (k : ℕ) → L l → L (without l k)
 
 -- the arrays of a group have eight elements each
 pub record Framed (g : Group) : Type 0 where
@@ -572,6 +575,12 @@ module _ (C : Cabinet → Type 0) (L : Line → Type 0) (I : Image → Type 0) (
         (λ _. ok-hurtIf (isNormal (packetAt (line g a b) p)) _ a b (with-line g a b _ (k .damages _ p q l (h .lines a b)) h)))
         h
 
+    pub ok-lose : (b p : ℕ) → OkOf (loseStep g a b p)
+    unfolding loseStep lost
+    ok-lose b p =
+        or-refuse (loseRefusal g a b p) g _
+        (λ _. cond-elim OkOf (some (recoveringOnes g)) (λ _. ok-crashed g h) (λ _. ok-hurtIf true _ a b (with-line g a b _ (k .loses _ p (h .lines a b)) h))) h
+
   -- ---- the step entry, and every run
 
   abbrev pub Octets : List ℕ → Type 0
@@ -589,6 +598,7 @@ module _ (C : Cabinet → Type 0) (L : Line → Type 0) (I : Image → Type 0) (
   ok-perform g h (WaitOver a) f = ok-waitOver g h (a - 1)
   ok-perform g h (Fail a) f = ok-fail g h (a - 1)
   ok-perform g h (Damage a b p q) f = ok-damage g h (a - 1) (b - 1) p q f
+  ok-perform g h (Lose a b p) f = ok-lose g h (a - 1) (b - 1) p
 
   pub ok-decoded : (g : Group) → Ok g → (d : Decoded) → FitsIn d → OkOf (stepDecoded g d)
   ok-decoded g h Malformed f = h

@@ -127,6 +127,17 @@ pair-same f a b x = rw (upd-same f a (upd (f a) b x), upd-same (f a) b x)
 pub pair-other : {A : Type 0} (f : ℕ → ℕ → A) (a b : ℕ) (x : A) (c d : ℕ) → (c ≡ a → d ≡ b → ⊥) → upd f a (upd (f a) b x) c d ≡ f c d
 pair-other f a b x c d n = upd-pair (λ y. y ≡ f c d) f a b x c d (λ e j. absurd (n e j)) refl
 
+-- one value replaced on both sides of a reading
+pub pair-both : {A B : Type 0} (k : B → A) (f : ℕ → ℕ → A) (g : ℕ → ℕ → B) (a b : ℕ) (x : A) (y : B) → x ≡ k y → ((c d : ℕ) → f c d ≡ k (g c d))
+    → (c d : ℕ) → upd f a (upd (f a) b x) c d ≡ k (upd g a (upd (g a) b y) c d)
+pair-both k f g a b x y e h c d = elim (ℕ-discrete c a) [
+  | yes p ↦ elim (ℕ-discrete d b) [
+    | yes q ↦ rw (p, q, pair-same f a b x, pair-same g a b y) e
+    | no q ↦ rw (pair-other f a b x c d (λ _ z. q z), pair-other g a b y c d (λ _ z. q z)) (h c d)
+  ]
+  | no p ↦ rw (pair-other f a b x c d (λ z _. p z), pair-other g a b y c d (λ z _. p z)) (h c d)
+]
+
 -- a reading of one pair's value that the change leaves alone
 pub kept-pair : {A B : Type 0} (f : A → B) (g : ℕ → ℕ → A) (a b : ℕ) (x : A) → f x ≡ f (g a b)
     → (i j : ℕ) → f (upd g a (upd (g a) b x) i j) ≡ f (g i j)

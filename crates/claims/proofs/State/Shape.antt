@@ -18,18 +18,18 @@ use Rattle.packet.specs.declared.Packet.the-variants.{Empty, Normal as NormalPa
 use Rattle.line.specs.declared.Cell.{Cell}
 use Rattle.line.specs.declared.Line.{Line}
 use Rattle.packet.specs.Packet.{isEmpty, isNormal, damaged, startCheck}
-use Rattle.line.specs.Line.{emptyCell, emptyLine, put, putCells, restCells, normals, normalsIn, packetAt}
+use Rattle.line.specs.Line.{emptyCell, emptyLine, put, putCells, restCells, withoutCells, normals, normalsIn, packetAt}
 use Rattle.image.specs.declared.Image.{Image}
 use Rattle.cabinet.specs.declared.Cabinet.{Cabinet}
 use Rattle.image.specs.Image.{charged, credited, withOctet, pieceTo}
 use Rattle.image.proofs.Laws.{octet-small, charged-small, credited-small, length-charged, length-credited}
 use Rattle.registers.specs.Registers.{restartIf, restartTo}
 use Rattle.table.specs.Table.{struckAt}
-use Rattle.cabinet.specs.Cabinet.{inUse, sending, taking, wrote, fetched, alarmed}
+use Rattle.cabinet.specs.Cabinet.{inUse, wrote, fetched, alarmed}
 use Rattle.claims.proofs.State.Fun.{cond-elim}
 use Rattle.claims.proofs.State.Every.{Closed, getD-set, getD-repeated}
 use Rattle.claims.proofs.State.View.{content, packetOf}
-use Rattle.claims.proofs.State.Cells.{Packed, packed-put, length-put, packed-rest, length-rest, packed-set, empty-is}
+use Rattle.claims.proofs.State.Cells.{Packed, packed-put, length-put, packed-rest, length-rest, packed-set, packed-without, length-without, empty-is}
 
 -- ---- images
 
@@ -128,6 +128,11 @@ normals-rest : (cs : List Cell) → normalsIn (restCells cs) ≤ normalsIn cs
 normals-rest [] = omega arith
 normals-rest (c ∷ cs) = omega (arith, normals-pad cs)
 
+normals-without : (cs : List Cell) (k : ℕ) → normalsIn (withoutCells cs k) ≤ normalsIn cs
+normals-without [] k = omega arith
+normals-without (c ∷ cs) zero = omega (arith, normals-pad cs)
+normals-without (c ∷ cs) (suc k) = omega (arith, normals-without cs k)
+
 normals-set : (cs : List Cell) (k : ℕ) (p : Packet) → isNormal p ≡ isNormal (getD cs k emptyCell .packet)
     → normalsIn (set cs k (record { packet = p })) ≡ normalsIn cs
 normals-set [] k p e = refl
@@ -189,6 +194,12 @@ fits-pad (c ∷ cs) h (suc k) = fits-pad cs (λ i. h (suc i)) k
 fits-rest : (cs : List Cell) → ((k : ℕ) → FitsCell (getD cs k emptyCell)) → (k : ℕ) → FitsCell (getD (restCells cs) k emptyCell)
 fits-rest [] h k = h k
 fits-rest (c ∷ cs) h k = fits-pad cs (λ i. h (suc i)) k
+
+fits-without : (cs : List Cell) (k : ℕ) → ((j : ℕ) → FitsCell (getD cs j emptyCell)) → (j : ℕ) → FitsCell (getD (withoutCells cs k) j emptyCell)
+fits-without [] k h j = h j
+fits-without (c ∷ cs) zero h j = fits-pad cs (λ i. h (suc i)) j
+fits-without (c ∷ cs) (suc k) h zero = h zero
+fits-without (c ∷ cs) (suc k) h (suc j) = fits-without cs k (λ i. h (suc i)) j
 
 content-empty : (cs : List Cell) (k : ℕ) → isEmpty (getD cs k emptyCell .packet) ≡ true → content (set cs k emptyCell) ≡ content cs
 unfolding content
@@ -307,5 +318,11 @@ shaped = record {
     packed = packed-damaged (l .cells) k q (h .packed);
     few = omega (arith, h .few, normals-set (l .cells) k (damaged (packetAt l k) q) (damaged-normal (packetAt l k) q));
     fits = λ j. getD-set FitsCell (l .cells) k j _ emptyCell (damaged-fits (packetAt l k) q a (h .fits k)) (h .fits j);
+  };
+  loses = λ l k h. record {
+    twelve = length-without (l .cells) k ∙ h .twelve;
+    packed = packed-without (l .cells) k (h .packed);
+    few = omega (arith, normals-without (l .cells) k, h .few);
+    fits = fits-without (l .cells) k (h .fits);
   };
 }

@@ -1,0 +1,88 @@
+//! What the seeds of the made files reach, as the README names them: sizes that the gate has room
+//! for, and everything that is counted. The cases are made again from the seeds; no file is opened.
+
+use reference::cases::{Case, Wishes};
+use reference::compare::Row;
+use reference::evening::Sight;
+use reference::form::Form;
+use reference::listing::Tally;
+use reference::losses::{Finding, Refused};
+use reference::model::KINDS;
+
+const WISHES: Wishes = Wishes { damage: true, highest_kind: KINDS, cabinets: None };
+const MADE: Row = Row { form: Form::Steps, seed: 187, cases: 200, wishes: WISHES };
+const PLANNED: Row = Row { form: Form::Plan, seed: 575, cases: 100, wishes: WISHES };
+
+const GROUP_MOST: usize = 4_096;
+const RECORDS_MOST: usize = 90_180;
+const TEXT_MOST: usize = 200_200;
+const RECORDS_READ: usize = 10_000;
+
+fn has_room(case: &Case, text: &str) -> bool {
+    case.group.len() <= GROUP_MOST && case.steps.len() <= RECORDS_MOST && text.len() <= TEXT_MOST
+}
+
+fn has_more_records_than_are_read(form: Form, case: &Case) -> bool {
+    case.steps.len().div_ceil(form.record_length()) > RECORDS_READ
+}
+
+/// The counts of a row, of which one case is long and does not crash.
+fn counted(row: Row) -> Tally {
+    let mut tally = Tally::default();
+    let mut long = 0;
+    for index in 0..row.cases {
+        let case = row.case(index);
+        let (text, counts) = row.counted_text(&case);
+        assert!(has_room(&case, &text));
+        if has_more_records_than_are_read(row.form, &case) {
+            long += 1;
+            assert!(counts.crashes.is_empty());
+        }
+        tally.add(&counts);
+    }
+    assert_eq!(long, 1);
+    tally
+}
+
+/// The names of the counts at which nothing is counted.
+fn not_reached(tally: &Tally) -> Vec<&'static str> {
+    let (outlets, losses) = (&tally.outlets, &tally.losses);
+    let answers = [0, 8, 9, 10, 11, 12, 13, 14, 15, 16, 17, 18, 19, 20, 50];
+    let findings = [Finding::Crc, Finding::CountAlone];
+    let reached = [
+        ("loads refused", tally.loads_refused.keys().eq(&[1, 2, 3, 4, 5, 6, 7])),
+        ("answers", tally.answers.keys().eq(&answers)),
+        ("kinds taken", tally.kinds_taken.len() == usize::from(KINDS)),
+        ("commits", tally.commits > 0),
+        ("recoveries", tally.recoveries_ended > 0),
+        ("saves passed over", tally.saves_passed_over > 0),
+        ("link faults", tally.link_faults > 0),
+        ("crashes", tally.crashes.len() == 7),
+        ("sends by outlets", outlets.sends_taken.len() == 4),
+        ("packets by outlet", outlets.packets_taken.len() == 2),
+        ("sends refused for p", outlets.sends_refused_for_p > 0),
+        ("sends otherwise covered", outlets.sends_otherwise_covered.len() == 2),
+        ("notes refused", outlets.notes_refused_at.keys().eq(&[2, 3])),
+        ("recoveries changing B", outlets.recoveries_changing_b > 0),
+        ("comparisons by outlet", outlets.faults_by_comparison.len() == 2),
+        ("loads refused for B", outlets.loads_refused_for_b > 0),
+        ("losses", losses.taken > 0 && losses.taken_before_others > 0),
+        ("losses refused", losses.refused.keys().eq(&Refused::ALL)),
+        ("losses found", losses.found.keys().eq(&findings)),
+        ("damage after a loss", losses.damage_refused > 0),
+        ("crashes by a loss", losses.crashes > 0),
+        ("recoveries after a loss", losses.recoveries_ended > 0),
+        ("commits after that", losses.commits_after_recovery > 0),
+        ("points", tally.point_answers.keys().eq(&[0, 10, 22, 23])),
+        ("returns", tally.return_answers.keys().eq(&[0, 10, 21, 22])),
+        ("sights", tally.sights.keys().eq(&Sight::ALL)),
+    ];
+    reached.into_iter().filter(|(_, there)| !there).map(|(name, _)| name).collect()
+}
+
+#[test]
+fn the_two_made_files_reach_everything() {
+    let mut tally = counted(MADE);
+    tally.add(&counted(PLANNED));
+    assert_eq!(not_reached(&tally), [""; 0]);
+}
