@@ -3,9 +3,9 @@ use group::Group;
 use group::Outcome;
 use packet::Packet;
 ghost use mathlib.Core.Path.{_≡_};
-ghost use Rattle.protocol.specs.Kinds.{hurtAlready, damageRefusal, markHurt, hurtIf, hurt, damageStep, loseRefusal, lost, loseStep};
+ghost use Rattle.protocol.specs.Kinds.{hurtAlready, markHurt, unlessRecovering, damageRefusal, hurtIf, hurt, damageStep, loseRefusal, lost, loseStep};
 
-// ---- one hurt for each line
+// ---- what damage and loss share
 
 // The packet is normal, and a normal packet of its line was damaged or lost since the receiver's register restarted.
 fn hurt_already(g: Group, a: u8, b: u8, p: Packet) -> bool
@@ -22,6 +22,17 @@ fn mark_hurt(g: Group, a: u8, b: u8) -> Group
     ensures { λ r. ⌜ r ≡ markHurt g a b ⌝ }
 {
     g.with_cabinet(b, g.cabinet(b).hurt_from(a))
+}
+
+// A packet is hurt, which leaves that group; while some working cabinet is in error, recovering or recovered it crashes the group.
+fn unless_recovering(g: Group, left: Group) -> Outcome
+    ensures { λ r. ⌜ r ≡ unlessRecovering g left ⌝ }
+{
+    if survey::some(survey::recovering_ones(g)) {
+        survey::crashed(g)
+    } else {
+        group::taken(left)
+    }
 }
 
 // ---- 11 damage
@@ -56,11 +67,7 @@ pub fn damage_step(g: Group, a: u8, b: u8, p: u8, q: u16) -> Outcome
 {
     let k = damage_refusal(g, a, b, p, q);
     if k == 0 {
-        if survey::some(survey::recovering_ones(g)) {
-            survey::crashed(g)
-        } else {
-            group::taken(hurt(g, a, b, p, q))
-        }
+        unless_recovering(g, hurt(g, a, b, p, q))
     } else {
         group::answering(k, g)
     }
@@ -89,11 +96,7 @@ pub fn lose_step(g: Group, a: u8, b: u8, p: u8) -> Outcome
 {
     let k = lose_refusal(g, a, b, p);
     if k == 0 {
-        if survey::some(survey::recovering_ones(g)) {
-            survey::crashed(g)
-        } else {
-            group::taken(lost(g, a, b, p))
-        }
+        unless_recovering(g, lost(g, a, b, p))
     } else {
         group::answering(k, g)
     }

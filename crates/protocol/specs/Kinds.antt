@@ -208,7 +208,7 @@ failCrashes g a =
 unfoldable pub failStep : Group → ℕ → Outcome
 failStep g a = cond (failCrashes g a) (crashed g) (taken (alarmTo 8 (markFailed g a) a))
 
--- ---- one hurt for each line
+-- ---- what damage and loss share
 
 -- "a normal packet of that line was hurt since the receiver's register restarted", damaged or lost: it may be once
 abbrev pub hurtAlready : Group → ℕ → ℕ → Packet → Bool
@@ -217,6 +217,10 @@ hurtAlready g a b p = isNormal p && marked (cabinet g b .registers .hurt) a
 -- "One hurt for each line still holds, loss or damage": the receiver's mark
 abbrev pub markHurt : Group → ℕ → ℕ → Group
 markHurt g a b = withCabinet g b (hurtFrom (cabinet g b) a)
+
+-- ".. or damage is done, while some working cabinet is in error, recovering or recovered"; "a loss crashes the group where damage would"
+abbrev pub unlessRecovering : Group → Group → Outcome
+unlessRecovering g left = cond (some (recoveringOnes g)) (crashed g) (taken left)
 
 -- ---- 11 damage
 
@@ -235,10 +239,8 @@ unfoldable pub hurt : Group → ℕ → ℕ → ℕ → ℕ → Group
 hurt g a b p q =
     hurtIf (isNormal (packetAt (line g a b) p)) (withLine g a b (replaced (line g a b) p (damaged (packetAt (line g a b) p) q))) a b
 
--- ".. or damage is done, while some working cabinet is in error, recovering or recovered"
 unfoldable pub damageStep : Group → ℕ → ℕ → ℕ → ℕ → Outcome
-damageStep g a b p q =
-    orRefuse (damageRefusal g a b p q) g (cond (some (recoveringOnes g)) (crashed g) (taken (hurt g a b p q)))
+damageStep g a b p q = orRefuse (damageRefusal g a b p q) g (unlessRecovering g (hurt g a b p q))
 
 -- ---- 12 lose
 
@@ -253,6 +255,5 @@ loseRefusal g a b p =
 unfoldable pub lost : Group → ℕ → ℕ → ℕ → Group
 lost g a b p = markHurt (withLine g a b (without (line g a b) p)) a b
 
--- "a loss crashes the group where damage would"
 unfoldable pub loseStep : Group → ℕ → ℕ → ℕ → Outcome
-loseStep g a b p = orRefuse (loseRefusal g a b p) g (cond (some (recoveringOnes g)) (crashed g) (taken (lost g a b p)))
+loseStep g a b p = orRefuse (loseRefusal g a b p) g (unlessRecovering g (lost g a b p))
