@@ -1,52 +1,54 @@
--- Laws of the check value: the rule of the octet table, that nothing is lost on the way, and the published values.
+-- Laws of the check value: its steps pass through xor, nothing is lost on the way, and the published values.
 -- Assumes nothing.
 use mathlib.Core.Path.{_≡_, refl, sym, ap, _∙_}
 use mathlib.Core.List.{List, [], _∷_, _++_}
 use Prim.Native.Nat.{ℕ, zero, suc, _+_, _*_, _/_, _%_, _^_, _<_}
 use native.Mathlib.Nat.{mul-one, mul-le-mul-left, pow-suc}
 use native.Mathlib.Omega.{arith}
-use lib.Bits.{bitXor, xor-add-and, xor-shr, xor-mod, xor-lt, xor-comm, xor-zero-r, xor-shifted}
+use lib.Bits.{bitXor, xor-add-and, xor-shr, xor-mod, xor-lt, xor-comm, xor-zero-r}
 use lib.Pow.{pow-pos, mod-pow-add}
 use Rattle.crc.specs.Crc.{polynomial, crcBit, crcBits, crcOctet, crcFrom, crc}
-use Rattle.crc.proofs.Xor.{xor-assoc, xor-swap, xor-cancel, xor-cancel-low, xor-shift}
+use Rattle.crc.proofs.Xor.{Linear, xor-assoc, xor-medial, xor-split, xor-bits-times, xor-cancel, xor-cancel-low, xor-shift}
 
--- What an octet does to the register
+-- What steps do to the register
 
--- what stands below the highest bit passes one step unchanged, moved up by one
-bit-passes : (a low : ℕ) → low < 32768 → crcBit (bitXor a low) ≡ bitXor (crcBit a) (low * 2)
+-- a step passes through xor
+bit-linear : Linear crcBit
 unfolding crcBit
-bit-passes a low below =
+bit-linear a b =
+    let fed = xor-bits-times polynomial (a / 32768 % 2) (b / 32768 % 2) (omega arith) (omega arith) in
+    rw (xor-shift 1 a b, xor-mod (a * 2) (b * 2) 16, xor-shr a b 15, xor-mod (a / 32768) (b / 32768) 1, fed)
+    (xor-medial (a * 2 % 65536) (b * 2 % 65536) _ _)
+
+-- and so do n steps
+pub bits-linear : (n : ℕ) → Linear (crcBits n)
+unfolding crcBits
+bits-linear zero a b = refl
+bits-linear (suc n) a b = ap (crcBits n) (bit-linear a b) ∙ bits-linear n (crcBit a) (crcBit b)
+
+-- what stands below the highest bit moves up by one, and no more
+bit-up : (low : ℕ) → low < 32768 → crcBit low ≡ low * 2
+unfolding crcBit
+bit-up low below =
     let none-out : low / 32768 ≡ 0 = omega arith in
     let fits : low * 2 % 65536 ≡ low * 2 = omega arith in
-    rw (xor-shift 1 a low, xor-mod (a * 2) (low * 2) 16, xor-shr a low 15, none-out, fits, xor-zero-r)
-    (xor-swap (a * 2 % 65536) (low * 2) _)
+    rw (none-out, fits) (xor-zero-r (low * 2))
 
 -- the same over n steps, for what does not reach the top in them
-bits-pass : (n a low : ℕ) → low * 2 ^ n < 65536 → crcBits n (bitXor a low) ≡ bitXor (crcBits n a) (low * 2 ^ n)
+bits-up : (n low : ℕ) → low * 2 ^ n < 65536 → crcBits n low ≡ low * 2 ^ n
 unfolding crcBits
-bits-pass zero a low below = ap (bitXor a) (sym (mul-one low))
-bits-pass (suc n) a low below =
+bits-up zero low below = sym (mul-one low)
+bits-up (suc n) low below =
     let doubled : low * 2 ^ suc n ≡ low * (2 ^ n * 2) = ap (λ (x : ℕ). low * x) (pow-suc 2 n) in
-    ap (crcBits n) (bit-passes a low (omega (arith, mul-le-mul-left low (pow-pos n))))
-    ∙ bits-pass n (crcBit a) (low * 2) (omega arith) ∙ ap (bitXor (crcBits n (crcBit a))) (omega arith)
+    ap (crcBits n) (bit-up low (omega (arith, mul-le-mul-left low (pow-pos n)))) ∙ bits-up n (low * 2) (omega arith) ∙ omega arith
+
+-- so it passes through n steps beside anything else
+bits-pass : (n a low : ℕ) → low * 2 ^ n < 65536 → crcBits n (bitXor a low) ≡ bitXor (crcBits n a) (low * 2 ^ n)
+bits-pass n a low below = bits-linear n a low ∙ ap (bitXor (crcBits n a)) (bits-up n low below)
 
 -- a number is its high part and its low octet, joined by xor
 halves : (m : ℕ) → m ≡ bitXor (m / 256 * 256) (m % 256)
-halves m = omega (arith, xor-shifted (m / 256) 8 (m % 256) (omega arith))
-
--- the rule of the table: the low octet moves up, and what falls out goes through the eight steps alone
-pub octet-rule : (r x : ℕ) → crcOctet r x ≡ bitXor (r * 256 % 65536) (crcBits 8 (bitXor (r / 256) x * 256))
-unfolding crcOctet
-octet-rule r x =
-    let out = bitXor (r / 256) x * 256 in
-    let moved : r % 256 * 256 ≡ r * 256 % 65536 = omega arith in
-    cc (
-      halves r,
-      xor-swap (r / 256 * 256) (r % 256) (x * 256),
-      xor-shift 8 (r / 256) x,
-      bits-pass 8 out (r % 256) (omega arith),
-      xor-comm (crcBits 8 out) (r % 256 * 256),
-    )
+halves = xor-split 8
 
 -- The register stays within 16 bits
 

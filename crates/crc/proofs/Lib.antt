@@ -1,4 +1,4 @@
--- The lemmas of `crc`: `Laws` is for other crates too, `Xor` and `Table` serve it and the proofs of functions.
+-- The lemmas of `crc`: `Laws` and `Xor` are for other crates too, `Rules` serves the proof of `octet`.
 pub mod Xor
-pub mod Table
 pub mod Laws
+pub mod Rules

@@ -1,26 +1,38 @@
--- `crc::octet` meets its contract. `returns` holds the one computed test of the table: antt lists the 256 values of the rule and
--- compares them with the code's table, so that `entry` gives the rule at the place that is read.
+-- `crc::octet` meets its contract. Its rule on the joined register passes through xor, as eight steps do, and antt computes that the
+-- two agree on the sixteen registers with a single 1.
 -- Assumes nothing.
-use mathlib.Core.Path.{sym, ap, _∙_}
-use Prim.Native.Nat.{_*_, _/_, _%_}
-use native.Mathlib.Omega.{arith}
+use mathlib.Core.Path.{_≡_, refl, sym, ap, _∙_}
+use Prim.Native.Nat.{ℕ, _*_, _%_, _<_}
 use lib.Bits.{bitXor, xor-lt}
 use borrow.Author.Needs.{needs}
-use Rattle.crc.specs.Crc.{crcBit, crcBits}
-use Rattle.crc.proofs.Laws.{octet-rule}
-use Rattle.crc.proofs.Table.{entry}
+use Rattle.crc.specs.Crc.{crcBit, crcBits, crcOctet}
+use Rattle.crc.proofs.Rules.{Rule, register, up, down, mask, join, valueOf, linear, decided}
+use Rattle.crc.proofs.Laws.{bits-linear}
 use Rattle.crc.proofs.octet.Statement.{statement}
 use Rattle.crc.proofs.octet.Tie as tie
 
--- the place that is read is an octet
-array-read-result : tie.Need-array-read-result
-array-read-result c = xor-lt 8 (c .args .register / 256) (c .args .octet) (search needs) (search needs)
+-- the code's lines
+abbrev folded : Rule
+folded = join register (down 4 (mask 4 12 register))
+
+abbrev out : Rule
+out = down 8 folded
+
+abbrev formula : Rule
+formula = join (join (join (up 8 folded) (up 12 out)) (up 5 out)) out
+
+eight-steps : (r : ℕ) → r < 65536 → crcBits 8 r ≡ valueOf formula r
+unfolding crcBits crcBit
+eight-steps = decided (crcBits 8) (valueOf formula) (bits-linear 8) (linear formula) 16 refl
 
 returns : tie.Need-returns
-unfolding crcBits crcBit
+unfolding crcOctet
 returns c =
-    ap (bitXor (c .args .register * 256 % 65536)) (entry (λ i. crcBits 8 (i * 256)) 256 _ (array-read-result c))
-    ∙ sym (octet-rule (c .args .register) (c .args .octet))
+    let before = c .args .register in
+    let high = c .args .octet * 256 in
+    let fits : high % 65536 ≡ high = search needs in
+    ap (λ (x : ℕ). valueOf formula (bitXor before x)) fits
+    ∙ sym (eight-steps (bitXor before high) (xor-lt 16 before high (search needs) (search needs)))
 
 pub octet-spec : {M : Type 1} → statement M
-octet-spec = tie.close (tie.spec (λ c. search needs) (λ c. omega (arith, array-read-result c)) array-read-result returns)
+octet-spec = tie.close (tie.spec returns)
