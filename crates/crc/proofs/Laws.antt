@@ -8,7 +8,7 @@ use native.Mathlib.Omega.{arith}
 use lib.Bits.{bitXor, xor-add-and, xor-shr, xor-mod, xor-lt, xor-comm, xor-zero-r}
 use lib.Pow.{pow-pos, mod-pow-add}
 use Rattle.crc.specs.Crc.{polynomial, crcBit, crcBits, crcOctet, crcFrom, crc}
-use Rattle.crc.proofs.Xor.{Linear, xor-assoc, xor-medial, xor-split, xor-bits-times, xor-cancel, xor-cancel-low, xor-shift}
+use Rattle.crc.proofs.Xor.{Linear, Linear₂, xor-assoc, xor-medial, xor-split, xor-bits-times, xor-cancel, xor-cancel-low, xor-shift}
 
 -- What steps do to the register
 
@@ -21,10 +21,16 @@ bit-linear a b =
     (xor-medial (a * 2 % 65536) (b * 2 % 65536) _ _)
 
 -- and so do n steps
-pub bits-linear : (n : ℕ) → Linear (crcBits n)
+bits-linear : (n : ℕ) → Linear (crcBits n)
 unfolding crcBits
 bits-linear zero a b = refl
 bits-linear (suc n) a b = ap (crcBits n) (bit-linear a b) ∙ bits-linear n (crcBit a) (crcBit b)
+
+-- and an octet, with the register
+pub octet-linear : Linear₂ crcOctet
+unfolding crcOctet
+octet-linear a b x y =
+    rw (xor-shift 8 x y, xor-medial a b (x * 256) (y * 256)) (bits-linear 8 (bitXor a (x * 256)) (bitXor b (y * 256)))
 
 -- what stands below the highest bit moves up by one, and no more
 bit-up : (low : ℕ) → low < 32768 → crcBit low ≡ low * 2

@@ -46,7 +46,11 @@ xor-cancel-low k a b c same =
 abbrev pub Linear : (ℕ → ℕ) → Type 0
 Linear f = (a b : ℕ) → f (bitXor a b) ≡ bitXor (f a) (f b)
 
--- a shift up does
+-- the same of two numbers
+abbrev pub Linear₂ : (ℕ → ℕ → ℕ) → Type 0
+Linear₂ f = (a b x y : ℕ) → f (bitXor a b) (bitXor x y) ≡ bitXor (f a x) (f b y)
+
+-- a shift up passes through xor
 pub xor-shift : (k a b : ℕ) → bitXor a b * 2 ^ k ≡ bitXor (a * 2 ^ k) (b * 2 ^ k)
 xor-shift k a b = sym (simp add-zero at (xor-block k a b 0 0 (pow-pos k) (pow-pos k)))
 

@@ -1,38 +1,46 @@
--- `crc::octet` meets its contract. Its rule on the joined register passes through xor, as eight steps do, and antt computes that the
--- two agree on the sixteen registers with a single 1.
+-- `crc::octet` meets its contract. What the code gives passes through xor, as the definition does, and antt computes that the two agree
+-- on the registers and octets with a single 1.
 -- Assumes nothing.
-use mathlib.Core.Path.{_≡_, refl, sym, ap, _∙_}
-use Prim.Native.Nat.{ℕ, _*_, _%_, _<_}
-use lib.Bits.{bitXor, xor-lt}
+use mathlib.Core.Path.{_≡_, refl}
+use Prim.Native.Nat.{ℕ}
 use borrow.Author.Needs.{needs}
 use Rattle.crc.specs.Crc.{crcBit, crcBits, crcOctet}
-use Rattle.crc.proofs.Rules.{Rule, register, up, down, mask, join, valueOf, linear, decided}
-use Rattle.crc.proofs.Laws.{bits-linear}
+use Rattle.crc.proofs.Xor.{Linear₂}
+use Rattle.crc.proofs.Rules.{Rule, register, octet, up, down, mask, join, linear, atPowers, decided₂}
+use Rattle.crc.proofs.Laws.{octet-linear}
 use Rattle.crc.proofs.octet.Statement.{statement}
+use Rattle.crc.proofs.octet.Lts as lts
 use Rattle.crc.proofs.octet.Tie as tie
 
--- the code's lines
+-- what the code gives
+abbrev code : ℕ → ℕ → ℕ
+code r x = lts.answer tt (r, (x, tt))
+
+octets-agree : atPowers (code 0) 8 ≡ atPowers (crcOctet 0) 8
+unfolding crcOctet crcBits crcBit
+octets-agree = refl
+
+registers-agree : atPowers (λ r. code r 0) 16 ≡ atPowers (λ r. crcOctet r 0) 16
+unfolding crcOctet crcBits crcBit
+registers-agree = refl
+
+-- its lines, as rules
+abbrev joined : Rule
+joined = join register (up 8 octet)
+
 abbrev folded : Rule
-folded = join register (down 4 (mask 4 12 register))
+folded = join joined (down 4 (mask 4 12 joined))
 
 abbrev out : Rule
 out = down 8 folded
 
-abbrev formula : Rule
-formula = join (join (join (up 8 folded) (up 12 out)) (up 5 out)) out
-
-eight-steps : (r : ℕ) → r < 65536 → crcBits 8 r ≡ valueOf formula r
-unfolding crcBits crcBit
-eight-steps = decided (crcBits 8) (valueOf formula) (bits-linear 8) (linear formula) 16 refl
+code-linear : Linear₂ code
+code-linear = linear (join (join (join (up 8 folded) (up 12 out)) (up 5 out)) out)
 
 returns : tie.Need-returns
-unfolding crcOctet
 returns c =
-    let before = c .args .register in
-    let high = c .args .octet * 256 in
-    let fits : high % 65536 ≡ high = search needs in
-    ap (λ (x : ℕ). valueOf formula (bitXor before x)) fits
-    ∙ sym (eight-steps (bitXor before high) (xor-lt 16 before high (search needs) (search needs)))
+    decided₂ code crcOctet code-linear octet-linear registers-agree octets-agree (c .args .register) (c .args .octet) (search needs)
+    (search needs)
 
 pub octet-spec : {M : Type 1} → statement M
 octet-spec = tie.close (tie.spec returns)
