@@ -3,6 +3,7 @@
 
 pub mod losses;
 pub mod plans;
+mod trips;
 
 use crate::model::{
     self, Crash, Ends, Event, Group, Number, Outcome, Packet, State, CRASHED, KINDS, TAKEN,
@@ -27,6 +28,12 @@ pub struct Wishes {
     pub highest_kind: u8,
     /// The number of cabinets of a sound group, any from 2 to 8 if none is named.
     pub cabinets: Option<usize>,
+}
+
+impl Wishes {
+    fn trips(&self) -> bool {
+        self.highest_kind >= 13
+    }
 }
 
 // ---------------------------------------------------------------- dice
@@ -213,12 +220,9 @@ fn shares(dice: &mut Dice, total: usize, parts: usize) -> Vec<u16> {
     shares
 }
 
-/// A random tree, and each further link with a chance from none to all.
+/// A random tree, or now and then a ring, and each further link with a chance from none to all.
 fn connected_links(dice: &mut Dice, n: u8) -> Vec<(u8, u8)> {
-    let mut links = Vec::new();
-    for cabinet in 2..=n {
-        links.push((1 + dice.below(usize::from(cabinet) - 1) as u8, cabinet));
-    }
+    let mut links = if dice.per_thousand(150) { ring(n) } else { random_tree(dice, n) };
     let chance = dice.pick(&[0, 200, 400, 700, 1000]);
     for low in 1..n {
         for high in low + 1..=n {
@@ -229,6 +233,16 @@ fn connected_links(dice: &mut Dice, n: u8) -> Vec<(u8, u8)> {
     }
     links.sort_unstable();
     links.dedup();
+    links
+}
+
+fn random_tree(dice: &mut Dice, n: u8) -> Vec<(u8, u8)> {
+    (2..=n).map(|cabinet| (1 + dice.below(usize::from(cabinet) - 1) as u8, cabinet)).collect()
+}
+
+fn ring(n: u8) -> Vec<(u8, u8)> {
+    let mut links: Vec<(u8, u8)> = (1..n).map(|cabinet| (cabinet, cabinet + 1)).collect();
+    links.push((1, n));
     links
 }
 
@@ -351,11 +365,11 @@ fn add_to_number(file: &mut [u8], offset: usize, more: u16) {
 /// How a run behaves; drawn anew for each case. Chances are per thousand.
 struct Temper {
     /// Weight of each kind among sensible steps; entry 0 is not used.
-    weights: [usize; 13],
+    weights: [usize; 14],
     foolish: usize,
     /// Chance of a step that comes too soon.
     hasty: usize,
-    /// Chance that a fail, a damage or a loss is not kept from crashing the group.
+    /// Chance that a fail, a damage, a loss or a trip is not kept from crashing the group.
     bold: usize,
     /// Chance that the step after a commit strikes at it.
     strike_after_commit: usize,
@@ -365,22 +379,36 @@ struct Temper {
     laggard: Option<Number>,
     /// A cabinet that sends most of the time, and mostly to its lowest neighbour.
     talker: Option<Number>,
+    /// A cabinet that trips more than the others.
+    stumbler: Option<Number>,
+    /// Chance of a trip where others are about to find a link fault or to commit.
+    sly: usize,
 }
 
 fn some_cabinet(dice: &mut Dice, group: &Group, chance: usize) -> Option<Number> {
     dice.per_thousand(chance).then(|| dice.between(1, group.size()))
 }
 
+/// Rather the one that leads second.
+fn some_stumbler(dice: &mut Dice, group: &Group) -> Option<Number> {
+    if dice.per_thousand(200) {
+        Some(2)
+    } else {
+        some_cabinet(dice, group, 400)
+    }
+}
+
 impl Temper {
-    fn drawn(dice: &mut Dice, group: &Group, damage: bool) -> Temper {
-        let mut weights = [0, 250, 15, 0, 300, 160, 120, 160, 120, 80, 0, 0, 0];
+    fn drawn(dice: &mut Dice, group: &Group, wishes: Wishes) -> Temper {
+        let mut weights = [0, 250, 15, 0, 300, 160, 120, 160, 120, 80, 0, 0, 0, 0];
         for weight in &mut weights {
             *weight = *weight * dice.pick(&[1, 2, 4]) / 2;
         }
         weights[3] = dice.pick(&[3, 8, 20, 60]);
         weights[10] = dice.pick(&[0, 2, 5, 15]);
-        weights[11] = if damage { dice.pick(&[0, 6, 12, 40]) } else { 0 };
-        weights[12] = if damage { dice.pick(&[0, 6, 12, 40]) } else { 0 };
+        weights[11] = if wishes.damage { dice.pick(&[0, 6, 12, 40]) } else { 0 };
+        weights[12] = if wishes.damage { dice.pick(&[0, 6, 12, 40]) } else { 0 };
+        weights[13] = if wishes.trips() { dice.pick(&[0, 5, 15, 40]) } else { 0 };
         Temper {
             weights,
             foolish: dice.pick(&[0, 20, 80, 250]),
@@ -390,6 +418,8 @@ impl Temper {
             slow: some_cabinet(dice, group, 400),
             laggard: some_cabinet(dice, group, 300),
             talker: some_cabinet(dice, group, 300),
+            stumbler: some_stumbler(dice, group),
+            sly: if wishes.trips() { dice.pick(&[0, 50, 300]) } else { 0 },
         }
     }
 
@@ -443,11 +473,17 @@ struct Run<'a> {
     /// Tries left in which a save is brought on first: it finds a loss, or commits after one.
     save_first: usize,
     lost_since_recovery: bool,
+    /// Tries left in which a trip is asked for between what ends a recovery.
+    trip_first: usize,
+    /// A cabinet with two trips since the last commit.
+    twice_before: Option<Number>,
+    /// A cabinet with two trips before the last commit.
+    pardoned: Option<Number>,
 }
 
 impl Run<'_> {
     fn new(dice: &mut Dice, group: Group, wishes: Wishes) -> Run<'_> {
-        let temper = Temper::drawn(dice, &group, wishes.damage);
+        let temper = Temper::drawn(dice, &group, wishes);
         Run {
             dice,
             group,
@@ -458,6 +494,9 @@ impl Run<'_> {
             to_follow: VecDeque::new(),
             save_first: 0,
             lost_since_recovery: false,
+            trip_first: 0,
+            twice_before: None,
+            pardoned: None,
         }
     }
 
@@ -479,6 +518,7 @@ impl Run<'_> {
     fn take(&mut self, record: Record) -> Outcome {
         let outcome = self.group.step(&record, self.wishes.highest_kind);
         self.last_event = outcome.event;
+        self.note_pardons(outcome.event);
         if record[0] == 12 && outcome.answer == TAKEN {
             self.after_loss(record);
         }
@@ -513,7 +553,7 @@ impl Run<'_> {
                 return record;
             }
         }
-        let strike = self.temper.strike_after_commit;
+        let strike = self.chance_to_strike();
         if self.last_event == Event::Commit && self.dice.per_thousand(strike) {
             if let Some(record) = self.strike_at_commit() {
                 return record;
@@ -521,6 +561,15 @@ impl Run<'_> {
         }
         if let Some(record) = self.fail_before_its_report() {
             return record;
+        }
+        let sly = self.temper.sly;
+        if self.dice.per_thousand(sly) {
+            let with_its_own = self.dice.per_thousand(600);
+            let beside = self.trip_beside_a_link_fault();
+            let trip = beside.or_else(|| self.trip_before_the_reports(with_its_own));
+            if let Some(record) = trip {
+                return record;
+            }
         }
         for _ in 0..12 {
             let kind = self.next_kind();
@@ -536,7 +585,7 @@ impl Run<'_> {
     /// A damage or loss that was meant for another moment would crash the group.
     fn next_to_follow(&mut self) -> Option<Record> {
         if self.group.recovery_under_way() {
-            self.to_follow.clear();
+            self.to_follow.retain(|record| [4, 6].contains(&record[0]));
         }
         self.to_follow.pop_front()
     }
@@ -552,6 +601,10 @@ impl Run<'_> {
             self.save_first -= 1;
             return self.dice.pick(&[1, 3, 4, 4, 5, 6, 7, 8]);
         }
+        if self.trip_first > 0 {
+            self.trip_first -= 1;
+            return self.dice.pick(&[1, 4, 4, 7, 8, 13]);
+        }
         self.temper.kind(self.dice)
     }
 
@@ -565,14 +618,44 @@ impl Run<'_> {
         step.is_ok_and(|step| self.group.refusal(&step).is_none())
     }
 
-    /// Right after a commit: its coordinator fails, or one of its resume packets is hurt.
+    /// Rather where the commit pardoned a cabinet that tripped twice.
+    fn chance_to_strike(&self) -> usize {
+        if self.pardoned.is_some() {
+            800
+        } else {
+            self.temper.strike_after_commit
+        }
+    }
+
+    /// The coordinator, as the lowest working cabinet's table names it.
+    fn lead(&self) -> Option<Number> {
+        let working = self.group.working_cabinets();
+        working.first().map(|&lowest| self.group.cabinet(lowest).coordinator())
+    }
+
+    /// Right after a commit: its coordinator fails or trips, or one of its resume packets is hurt;
+    /// or one trips that led before it.
     fn strike_at_commit(&mut self) -> Option<Record> {
-        let coordinator = *self.group.working_cabinets().first()?;
-        if self.wishes.damage && self.dice.per_thousand(500) {
+        let coordinator = self.lead()?;
+        if self.wishes.damage && self.dice.per_thousand(400) {
             return self.damage_on_lines_from(coordinator);
         }
-        let safe = self.group.crash_by_failing(coordinator).is_none();
-        safe.then(|| record(10, coordinator, 0, 0, 0))
+        if self.wishes.trips() && self.dice.per_thousand(200) {
+            let before = self.trip_of_the_number_before(coordinator);
+            return before.or_else(|| self.safe_fault_of(coordinator));
+        }
+        self.safe_fault_of(coordinator)
+    }
+
+    /// It fails or trips, if that does not crash the group.
+    fn safe_fault_of(&mut self, cabinet: Number) -> Option<Record> {
+        let trips = self.wishes.trips() && self.dice.per_thousand(600);
+        let (kind, crash) = if trips {
+            (13, self.group.crash_by_tripping(cabinet))
+        } else {
+            (10, self.group.crash_by_failing(cabinet))
+        };
+        crash.is_none().then(|| record(kind, cabinet, 0, 0, 0))
     }
 }
 
@@ -584,6 +667,10 @@ impl Run<'_> {
             1 => self.sensible_send(),
             2 => self.sensible_note(),
             4 => self.sensible_deliver(),
+            9 => {
+                let refused = self.refused_wait_over();
+                refused.or_else(|| self.sensible_single(9))
+            }
             10 => self.sensible_fail(),
             11 if self.dice.per_thousand(150) => self.second_hurt(11),
             11 => {
@@ -591,6 +678,7 @@ impl Run<'_> {
                 self.damage_on_lines_from(from)
             }
             12 => self.sensible_loss(),
+            13 => self.sensible_trip(),
             _ => self.sensible_single(kind),
         }
     }
@@ -604,19 +692,19 @@ impl Run<'_> {
         (!lags || self.dice.per_thousand(30)).then_some(chosen)
     }
 
-    /// The laggard fails when all others have written and a report is still owed.
+    /// The laggard fails or trips when all others have written and a report is still owed.
     fn fail_before_its_report(&mut self) -> Option<Record> {
         let laggard = self.temper.laggard?;
         let others_done = self.group.working_cabinets().iter().all(|&a| {
             let state = self.group.cabinet(a).state;
             state == if a == laggard { State::Checkpointing } else { State::Checkpointed }
         });
-        let safe = others_done && self.group.crash_by_failing(laggard).is_none();
-        if !safe || !self.dice.per_thousand(300) {
+        if !others_done || !self.dice.per_thousand(300) {
             return None;
         }
+        let fault = self.safe_fault_of(laggard)?;
         self.reports_first = 6;
-        Some(record(10, laggard, 0, 0, 0))
+        Some(fault)
     }
 
     fn sensible_send(&mut self) -> Option<Record> {
@@ -822,11 +910,15 @@ impl Run<'_> {
         if kind == 10 && !self.dice.per_thousand(30) {
             kind = 9; // a fail is nearly always taken, and then it mostly crashes the group
         }
+        if kind == 10 && self.wishes.trips() && self.dice.per_thousand(500) {
+            kind = 13;
+        }
         let (names_b, names_p, names_q) = model::fields_named(kind);
         let b = if names_b { self.any_cabinet() } else { 0 };
         let p = if names_p { self.strange_p(kind) } else { 0 };
         let q = if names_q { self.strange_value() } else { 0 };
-        if kind > 10 && self.group.recovery_under_way() && !self.dice.per_thousand(100) {
+        let hurts = kind == 11 || kind == 12;
+        if hurts && self.group.recovery_under_way() && !self.dice.per_thousand(100) {
             return record(kind, self.any_cabinet(), b, 12, q);
         }
         record(kind, self.any_cabinet(), b, p, q)
@@ -883,6 +975,7 @@ mod tests {
     use crate::losses::{Finding, Refused};
     use crate::model::Outlet;
     use crate::outlets::Cover;
+    use crate::trips::Between;
 
     fn wishes(damage: bool) -> Wishes {
         Wishes { damage, highest_kind: KINDS, cabinets: None }
@@ -917,8 +1010,8 @@ mod tests {
         assert_eq!(answers, [0, 8, 9, 10, 11, 12, 13, 14, 15, 16, 17, 18, 19, 20, 50]);
         let refusals: Vec<u8> = tally.loads_refused.keys().copied().collect();
         assert_eq!(refusals, [1, 2, 3, 4, 5, 6, 7]);
-        assert_eq!(tally.kinds_taken.len(), 12);
-        assert_eq!(tally.crashes.len(), 7);
+        assert_eq!(tally.kinds_taken.len(), 13);
+        assert_eq!(tally.crashes.len(), 10);
         assert!(tally.commits > 0 && tally.recoveries_ended > 0);
         assert!(tally.saves_passed_over > 0 && tally.link_faults > 0);
     }
@@ -931,6 +1024,30 @@ mod tests {
         assert!(counts.found.keys().eq(&[Finding::Crc, Finding::CountAlone]));
         assert!(counts.damage_refused > 0 && counts.recoveries_ended > 0);
         assert!(counts.commits_after_recovery > 0);
+    }
+
+    #[test]
+    fn where_trips_are_unknown_no_record_has_kind_13() {
+        for index in 0..200 {
+            let earlier = Wishes { highest_kind: 12, ..wishes(true) };
+            let case = make_case(case_seed(3, index), earlier);
+            assert!(case.steps.chunks_exact(6).all(|record| record[0] != 13));
+        }
+    }
+
+    #[test]
+    fn the_cases_reach_what_trips_bring() {
+        let counts = tally_of(600, wishes(true)).trips;
+        assert!(counts.taken > 0 && counts.of_coordinators > 0 && counts.of_joining_cabinets > 0);
+        assert!(counts.taken_as_fails > 0 && counts.after_two.contains_key(&Between::Commit));
+        assert!(counts.refused.keys().eq(&[9, 10, 11, 12]));
+        let causes = [Crash::StoreTripped, Crash::TripInRecovery, Crash::CutOffByTrip];
+        assert!(causes.iter().all(|cause| counts.crashes.contains_key(cause)));
+        assert!(counts.recoveries_ended > 0 && counts.saves_passed_over > 0);
+        assert!(counts.begins_by_moved_lead > 0 && counts.commits_by_moved_lead > 0);
+        assert!(counts.waits_over > 0 && counts.waits_refused_alone > 0);
+        assert!(counts.taken_in.len() == 4 && counts.fails_of_moved_lead > 0);
+        assert!(counts.link_faults > 0 && counts.places_met > 0 && counts.commits > 0);
     }
 
     fn uses_a_hurt_line(group: &Group) -> bool {

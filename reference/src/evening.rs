@@ -79,9 +79,17 @@ impl Evening {
 
     fn step(&mut self, record: &[u8]) -> u8 {
         self.watch.before_step(&self.group);
+        let after_trip = self.counter.trip_watch.trip_is_open();
         let outcome = self.counter.step(&mut self.group, record, self.highest_kind);
         let sights = self.watch.after_step(&self.group, outcome.event);
+        let to_return = sights.contains(&Sight::RecoveryToReturn);
+        let third_trip = record[0] == 13 && outcome.answer == TAKEN;
+        let third_over_return = third_trip && self.watch.failed_over_return(&self.group, record[1]);
         self.count_sights(sights);
+        self.count_sights(seen(&[
+            (Sight::RecoveryFromTripToReturn, to_return && after_trip),
+            (Sight::ThirdTripOverReturn, third_over_return),
+        ]));
         outcome.answer
     }
 
@@ -182,10 +190,14 @@ pub enum Sight {
     PassedOverToReturn,
     /// A return set a failed cabinet's image, a commit came, and then a recovery ended.
     RecoveryWithSetImageAfterCommit,
+    /// A recovery from a trip ended after a return with no commit between.
+    RecoveryFromTripToReturn,
+    /// Taken as a fail, with a return since the first or the second.
+    ThirdTripOverReturn,
 }
 
 impl Sight {
-    pub const ALL: [Sight; 16] = [
+    pub const ALL: [Sight; 18] = [
         Sight::MalformedRecord,
         Sight::PointReplaced,
         Sight::PointOfTheStart,
@@ -202,6 +214,8 @@ impl Sight {
         Sight::RecoveryToReturnChangesBookings,
         Sight::PassedOverToReturn,
         Sight::RecoveryWithSetImageAfterCommit,
+        Sight::RecoveryFromTripToReturn,
+        Sight::ThirdTripOverReturn,
     ];
 }
 
@@ -214,6 +228,8 @@ struct Watch {
     commits_at_return: Option<u64>,
     /// The cabinets whose images the last return set as those of failed ones.
     failed_at_return: BTreeSet<Number>,
+    /// The cabinets that had tripped since the last commit when the last return was taken.
+    tripped_at_return: BTreeSet<Number>,
     /// The failed cabinets when each point was taken.
     failed_at_point: BTreeMap<Name, BTreeSet<Number>>,
     /// The bookings of working cabinets before the recovery under way.
@@ -241,9 +257,18 @@ impl Watch {
         commit_since && !self.failed_at_return.is_empty()
     }
 
+    /// Of a cabinet that just tripped.
+    fn failed_over_return(&self, group: &Group, cabinet: u8) -> bool {
+        let number = usize::from(cabinet);
+        self.tripped_at_return.contains(&number) && !group.cabinet(number).working()
+    }
+
     fn after_step(&mut self, group: &Group, event: Event) -> Vec<Sight> {
         match event {
-            Event::Commit => self.commits += 1,
+            Event::Commit => {
+                self.commits += 1;
+                self.tripped_at_return.clear();
+            }
             Event::RecoveryEnd { save_passed_over } => {
                 return self.after_recovery(group, save_passed_over);
             }
@@ -289,6 +314,8 @@ impl Watch {
             (Sight::ReturnOverFail, since_point),
             (Sight::ReturnWithHurtLine, has_hurt_line(group)),
         ]);
+        let tripped = |number: &Number| group.cabinet(*number).trips() > 0;
+        self.tripped_at_return = group.numbers().filter(tripped).collect();
         self.commits_at_return = Some(self.commits);
         self.failed_at_return = failed;
         sights
@@ -358,7 +385,7 @@ mod tests {
     #[test]
     fn malformed_records_are_named_by_their_first_octet() {
         let odd = vec![0, 3, 1, 0, 0, 0, 0, 0, 1];
-        let plan = [odd, vec![3; 9], step([13, 0, 0, 0, 0, 0]), vec![1, 0]];
+        let plan = [odd, vec![3; 9], step([14, 0, 0, 0, 0, 0]), vec![1, 0]];
         let answers = "step 1 8\nstep 2 8\nstep 3 8\npoint 4 8\n";
         assert_eq!(printed(&plan), format!("{answers}{CABINETS}"));
         assert_eq!(printed(&[vec![2; 8]]), format!("return 1 8\n{CABINETS}"));

@@ -2,6 +2,7 @@
 
 mod aim;
 pub mod cases;
+pub mod choice;
 pub mod compare;
 pub mod evening;
 pub mod form;
@@ -12,4 +13,5 @@ pub mod ops;
 pub mod outlets;
 pub mod points;
 pub mod shrink;
+pub mod trips;
 pub mod widened;

@@ -6,6 +6,7 @@ use crate::evening::Sight;
 use crate::losses::{LossCounts, LossWatch};
 use crate::model::{self, Crash, Event, Group, Outcome, State, Version, RECORD_LENGTH, TAKEN};
 use crate::outlets::{OutletCounts, Watch};
+use crate::trips::{Stand, TripCounts, TripWatch};
 use std::collections::BTreeMap;
 use std::fmt::{Debug, Write};
 
@@ -26,6 +27,7 @@ pub struct Tally {
     pub crashes: BTreeMap<Crash, u64>,
     pub outlets: OutletCounts,
     pub losses: LossCounts,
+    pub trips: TripCounts,
     pub point_answers: BTreeMap<u8, u64>,
     pub return_answers: BTreeMap<u8, u64>,
     pub sights: BTreeMap<Sight, u64>,
@@ -80,6 +82,7 @@ impl Tally {
         add_counts(&mut self.crashes, &other.crashes);
         self.outlets.add(&other.outlets);
         self.losses.add(&other.losses);
+        self.trips.add(&other.trips);
         add_counts(&mut self.point_answers, &other.point_answers);
         add_counts(&mut self.return_answers, &other.return_answers);
         add_counts(&mut self.sights, &other.sights);
@@ -96,7 +99,7 @@ impl Tally {
         let _ = writeln!(text, "link faults found: {}", self.link_faults);
         let crashes: u64 = self.crashes.values().sum();
         let _ = writeln!(text, "crashes: {crashes} ({})", counts_text(&self.crashes));
-        text + &self.outlets.report() + &self.losses.report()
+        text + &self.outlets.report() + &self.losses.report() + &self.trips.report()
     }
 
     /// What points and returns add to the report.
@@ -116,22 +119,28 @@ pub(crate) struct Counter {
     pub(crate) tally: Tally,
     watch: Watch,
     loss_watch: LossWatch,
+    pub(crate) trip_watch: TripWatch,
 }
 
 impl Counter {
     pub(crate) fn new() -> Counter {
-        let (watch, loss_watch) = (Watch::default(), LossWatch::default());
-        Counter { tally: Tally::of_one_case(), watch, loss_watch }
+        Counter {
+            tally: Tally::of_one_case(),
+            watch: Watch::default(),
+            loss_watch: LossWatch::default(),
+            trip_watch: TripWatch::default(),
+        }
     }
 
     pub(crate) fn step(&mut self, group: &mut Group, record: &[u8], highest_kind: u8) -> Outcome {
-        let aim = Aim::of(group, record);
+        let (aim, stand) = (Aim::of(group, record), Stand::of(group, record));
         self.watch.before_step(group);
         let outcome = group.step(record, highest_kind);
         self.watch.after_step(aim, record, outcome);
         self.tally.count_step(record, outcome);
         self.tally.outlets.count_step(&self.watch, group, record, outcome);
         self.tally.losses.count_step(&mut self.loss_watch, aim, record, outcome);
+        self.tally.trips.count_step(&mut self.trip_watch, stand, group, record, outcome);
         outcome
     }
 }
@@ -192,7 +201,7 @@ pub(crate) fn list_cabinets(text: &mut String, group: &Group) {
 fn version_text(version: Version) -> String {
     match version {
         Version::Known(version) => version.to_string(),
-        Version::Unknown { .. } => "u".to_string(),
+        Version::Unknown { .. } | Version::Lost => "u".to_string(),
     }
 }
 

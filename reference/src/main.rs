@@ -1,12 +1,13 @@
 //! The commands: list, evening, compare, make, pack, vectors and bench.
 
 use reference::cases::{case_seed, make_case, Case, Wishes};
+use reference::choice::most_telling;
 use reference::compare::{self, Row};
 use reference::form::Form;
 use reference::listing::{listing, Tally};
 use reference::model::KINDS;
 use reference::ops;
-use reference::widened::{with_two_outlets, without_kind_12, LeftOut};
+use reference::widened::{stands, with_two_outlets, LeftOut};
 use std::collections::BTreeMap;
 use std::io::{self, Write};
 use std::path::{Path, PathBuf};
@@ -15,13 +16,14 @@ use std::time::{Duration, Instant};
 use std::{env, fs};
 
 const USAGE: &str = "usage:
-  reference list DIR [--kinds 10|11|12]
-  reference evening DIR [--kinds 10|11|12]
-  reference compare PROGRAM [--plans] [--seed S] [--cases N] [--damage] [--kinds 10|11|12]
-  reference make OUT [--plans] [--seed S] [--cases N] [--damage] [--kinds 10|11|12]
-  reference pack DIR OUT [--plans] [--from-01 | --without-12]
-  reference vectors DIR [--kinds 10|11|12]
-  reference bench [--seed S]";
+  reference list DIR [--kinds K]
+  reference evening DIR [--kinds K]
+  reference compare PROGRAM [--plans] [--seed S] [--cases N] [--damage] [--kinds K]
+  reference make OUT [--plans] [--seed S] [--cases N] [--damage] [--kinds K]
+  reference pack DIR OUT [--plans] [--from-01 | --from-kinds K] [--most N]
+  reference vectors DIR [--kinds K]
+  reference bench [--seed S]
+K is 10, 11, 12 or 13";
 
 // ---------------------------------------------------------------- arguments
 
@@ -32,7 +34,8 @@ struct Options {
     form: Form,
     damage: bool,
     from_01: bool,
-    without_12: bool,
+    from_kinds: u8,
+    most: usize,
     highest_kind: u8,
 }
 
@@ -46,7 +49,8 @@ impl Options {
                 "--plans" => options.form = Form::Plan,
                 "--damage" => options.damage = true,
                 "--from-01" => options.from_01 = true,
-                "--without-12" => options.without_12 = true,
+                "--from-kinds" => options.from_kinds = kinds(&arguments.next()?)?,
+                "--most" => options.most = arguments.next()?.parse().ok()?,
                 "--kinds" => options.highest_kind = kinds(&arguments.next()?)?,
                 other if other.starts_with("--") => return None,
                 _ => options.words.push(argument),
@@ -71,7 +75,8 @@ impl Default for Options {
             form: Form::Steps,
             damage: false,
             from_01: false,
-            without_12: false,
+            from_kinds: KINDS,
+            most: usize::MAX,
             highest_kind: KINDS,
         }
     }
@@ -166,25 +171,35 @@ fn pack(folder: &Path, file: &Path, options: &Options) -> io::Result<ExitCode> {
         eprintln!("no case folder with {} below {}", form.records_file(), folder.display());
         return Ok(ExitCode::from(2));
     }
-    let mut out = io::BufWriter::new(fs::File::create(file)?);
     let mut left_out: BTreeMap<LeftOut, u64> = BTreeMap::new();
-    let (mut packed, mut differ) = (0, Vec::new());
+    let (mut standing, mut tallies, mut differ) = (Vec::new(), Vec::new(), Vec::new());
     for (_, folder) in &folders {
         match case_to_pack(folder, options)? {
             Ok((case, text)) => {
-                write_case(&mut out, &case, text.as_bytes())?;
-                packed += 1;
-                if form.text(&case, options.highest_kind) != text {
+                let (model_text, tally) = form.counted_text(&case, options.highest_kind);
+                if model_text != text {
                     differ.push(folder);
                 }
+                standing.push((case, text));
+                tallies.push(tally);
             }
             Err(reason) => *left_out.entry(reason).or_default() += 1,
         }
     }
+    let chosen = most_telling(&tallies, options.most);
+    let mut out = io::BufWriter::new(fs::File::create(file)?);
+    for &place in &chosen {
+        let (case, text) = &standing[place];
+        write_case(&mut out, case, text.as_bytes())?;
+    }
     out.flush()?;
-    println!("{packed} cases packed, {} of them differ from the model", differ.len());
+    println!("{} stand, {} of them differ from the model", standing.len(), differ.len());
     differ.iter().for_each(|folder| println!("{}", folder.display()));
     println!("{} left out {left_out:?}", left_out.values().sum::<u64>());
+    println!("{} packed", chosen.len());
+    let mut reached = Tally::default();
+    chosen.iter().for_each(|&place| reached.add(&tallies[place]));
+    print!("{}", form.report(&reached));
     Ok(if differ.is_empty() { ExitCode::SUCCESS } else { ExitCode::FAILURE })
 }
 
@@ -195,10 +210,8 @@ fn case_to_pack(folder: &Path, options: &Options) -> io::Result<Result<(Case, St
     let text = String::from_utf8_lossy(&form.expected_text(folder)?).into_owned();
     Ok(if options.from_01 {
         with_two_outlets(form, &case, &text)
-    } else if options.without_12 {
-        without_kind_12(form, &case, &text).map(|()| (case, text))
     } else {
-        Ok((case, text))
+        stands(form, &case, &text, options.from_kinds).map(|()| (case, text))
     })
 }
 

@@ -1,4 +1,4 @@
-//! The charger group: cabinets, lines and store, the load of a group file and the twelve
+//! The charger group: cabinets, lines and store, the load of a group file and the thirteen
 //! kinds of step. Written from the scope document and the decisions alone; cabinet numbers
 //! are 1 to n here, as they are there.
 
@@ -16,9 +16,13 @@ const LINE_PLACES: usize = 12;
 const PIECES: usize = 4;
 const PIECE_LENGTH: usize = 8;
 const CRC_START: u16 = 0xFFFF;
+const NO_IMAGE: Image = [0; 32];
+
+/// One trip more with no commit between is a fail.
+const TRIPS_BEFORE_A_FAIL: u8 = 2;
 
 /// The highest kind of step that the documents name so far.
-pub const KINDS: u8 = 12;
+pub const KINDS: u8 = 13;
 
 // ---------------------------------------------------------------- the check value
 
@@ -139,7 +143,7 @@ pub struct Charge {
 
 // ---------------------------------------------------------------- parts of a group
 
-#[derive(Clone, Copy, PartialEq, Eq, Debug)]
+#[derive(Clone, Copy, PartialEq, Eq, PartialOrd, Ord, Debug)]
 pub enum State {
     Normal,
     CheckpBegin,
@@ -175,7 +179,11 @@ impl State {
 #[derive(Clone, Copy, PartialEq, Eq, Debug)]
 pub enum Version {
     Known(u8),
-    Unknown { old: u8 },
+    Unknown {
+        old: u8,
+    },
+    /// Unknown with no old one: of a tripped cabinet, until recover has come.
+    Lost,
 }
 
 impl Version {
@@ -184,15 +192,30 @@ impl Version {
         match self {
             Version::Known(version) => version,
             Version::Unknown { old } => old,
+            Version::Lost => panic!("nobody asks a tripped cabinet for its version"),
         }
+    }
+
+    pub fn known(self) -> bool {
+        matches!(self, Version::Known(_))
     }
 }
 
 /// The place of a fault; a link has its lower number first.
 #[derive(Clone, Copy, PartialEq, Eq, Debug)]
 pub enum Place {
-    Cabinet(Number),
+    Failed(Number),
+    Tripped(Number),
     Link(Number, Number),
+}
+
+impl Place {
+    fn cabinet(self) -> Option<Number> {
+        match self {
+            Place::Failed(cabinet) | Place::Tripped(cabinet) => Some(cabinet),
+            Place::Link(..) => None,
+        }
+    }
 }
 
 #[derive(Clone, Copy, PartialEq, Eq, Debug)]
@@ -251,11 +274,14 @@ pub struct Cabinet {
     store: bool,
     cabinets_in_use: BTreeSet<Number>,
     links_in_use: BTreeSet<Number>,
+    coordinator: Number,
     sent_check: Vec<Check>,
     taken_check: Vec<Check>,
     noted: Noted,
     reports_owed: BTreeSet<Number>,
     trouble: Option<Trouble>,
+    /// Since the last commit, passed over or not.
+    trips: u8,
     /// Of a failed cabinet: its image in the save restored after it failed, or the one that
     /// the last return since then set. None until the recovery from its fail has ended.
     left_behind: Option<Image>,
@@ -279,9 +305,37 @@ impl Cabinet {
         self.state != State::Failed
     }
 
-    fn coordinator(&self) -> Number {
-        let lowest = self.cabinets_in_use.first();
-        *lowest.expect("a cabinet stays in its own table")
+    /// As this cabinet's own table names it.
+    pub fn coordinator(&self) -> Number {
+        self.coordinator
+    }
+
+    /// Since the last commit.
+    pub fn trips(&self) -> u8 {
+        self.trips
+    }
+
+    /// Saved reports, as a coordinator.
+    pub fn takes_reports(&self) -> bool {
+        matches!(self.state, State::Checkpointing | State::Checkpointed)
+    }
+
+    /// The cabinets of its table for which no saved report of this save has come.
+    pub fn reports_missing(&self) -> Vec<Number> {
+        self.cabinets_in_use.difference(&self.noted.saved).copied().collect()
+    }
+
+    /// The place of the fault that this cabinet is recovering from.
+    pub fn place(&self) -> Option<Place> {
+        let in_recovery = self.state.in_recovery();
+        self.trouble.filter(|_| in_recovery).map(|trouble| trouble.place)
+    }
+
+    /// After the highest number in use comes the lowest.
+    fn next_in_use_after(&self, number: Number) -> Number {
+        let higher = self.cabinets_in_use.range(number + 1..).next();
+        let next = higher.or_else(|| self.cabinets_in_use.first());
+        *next.expect("a cabinet stays in its own table")
     }
 
     fn uses_line_to(&self, other: Number) -> bool {
@@ -300,7 +354,8 @@ impl Cabinet {
 
     fn strike(&mut self, own: Number, place: Place) {
         match place {
-            Place::Cabinet(failed) => self.cabinets_in_use.remove(&failed),
+            Place::Failed(cabinet) => self.cabinets_in_use.remove(&cabinet),
+            Place::Tripped(_) => false,
             Place::Link(low, high) if own == low => self.links_in_use.remove(&high),
             Place::Link(low, high) if own == high => self.links_in_use.remove(&low),
             Place::Link(..) => false,
@@ -444,7 +499,7 @@ fn starting_group(entries: &[CabinetEntry], links: BTreeSet<(Number, Number)>) -
     let cabinets: Vec<Cabinet> =
         (1..=n).map(|number| starting_cabinet(number, n, &entries[number - 1], &links)).collect();
     Group {
-        slots: cabinets.iter().map(|cabinet| [cabinet.image, [0; 32]]).collect(),
+        slots: cabinets.iter().map(|cabinet| [cabinet.image, NO_IMAGE]).collect(),
         cabinets,
         file_links: links.clone(),
         sound_links: links,
@@ -463,16 +518,18 @@ fn starting_cabinet(
     let mut cabinet = Cabinet {
         state: State::Normal,
         version: Version::Known(0),
-        image: [0; 32],
+        image: NO_IMAGE,
         home: entry.home,
         store: entry.mark == 1,
         cabinets_in_use: (1..=n).collect(),
         links_in_use: (1..=n).filter(linked).collect(),
+        coordinator: 1,
         sent_check: vec![Check::START; n],
         taken_check: vec![Check::START; n],
         noted: Noted::default(),
         reports_owed: BTreeSet::new(),
         trouble: None,
+        trips: 0,
         left_behind: None,
     };
     cabinet.set_booking(Outlet::A, entry.booking_a);
@@ -496,6 +553,7 @@ pub enum Step {
     Fail(Number),
     Damage { from: Number, to: Number, place: u8, pattern: u16 },
     Lose { from: Number, to: Number, place: u8 },
+    Trip(Number),
 }
 
 /// Refusals 8 and 9; kinds above `highest_kind` are unknown.
@@ -539,6 +597,7 @@ fn step_of_fields(kind: u8, a: Number, b: Number, p: u8, q: u16) -> Option<Step>
         10 => Step::Fail(a),
         11 => Step::Damage { from: a, to: b, place: p, pattern: q },
         12 => Step::Lose { from: a, to: b, place: p },
+        13 => Step::Trip(a),
         _ => return None,
     })
 }
@@ -557,7 +616,8 @@ impl Step {
             | Step::Fetch(a)
             | Step::Restored(a)
             | Step::WaitOver(a)
-            | Step::Fail(a) => vec![a],
+            | Step::Fail(a)
+            | Step::Trip(a) => vec![a],
         }
     }
 
@@ -605,6 +665,10 @@ pub enum Crash {
     PlacesMet,
     CutOffByFail,
     CutOffByLinkFault,
+    StoreTripped,
+    TripInRecovery,
+    /// The tripping one is coordinator.
+    CutOffByTrip,
 }
 
 // ---------------------------------------------------------------- looking at a group
@@ -649,16 +713,39 @@ impl Group {
 
     /// Why the group would crash if this cabinet failed now, if it would.
     pub fn crash_by_failing(&self, cabinet: Number) -> Option<Crash> {
-        let mut others = self.working_cabinets();
-        others.remove(&cabinet);
         if self.cabinet(cabinet).store {
             Some(Crash::StoreFailed)
         } else if self.recovery_under_way() {
             Some(Crash::FailInRecovery)
         } else {
-            let cut_off = !connected(&others, &self.sound_links);
-            cut_off.then_some(Crash::CutOffByFail)
+            self.joins_others(cabinet).then_some(Crash::CutOffByFail)
         }
+    }
+
+    /// Why the group would crash if this cabinet tripped now, if it would.
+    pub fn crash_by_tripping(&self, cabinet: Number) -> Option<Crash> {
+        let leads = self.cabinet(cabinet).coordinator == cabinet;
+        if self.trip_is_a_fail(cabinet) {
+            self.crash_by_failing(cabinet)
+        } else if self.cabinet(cabinet).store {
+            Some(Crash::StoreTripped)
+        } else if self.recovery_under_way() {
+            Some(Crash::TripInRecovery)
+        } else {
+            (leads && self.joins_others(cabinet)).then_some(Crash::CutOffByTrip)
+        }
+    }
+
+    /// Whether the next trip of this cabinet is the third with no commit between.
+    pub fn trip_is_a_fail(&self, cabinet: Number) -> bool {
+        self.cabinet(cabinet).trips == TRIPS_BEFORE_A_FAIL
+    }
+
+    /// Whether some other working cabinets are joined only through this one.
+    pub fn joins_others(&self, cabinet: Number) -> bool {
+        let mut others = self.working_cabinets();
+        others.remove(&cabinet);
+        !connected(&others, &self.sound_links)
     }
 
     /// Whether the group would crash if this link were found faulty now.
@@ -707,7 +794,7 @@ impl Group {
             Step::Fetch(a) => self.fetch_refusal(a),
             Step::Restored(a) => self.restored_refusal(a),
             Step::WaitOver(a) => self.wait_over_refusal(a),
-            Step::Fail(_) => None,
+            Step::Fail(_) | Step::Trip(_) => None,
             Step::Damage { from, to, place, pattern } => {
                 self.damage_refusal(from, to, place, pattern)
             }
@@ -756,8 +843,7 @@ impl Group {
 
     fn saved_refusal(&self, a: Number) -> Option<u8> {
         let home = self.cabinet(self.cabinet(a).home);
-        let coordinator = self.cabinet(home.coordinator()).state;
-        let saving = matches!(coordinator, State::Checkpointing | State::Checkpointed);
+        let saving = self.cabinet(home.coordinator()).takes_reports();
         first_refusal(&[(19, !home.reports_owed.contains(&a) || !saving)])
     }
 
@@ -783,20 +869,24 @@ impl Group {
     }
 
     fn wait_over_refusal(&self, a: Number) -> Option<u8> {
-        let waiting =
-            |c: &Cabinet| c.state == State::Error && matches!(c.version, Version::Unknown { .. });
-        let all_waiting = self.cabinets.iter().filter(|c| c.working()).all(waiting);
-        first_refusal(&[(14, !self.lost_its_coordinator(a)), (19, !all_waiting)])
+        first_refusal(&[(14, !self.lost_its_coordinator(a)), (19, !self.all_wait())])
     }
 
-    /// In error because of its coordinator, to which a link in use joined it.
+    /// Whether every working cabinet, a tripped one too, is in error with unknown version.
+    pub fn all_wait(&self) -> bool {
+        let waits = |c: &Cabinet| c.state == State::Error && !c.version.known();
+        self.cabinets.iter().filter(|c| c.working()).all(waits)
+    }
+
+    /// In error because of its coordinator, to which a link in use joined it. No link joins a
+    /// tripped one to itself.
     fn lost_its_coordinator(&self, a: Number) -> bool {
         let cabinet = self.cabinet(a);
         let Some(trouble) = cabinet.trouble else {
             return false;
         };
         cabinet.state == State::Error
-            && trouble.place == Place::Cabinet(trouble.coordinator_before)
+            && trouble.place.cabinet() == Some(trouble.coordinator_before)
             && cabinet.links_in_use.contains(&trouble.coordinator_before)
     }
 
@@ -874,6 +964,7 @@ impl Group {
                 self.damage(from, to, usize::from(place), pattern)?;
             }
             Step::Lose { from, to, place } => self.lose(from, to, usize::from(place))?,
+            Step::Trip(a) => self.trip(a)?,
         }
         Ok(Event::Nothing)
     }
@@ -1083,6 +1174,7 @@ impl Group {
         cabinet.version = Version::Known(1 - cabinet.version.number());
         cabinet.enter_normal();
         self.put_on_all_lines(a, Packet::Resume);
+        self.cabinets.iter_mut().for_each(|cabinet| cabinet.trips = 0);
         self.history.unseen_commit_by = Some(a);
     }
 
@@ -1113,19 +1205,45 @@ impl Group {
             return Err(cause);
         }
         self.cabinet_mut(a).state = State::Failed;
+        self.empty_lines_both_ways(a);
+        self.alarm_neighbours(a, Place::Failed(a));
+        Ok(())
+    }
+
+    fn trip(&mut self, a: Number) -> Result<(), Crash> {
+        if self.trip_is_a_fail(a) {
+            return self.fail(a);
+        }
+        if let Some(cause) = self.crash_by_tripping(a) {
+            return Err(cause);
+        }
+        let cabinet = self.cabinet_mut(a);
+        cabinet.trips += 1;
+        cabinet.image = NO_IMAGE;
+        cabinet.version = Version::Lost;
+        self.empty_lines_both_ways(a);
+        self.enter_error(a, Place::Tripped(a));
+        self.alarm_neighbours(a, Place::Tripped(a));
+        Ok(())
+    }
+
+    fn empty_lines_both_ways(&mut self, a: Number) {
         for other in self.numbers() {
             self.line_mut(a, other).packets.clear();
             self.line_mut(other, a).packets.clear();
         }
+    }
+
+    /// The neighbours enter error for a cabinet that failed or tripped.
+    fn alarm_neighbours(&mut self, a: Number, place: Place) {
         for other in self.working_cabinets() {
             if self.cabinet(other).uses_line_to(a) {
-                self.enter_error(other, Place::Cabinet(a));
+                self.enter_error(other, place);
             }
         }
         if self.history.unseen_commit_by == Some(a) {
             self.history = History { unseen_commit_by: None, passing_over: true };
         }
-        Ok(())
     }
 
     fn find_link_fault(&mut self, from: Number, to: Number) -> Result<(), Crash> {
@@ -1143,9 +1261,12 @@ impl Group {
             self.line_mut(a, other).packets.clear();
         }
         let cabinet = self.cabinet_mut(a);
-        let coordinator_before = cabinet.coordinator();
+        let coordinator_before = cabinet.coordinator;
         cabinet.trouble = Some(Trouble { place, coordinator_before });
         cabinet.strike(a, place);
+        if place.cabinet() == Some(coordinator_before) {
+            cabinet.coordinator = cabinet.next_in_use_after(coordinator_before);
+        }
         cabinet.noted = Noted::default();
         cabinet.reports_owed.clear();
         cabinet.state = State::Error;
@@ -1558,10 +1679,20 @@ mod tests {
     }
 
     #[test]
+    fn the_lowest_number_in_use_comes_after_the_highest() {
+        let mut cabinet = group(&[1; 5]).cabinet(4).clone();
+        cabinet.cabinets_in_use = BTreeSet::from([2, 4]);
+        assert_eq!(
+            [1, 2, 3, 4, 5].map(|number| cabinet.next_in_use_after(number)),
+            [2, 4, 4, 2, 2]
+        );
+    }
+
+    #[test]
     fn malformed_records_are_refused_in_order() {
         let mut group = group(&[100, 50]);
         assert_eq!(group.step(&[4, 1, 2], KINDS).answer, 8);
-        assert_eq!(group.step(&[13, 0, 0, 0, 0, 0], KINDS).answer, 8);
+        assert_eq!(group.step(&[14, 0, 0, 0, 0, 0], KINDS).answer, 8);
         for (kind, low) in [(11, 1), (12, 0)] {
             let hurt = [kind, 1, 2, 0, 0, low];
             assert_eq!(group.step(&hurt, kind - 1).answer, 8);

@@ -1,10 +1,14 @@
 //! Cases of document 01, whose cabinets have one outlet, as cases of card 2: a second outlet
 //! with nothing booked stands in each entry of the file and in each line of a cabinet, and no
-//! note is taken where its booking is now. And which cases of before card 3 still stand. All by
-//! rule; the model is not asked.
+//! note is taken where its booking is now. And which cases of earlier cards still stand, now that
+//! there are more kinds of step. All by rule; the model is not asked.
 
 use crate::cases::{Case, Record};
 use crate::form::Form;
+use crate::model::KINDS;
+
+/// The highest kind of step of document 01 by itself.
+const KINDS_OF_01: u8 = 11;
 
 const HEADER_LENGTH: usize = 10;
 const ENTRY_OF_ONE_OUTLET: usize = 4;
@@ -19,22 +23,23 @@ pub enum LeftOut {
     RightByNewOffsets,
     /// A send whose p was an unused field that is not 0.
     SendNamesOutlets,
-    /// A record of kind 12, which answered 8 and now never does.
-    RecordOfKind12,
+    /// A record of a kind that was unknown then: it answered 8 and now never does.
+    RecordOfNewKind,
 }
 
-/// Whether a case from before card 3 stands as it is.
-pub fn without_kind_12(form: Form, case: &Case, text: &str) -> Result<(), LeftOut> {
+/// Whether a case from when kinds above `highest_then` were unknown stands as it is.
+pub fn stands(form: Form, case: &Case, text: &str, highest_then: u8) -> Result<(), LeftOut> {
     let refused = text.starts_with("load ");
-    if !refused && has_kind_12(&form.steps(case)) {
-        return Err(LeftOut::RecordOfKind12);
+    if !refused && has_new_kind(&form.steps(case), highest_then) {
+        return Err(LeftOut::RecordOfNewKind);
     }
     Ok(())
 }
 
 /// A record that is too short is no step.
-fn has_kind_12(steps: &[Option<Record>]) -> bool {
-    steps.iter().flatten().any(|record| record[0] == 12)
+fn has_new_kind(steps: &[Option<Record>], highest_then: u8) -> bool {
+    let mut kinds = steps.iter().flatten().map(|record| record[0]);
+    kinds.any(|kind| highest_then < kind && kind <= KINDS)
 }
 
 /// The case and its text with two outlets. The text is made of the old one alone. No step of a
@@ -50,8 +55,8 @@ pub fn with_two_outlets(form: Form, case: &Case, text: &str) -> Result<(Case, St
             if steps.iter().flatten().any(|&[kind, _, _, p, ..]| kind == 1 && p != 0) {
                 return Err(LeftOut::SendNamesOutlets);
             }
-            if has_kind_12(&steps) {
-                return Err(LeftOut::RecordOfKind12);
+            if has_new_kind(&steps, KINDS_OF_01) {
+                return Err(LeftOut::RecordOfNewKind);
             }
             Ok((with_file(widened_file(&case.group)), widened_text(&steps, text)))
         }
@@ -224,22 +229,36 @@ mod tests {
         assert_eq!(left_out([4, 1, 2, 1, 0, 0]), None);
     }
 
+    const NEW_KIND: Result<(), LeftOut> = Err(LeftOut::RecordOfNewKind);
+
+    fn stands_since(highest_then: u8, form: Form, steps: &[u8], text: &str) -> Result<(), LeftOut> {
+        let case = Case { group: GROUP.to_vec(), steps: steps.to_vec() };
+        stands(form, &case, text, highest_then)
+    }
+
     #[test]
-    fn a_case_with_a_record_of_kind_12_is_left_out() {
-        let kind_12 = Err(LeftOut::RecordOfKind12);
-        let records = [[4, 1, 2, 0, 0, 0], [12, 9, 0, 0, 0, 1]];
-        assert_eq!(converted(&records, "step 1 18\nstep 2 8\n").map(|_| ()), kind_12);
-        let stands = |form: Form, steps: &[u8], text: &str| {
-            let case = Case { group: GROUP.to_vec(), steps: steps.to_vec() };
-            without_kind_12(form, &case, text)
-        };
-        assert_eq!(stands(Form::Steps, &records.concat(), "step 1 18\nstep 2 8\n"), kind_12);
-        assert_eq!(stands(Form::Steps, &records.concat(), "load 4\n"), Ok(()));
-        assert_eq!(stands(Form::Steps, &[12, 1, 2, 0, 0], "step 1 8\n"), Ok(()));
+    fn a_case_with_a_record_of_a_new_kind_is_left_out() {
+        for kind in 12..=KINDS {
+            let records = [[4, 1, 2, 0, 0, 0], [kind, 9, 0, 0, 0, 1]];
+            let text = "step 1 18\nstep 2 8\n";
+            assert_eq!(converted(&records, text).map(|_| ()), NEW_KIND);
+            let steps = records.concat();
+            assert_eq!(stands_since(kind - 1, Form::Steps, &steps, text), NEW_KIND);
+            assert_eq!(stands_since(kind, Form::Steps, &steps, text), Ok(()));
+            assert_eq!(stands_since(kind - 1, Form::Steps, &steps, "load 4\n"), Ok(()));
+            assert_eq!(stands_since(kind - 1, Form::Steps, &steps[6..11], "step 1 8\n"), Ok(()));
+        }
+        let unknown = [KINDS + 1, 1, 0, 0, 0, 0];
+        assert_eq!(stands_since(11, Form::Steps, &unknown, "step 1 8\n"), Ok(()));
+    }
+
+    #[test]
+    fn a_plan_with_a_step_of_a_new_kind_is_left_out() {
         let plan = |first: u8, last: u8| [first, 12, 1, 2, 0, 0, 0, 0, last];
-        assert_eq!(stands(Form::Plan, &plan(0, 0), "step 1 8\n"), kind_12);
+        let stands = |first, last| stands_since(11, Form::Plan, &plan(first, last), "step 1 8\n");
+        assert_eq!(stands(0, 0), NEW_KIND);
         for (first, last) in [(0, 1), (1, 0), (2, 0), (3, 0)] {
-            assert_eq!(stands(Form::Plan, &plan(first, last), "step 1 8\n"), Ok(()));
+            assert_eq!(stands(first, last), Ok(()));
         }
     }
 }

@@ -7,11 +7,12 @@ use reference::evening::Sight;
 use reference::form::Form;
 use reference::listing::Tally;
 use reference::losses::{Finding, Refused};
-use reference::model::KINDS;
+use reference::model::{Crash, KINDS};
+use reference::trips::Between;
 
 const WISHES: Wishes = Wishes { damage: true, highest_kind: KINDS, cabinets: None };
-const MADE: Row = Row { form: Form::Steps, seed: 187, cases: 200, wishes: WISHES };
-const PLANNED: Row = Row { form: Form::Plan, seed: 575, cases: 100, wishes: WISHES };
+const MADE: Row = Row { form: Form::Steps, seed: 416, cases: 200, wishes: WISHES };
+const PLANNED: Row = Row { form: Form::Plan, seed: 1236, cases: 100, wishes: WISHES };
 
 const GROUP_MOST: usize = 4_096;
 const RECORDS_MOST: usize = 90_180;
@@ -46,9 +47,17 @@ fn counted(row: Row) -> Tally {
 
 /// The names of the counts at which nothing is counted.
 fn not_reached(tally: &Tally) -> Vec<&'static str> {
-    let (outlets, losses) = (&tally.outlets, &tally.losses);
+    let (outlets, losses, trips) = (&tally.outlets, &tally.losses, &tally.trips);
     let answers = [0, 8, 9, 10, 11, 12, 13, 14, 15, 16, 17, 18, 19, 20, 50];
     let findings = [Finding::Crc, Finding::CountAlone];
+    let trip_crashes = [
+        Crash::FailInRecovery,
+        Crash::CutOffByFail,
+        Crash::StoreTripped,
+        Crash::TripInRecovery,
+        Crash::CutOffByTrip,
+    ];
+    let between = [Between::Commit, Between::CommitPassedOver];
     let reached = [
         ("loads refused", tally.loads_refused.keys().eq(&[1, 2, 3, 4, 5, 6, 7])),
         ("answers", tally.answers.keys().eq(&answers)),
@@ -57,7 +66,7 @@ fn not_reached(tally: &Tally) -> Vec<&'static str> {
         ("recoveries", tally.recoveries_ended > 0),
         ("saves passed over", tally.saves_passed_over > 0),
         ("link faults", tally.link_faults > 0),
-        ("crashes", tally.crashes.len() == 7),
+        ("crashes", tally.crashes.len() == 10),
         ("sends by outlets", outlets.sends_taken.len() == 4),
         ("packets by outlet", outlets.packets_taken.len() == 2),
         ("sends refused for p", outlets.sends_refused_for_p > 0),
@@ -73,6 +82,25 @@ fn not_reached(tally: &Tally) -> Vec<&'static str> {
         ("crashes by a loss", losses.crashes > 0),
         ("recoveries after a loss", losses.recoveries_ended > 0),
         ("commits after that", losses.commits_after_recovery > 0),
+        ("trips", trips.taken > 0 && trips.taken_in.len() == 4),
+        ("trips of coordinators", trips.of_coordinators > 0),
+        ("trips of others that join some", trips.of_joining_cabinets > 0),
+        ("trips after two", trips.after_two.keys().eq(&between)),
+        ("third trips", trips.taken_as_fails > 0 && trips.fails_of_coordinators > 0),
+        ("trips refused", trips.refused.keys().eq(&[9, 10, 11, 12])),
+        ("crashes by trips", trips.crashes.keys().eq(&trip_crashes)),
+        ("recoveries after a trip", trips.recoveries_ended > 0),
+        ("passed over by a trip", trips.saves_passed_over > 0),
+        ("begins by a moved lead", trips.begins_by_moved_lead > 0),
+        ("commits by a moved lead", trips.commits_by_moved_lead > 0),
+        ("fails of a moved lead", trips.fails_of_moved_lead > 0),
+        ("wait over after a trip", trips.waits_over > 0),
+        ("wait over refused", trips.waits_refused > 0 && trips.waits_refused_alone > 0),
+        ("wait over refused beside", trips.waits_refused_for_others > 0),
+        ("link faults after a trip", trips.link_faults > 0),
+        ("places met after a trip", trips.places_met > 0),
+        ("commits after a trip", trips.commits > 0),
+        ("reports after a trip", trips.reports > 0 && trips.reports_before_its > 0),
         ("points", tally.point_answers.keys().eq(&[0, 10, 22, 23])),
         ("returns", tally.return_answers.keys().eq(&[0, 10, 21, 22])),
         ("sights", tally.sights.keys().eq(&Sight::ALL)),

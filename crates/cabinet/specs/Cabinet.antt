@@ -1,4 +1,4 @@
--- One cabinet: what its table says, and each change that a rule of document 01 makes to it alone.
+-- One cabinet: what its table says, and each change that a rule of the documents makes to it alone.
 use Prim.Native.Nat.{ℕ, _+_}
 use mathlib.Core.Bool.{Bool, true, false, cond}
 use lib.ListN.{set}
@@ -10,12 +10,12 @@ use Rattle.packet.specs.declared.Place.{Place}
 use Rattle.registers.specs.declared.Registers.{Registers}
 use Rattle.registers.specs.Registers.{startRegisters, runOverSent, runOverTaken, markHurt, restartSent, restartTaken}
 use Rattle.table.specs.declared.Table.{Table}
-use Rattle.table.specs.Table.{struckAt, inUse as tableInUse, coordinator as tableCoordinator}
+use Rattle.table.specs.Table.{isAt, faultedAt, inUse as tableInUse, coordinator as tableCoordinator}
 use Rattle.image.specs.Image.{blankImage, charged, credited}
 use Rattle.state.specs.declared.State.{State}
 use Rattle.state.specs.declared.State.the-variants.{Failed, Normal, CheckpBegin, Checkpointing, Checkpointed, Error, Recovering, Recovered, Crashed}
 use Rattle.state.specs.declared.Version.{Version}
-use Rattle.state.specs.declared.Version.the-variants.{Known}
+use Rattle.state.specs.declared.Version.the-variants.{Known, Lost}
 use Rattle.cabinet.specs.declared.Alarm.{Alarm}
 use Rattle.cabinet.specs.declared.Alarm.the-variants.{Quiet, Fault}
 use Rattle.cabinet.specs.declared.Phase.{Phase}
@@ -55,30 +55,30 @@ abbrev pub withAlarm : Cabinet → Alarm → Cabinet
 withAlarm c a = withPhase c (record { state = c .phase .state; version = c .phase .version; alarm = a })
 
 abbrev pub withCome : Cabinet → Marks → Cabinet
-withCome c m = withNoted c (record { come = m; pieces = c .noted .pieces; saved = c .noted .saved; restored = c .noted .restored; heard = c .noted .heard })
+withCome c m = withNoted c (record { come = m; pieces = c .noted .pieces; saved = c .noted .saved; restored = c .noted .restored; heard = c .noted .heard; former = c .noted .former })
 
 abbrev pub withPieces : Cabinet → ℕ → Cabinet
-withPieces c k = withNoted c (record { come = c .noted .come; pieces = k; saved = c .noted .saved; restored = c .noted .restored; heard = c .noted .heard })
+withPieces c k = withNoted c (record { come = c .noted .come; pieces = k; saved = c .noted .saved; restored = c .noted .restored; heard = c .noted .heard; former = c .noted .former })
 
 abbrev pub withSaved : Cabinet → Marks → Cabinet
-withSaved c m = withNoted c (record { come = c .noted .come; pieces = c .noted .pieces; saved = m; restored = c .noted .restored; heard = c .noted .heard })
+withSaved c m = withNoted c (record { come = c .noted .come; pieces = c .noted .pieces; saved = m; restored = c .noted .restored; heard = c .noted .heard; former = c .noted .former })
 
 abbrev pub withRestored : Cabinet → Marks → Cabinet
-withRestored c m = withNoted c (record { come = c .noted .come; pieces = c .noted .pieces; saved = c .noted .saved; restored = m; heard = c .noted .heard })
+withRestored c m = withNoted c (record { come = c .noted .come; pieces = c .noted .pieces; saved = c .noted .saved; restored = m; heard = c .noted .heard; former = c .noted .former })
 
 abbrev pub withHeard : Cabinet → Marks → Cabinet
-withHeard c m = withNoted c (record { come = c .noted .come; pieces = c .noted .pieces; saved = c .noted .saved; restored = c .noted .restored; heard = m })
+withHeard c m = withNoted c (record { come = c .noted .come; pieces = c .noted .pieces; saved = c .noted .saved; restored = c .noted .restored; heard = m; former = c .noted .former })
 
 -- ---- starting values
 
 abbrev pub nothingNoted : Noted
-nothingNoted = record { come = noMarks; pieces = 0; saved = noMarks; restored = noMarks; heard = noMarks }
+nothingNoted = record { come = noMarks; pieces = 0; saved = noMarks; restored = noMarks; heard = noMarks; former = false }
 
 -- what stands at the numbers past n: a cabinet that does not work
 abbrev pub absent : Cabinet
 absent = record {
   phase = record { state = Failed; version = Known false; alarm = Quiet };
-  table = record { cabinets = noMarks; links = noMarks };
+  table = record { cabinets = noMarks; links = noMarks; lead = 8 };
   noted = nothingNoted;
   registers = startRegisters;
   image = blankImage;
@@ -144,10 +144,20 @@ resuming c v = withNoted (withPhase c (record { state = Normal; version = v; ala
 
 -- ---- failing and recovering
 
--- "Entering error: strike the place from the table, .. forget what was noted ..; a home forgets the reports it owes"
+-- what is noted on entering error: whether the place is the coordinator as it was before, and nothing else
+abbrev pub faultNoted : Bool → Noted
+faultNoted f = record { come = noMarks; pieces = 0; saved = noMarks; restored = noMarks; heard = noMarks; former = f }
+
+-- "Entering error: strike the place from the table, .. forget what was noted ..; a home forgets the reports it owes"; the lead moves on
+-- where the place is the coordinator, which is noted
 abbrev pub alarmed : Cabinet → ℕ → Place → Cabinet
 alarmed c i p =
-    withOwed (withNoted (withTable (withAlarm (withState c Error) (Fault p)) (struckAt i p (c .table))) nothingNoted) noMarks
+    withOwed
+    (withNoted (withTable (withAlarm (withState c Error) (Fault p)) (faultedAt i p (c .table))) (faultNoted (isAt p (coordinator c)))) noMarks
+
+-- a trip "turns cabinet a's image to zeros and its version to unknown", with no old one
+abbrev pub blanked : Cabinet → Cabinet
+blanked c = withImage (withVersion c Lost) blankImage
 
 -- the fault packet of neighbour j has come
 abbrev pub hearing : Cabinet → ℕ → Cabinet

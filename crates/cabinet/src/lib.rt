@@ -13,7 +13,7 @@ ghost use mathlib.Core.Bool.{cond};
 ghost use Rattle.marks.specs.Marks.{covers};
 ghost use Rattle.cabinet.specs.Alarm.{isFor};
 ghost use Rattle.state.specs.State.{doubted};
-ghost use Rattle.cabinet.specs.Cabinet.{withPhase, withTable, withNoted, withRegisters, withImage, withOwed, withState, withVersion, withPieces, nothingNoted, absent, inUse, coordinator, sending, taking, hurtFrom, beginning, comparing, cutting, wrote, owing, savedFor, resuming, alarmed, hearing, recovering, fetched, restoredFor, crashing};
+ghost use Rattle.cabinet.specs.Cabinet.{withPhase, withTable, withNoted, withRegisters, withImage, withOwed, withState, withVersion, withPieces, nothingNoted, absent, inUse, coordinator, sending, taking, hurtFrom, beginning, comparing, cutting, wrote, owing, savedFor, resuming, faultNoted, alarmed, blanked, hearing, recovering, fetched, restoredFor, crashing};
 
 // The fault that a cabinet entered error for.
 pub enum Alarm {
@@ -27,13 +27,14 @@ pub struct Phase {
     pub alarm: Alarm,
 }
 
-// What is noted of one save or recovery.
+// What is noted of one save or recovery; `former`: the fault is the coordinator as it was before.
 pub struct Noted {
     pub come: [bool; 8],
     pub pieces: u8,
     pub saved: [bool; 8],
     pub restored: [bool; 8],
     pub heard: [bool; 8],
+    pub former: bool,
 }
 
 pub struct Cabinet {
@@ -78,7 +79,17 @@ pub fn nothing_noted() -> Noted
         saved: [false; 8],
         restored: [false; 8],
         heard: [false; 8],
+        former: false,
     }
+}
+
+// What is noted on entering error: whether the place is the coordinator as it was before, and nothing else.
+fn fault_noted(former: bool) -> Noted
+    ensures { λ r. ⌜ r ≡ faultNoted former ⌝ }
+{
+    let mut noted = nothing_noted();
+    noted.former = former;
+    noted
 }
 
 impl Cabinet {
@@ -95,6 +106,7 @@ impl Cabinet {
             table: Table {
                 cabinets: [false; 8],
                 links: [false; 8],
+                lead: 8,
             },
             noted: nothing_noted(),
             registers: registers::start_registers(),
@@ -201,7 +213,7 @@ impl Cabinet {
         table.in_use()
     }
 
-    // The lowest-numbered cabinet in use, 8 where none is.
+    // The cabinet that its table names as coordinator.
     pub fn coordinator(self) -> u8
         ensures { λ r. ⌜ r ≡ coordinator self ⌝ }
     {
@@ -341,7 +353,7 @@ impl Cabinet {
 
     // ---- failing and recovering
 
-    // Cabinet i enters error for a place: struck from the table, and all that was noted or owed is forgotten.
+    // Cabinet i enters error for a place: struck from the table, whose lead may move on, and all that was noted or owed is forgotten.
     pub fn alarmed(self, i: u8, place: Place) -> Cabinet
         ensures { λ r. ⌜ r ≡ alarmed self i place ⌝ }
     {
@@ -353,10 +365,18 @@ impl Cabinet {
             alarm: Alarm::Fault(place),
         };
         let table = self.table;
-        let table = table::struck_at(i, place, table);
+        let noted = fault_noted(table::is_at(place, table.lead));
+        let table = table::faulted_at(i, place, table);
         let c = self.with_phase(phase).with_table(table);
         let forgetful = c.with_owed([false; 8]);
-        forgetful.with_noted(nothing_noted())
+        forgetful.with_noted(noted)
+    }
+
+    // A trip leaves an image of zeros and an unknown version, with no old one.
+    pub fn blanked(self) -> Cabinet
+        ensures { λ r. ⌜ r ≡ blanked self ⌝ }
+    {
+        self.with_version(Version::Lost).with_image(Image::blank())
     }
 
     // The fault packet of neighbour j has come.

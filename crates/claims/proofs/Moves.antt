@@ -35,12 +35,16 @@ pub mod LinkFault
 pub mod Hurting
 pub mod Damaging
 pub mod Losing
--- failing
+-- failing and tripping
 pub mod Undoing
+pub mod Emptying
 pub mod Failing
 pub mod Alarming
 pub mod FailPlaces
+pub mod Unopened
 pub mod FailStep
+pub mod Tripping
+pub mod TripStep
 pub mod WaitingOver
 -- recovering
 pub mod Fetching

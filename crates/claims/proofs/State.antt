@@ -1,6 +1,7 @@
 -- A group seen as functions of cabinet numbers, each change of it in that view, and what every step keeps.
 -- functions and sums
 pub mod Fun
+pub mod Leading
 -- what every step keeps
 pub mod Every
 pub mod Counting

@@ -16,6 +16,8 @@ use Rattle.line.specs.Line.{packetAt}
 use Rattle.state.specs.declared.State.the-variants.{Normal, CheckpBegin, Checkpointing, Checkpointed, Error, Recovering}
 use Rattle.cabinet.specs.declared.Alarm.{Alarm}
 use Rattle.cabinet.specs.declared.Alarm.the-variants.{Quiet, Fault as At}
+use Rattle.cabinet.specs.Alarm.{isFor}
+use Rattle.packet.specs.declared.Place.the-variants.{Tripped as AtTripped}
 use Rattle.cabinet.specs.declared.Cabinet.{Cabinet}
 use Rattle.state.specs.State.{isIn, works, inRecovery, bitOf}
 use Rattle.cabinet.specs.Cabinet.{inUse}
@@ -23,7 +25,7 @@ use Rattle.group.specs.declared.Group.{Group}
 use Rattle.group.specs.Group.{cabinet, line}
 use Rattle.load.specs.Load.{load}
 use Rattle.protocol.specs.declared.Step.{Step}
-use Rattle.protocol.specs.declared.Step.the-variants.{Send, Note, Begin, Deliver, Write, Saved, Fetch, Restored, WaitOver, Fail, Damage, Lose}
+use Rattle.protocol.specs.declared.Step.the-variants.{Send, Note, Begin, Deliver, Write, Saved, Fetch, Restored, WaitOver, Fail, Damage, Lose, Trip}
 use Rattle.protocol.specs.declared.Decoded.the-variants.{Taken}
 use Rattle.protocol.specs.Receive.{serving}
 use Rattle.protocol.specs.Kinds.{carried}
@@ -53,6 +55,7 @@ handled (WaitOver x) a b l = l
 handled (Fail x) a b l = l
 handled (Damage x y p q) a b l = cond (isLine x y a b) (set l p (damaged (getD l p Empty) q)) l
 handled (Lose x y p) a b l = cond (isLine x y a b) (take p l ++ drop (suc p) l) l
+handled (Trip x) a b l = l
 
 -- ---- what a cabinet does, told by its state before the step and after it
 
@@ -74,6 +77,10 @@ goesOn c c′ = isIn (c .phase .state) Error && isIn (c′ .phase .state) Recove
 
 abbrev pub fails : Cabinet → Cabinet → Bool
 fails c c′ = works (c .phase .state) && not (works (c′ .phase .state))
+
+-- cabinet b "itself enters error" for its own trip
+abbrev pub trips : Cabinet → Cabinet → ℕ → Bool
+trips c c′ b = entersError c c′ && isFor (c′ .phase .alarm) (AtTripped b)
 
 -- ---- what it puts on a line in use
 
@@ -99,6 +106,7 @@ cameFrom (WaitOver x) a b = false
 cameFrom (Fail x) a b = false
 cameFrom (Damage x y p q) a b = false
 cameFrom (Lose x y p) a b = false
+cameFrom (Trip x) a b = false
 
 -- cabinet a, c before the step and c′ after it, on its line to b
 abbrev pub putBy : Cabinet → Cabinet → Step → ℕ → ℕ → List Packet
@@ -110,10 +118,11 @@ putBy c c′ s a b =
 
 -- ---- the line
 
--- "empty every outgoing line, a struck one too"; "A failing cabinet's lines are emptied both ways"
+-- "empty every outgoing line, a struck one too"; "A failing cabinet's lines are emptied both ways", and those of one that trips
 abbrev pub emptied : Group → Group → ℕ → ℕ → Bool
 emptied g g′ a b =
-    entersError (cabinet g a) (cabinet g′ a) || (fails (cabinet g a) (cabinet g′ a) || fails (cabinet g b) (cabinet g′ b))
+    entersError (cabinet g a) (cabinet g′ a)
+    || (fails (cabinet g a) (cabinet g′ a) || (fails (cabinet g b) (cabinet g′ b) || trips (cabinet g b) (cabinet g′ b) b))
 
 abbrev pub lineAfter : Group → Group → Step → ℕ → ℕ → List Packet
 lineAfter g g′ s a b =

@@ -10,7 +10,7 @@ use Rattle.marks.specs.Marks.{marked}
 use Rattle.packet.specs.declared.Packet.the-variants.{Resume}
 use Rattle.line.specs.Line.{oldest, packetAt}
 use Rattle.state.specs.declared.State.the-variants.{Checkpointing, Checkpointed}
-use Rattle.state.specs.declared.Version.the-variants.{Known}
+use Rattle.state.specs.declared.Version.the-variants.{Known, Unknown}
 use Rattle.image.specs.declared.Image.{Image}
 use Rattle.state.specs.State.{works, isUnknown, bitOf}
 use Rattle.cabinet.specs.Cabinet.{inUse, coordinator}
@@ -19,7 +19,7 @@ use Rattle.group.specs.Group.{cabinet, stateOf, line, slot, sum}
 use Rattle.load.specs.Load.{load, cabinetCount, feederTotal}
 use Rattle.protocol.specs.declared.Step.the-variants.{Saved}
 use Rattle.protocol.specs.declared.Decoded.the-variants.{Taken}
-use Rattle.protocol.specs.Kinds.{writeRefusal, fetchRefusal}
+use Rattle.protocol.specs.Kinds.{writeRefusal, fetchRefusal, waitOverRefusal}
 use Rattle.protocol.specs.Entry.{decode, step}
 use Rattle.protocol.specs.History.{Cut, Save, History, Operation, stepping, advance, commits, latest, imageNow}
 use Rattle.protocol.specs.Restored.{Octets, AllOctets, worldAfter, Balanced, amperes}
@@ -91,6 +91,12 @@ abbrev pub KnownWhereUsed : Type 0
 KnownWhereUsed =
     Running (λ g h. (a : ℕ) → (writeRefusal g a ≡ 0 → isUnknown (cabinet g a .phase .version) ≡ false)
     × (fetchRefusal g a ≡ 0 → isUnknown (cabinet g (cabinet g a .home) .phase .version) ≡ false))
+
+-- where wait over is taken the version has an old one, and that names the newest save: no lost version is gone on with
+abbrev pub WaitedByOld : Type 0
+WaitedByOld =
+    Running (λ g h. (a : ℕ) → waitOverRefusal g a ≡ 0
+    → (v : Bool) × (cabinet g a .phase .version ≡ Unknown v) × ((c : ℕ) → works (stateOf g c) ≡ true → OfNewest g h c v))
 
 -- so a piece that is fetched is one of the newest save's image
 abbrev pub FetchedOfNewest : Type 0

@@ -3,7 +3,7 @@
 use Prim.Native.Nat.{ℕ, zero, suc, _+_}
 use mathlib.Core.Bool.{Bool, cond, not, _&&_}
 use mathlib.Core.List.{List, [], _∷_}
-use lib.ListN.{getD, set}
+use lib.ListN.{getD, set, replicate}
 use lib.Dec.{ltb}
 use Rattle.marks.specs.Marks.{Marks, lowest, covers, noMarks}
 use Rattle.marks.specs.Reach.{Rows}
@@ -25,16 +25,19 @@ use Rattle.outgoing.specs.Lines.{emptyLines, lineTo, withLineTo, laden}
 -- ---- the components, each replaced by one function
 
 abbrev pub withCabinets : Group → List Cabinet → Group
-withCabinets g cs = record { n = g .n; cabinets = cs; links = g .links; sound = g .sound; outgoing = g .outgoing; store = g .store }
+withCabinets g cs = record { n = g .n; cabinets = cs; links = g .links; sound = g .sound; outgoing = g .outgoing; store = g .store; trips = g .trips }
 
 abbrev pub withSoundRows : Group → List Row → Group
-withSoundRows g rs = record { n = g .n; cabinets = g .cabinets; links = g .links; sound = rs; outgoing = g .outgoing; store = g .store }
+withSoundRows g rs = record { n = g .n; cabinets = g .cabinets; links = g .links; sound = rs; outgoing = g .outgoing; store = g .store; trips = g .trips }
 
 abbrev pub withLines : Group → List Outgoing → Group
-withLines g os = record { n = g .n; cabinets = g .cabinets; links = g .links; sound = g .sound; outgoing = os; store = g .store }
+withLines g os = record { n = g .n; cabinets = g .cabinets; links = g .links; sound = g .sound; outgoing = os; store = g .store; trips = g .trips }
 
 abbrev pub withStore : Group → List Slots → Group
-withStore g ss = record { n = g .n; cabinets = g .cabinets; links = g .links; sound = g .sound; outgoing = g .outgoing; store = ss }
+withStore g ss = record { n = g .n; cabinets = g .cabinets; links = g .links; sound = g .sound; outgoing = g .outgoing; store = ss; trips = g .trips }
+
+abbrev pub withTrips : Group → List ℕ → Group
+withTrips g ts = record { n = g .n; cabinets = g .cabinets; links = g .links; sound = g .sound; outgoing = g .outgoing; store = g .store; trips = ts }
 
 -- ---- cabinets
 
@@ -83,6 +86,20 @@ unfoldable pub withSlot : Group → ℕ → Bool → Image → Group
 withSlot g i v m =
     withSlots g i
     (cond v (withOne (getD (g .store) i blankSlots) m) (withZero (getD (g .store) i blankSlots) m))
+
+-- ---- how often each cabinet has tripped since the last commit
+
+unfoldable pub tripsOf : Group → ℕ → ℕ
+tripsOf g i = getD (g .trips) i 0
+
+unfoldable pub withTripsOf : Group → ℕ → ℕ → Group
+withTripsOf g i k = withTrips g (set (g .trips) i k)
+
+abbrev pub noTrips : List ℕ
+noTrips = replicate 8 0
+
+unfoldable pub forgetTrips : Group → Group
+forgetTrips g = withTrips g noTrips
 
 -- ---- links: "one row of eight marks for each cabinet"
 

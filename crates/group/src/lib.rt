@@ -10,7 +10,7 @@ ghost use mathlib.Core.Bool.{cond};
 ghost use Prim.Native.Nat.{_<_};
 ghost use lib.ListN.{getD};
 ghost use Rattle.outgoing.specs.Lines.{emptyLines};
-ghost use Rattle.group.specs.Group.{cabinet, withCabinet, stateOf, outgoing, withOutgoing, line, withLine, blankSlots, slot, withSlots, withSlot, noRow, rowsOf, rowAt, ofRows, withSound, answering, taken};
+ghost use Rattle.group.specs.Group.{cabinet, withCabinet, stateOf, outgoing, withOutgoing, line, withLine, blankSlots, slot, withSlots, withSlot, noRow, rowsOf, rowAt, ofRows, withSound, tripsOf, withTripsOf, forgetTrips, answering, taken};
 
 // One row of eight marks for a cabinet: its links.
 pub struct Row {
@@ -23,7 +23,7 @@ pub struct Slots {
     pub one: Image,
 }
 
-// links: the file's; sound: those of them not found faulty.
+// links: the file's; sound: those of them not found faulty; trips: how often each cabinet tripped since the last commit.
 pub struct Group {
     pub n: u8,
     pub cabinets: [Cabinet; 8],
@@ -31,6 +31,7 @@ pub struct Group {
     pub sound: [Row; 8],
     pub outgoing: [Outgoing; 8],
     pub store: [Slots; 8],
+    pub trips: [u8; 8],
 }
 
 // An answer with the group, lines and store after it.
@@ -251,5 +252,32 @@ impl Group {
         ensures { λ r. ⌜ r ≡ withSlot self i v m ⌝ }
     {
         self.with_slots(i, self.slots(i).with_image(v, m))
+    }
+
+    // How often cabinet i has tripped since the last commit.
+    pub fn trips_of(self, i: u8) -> u8
+        ensures { λ r. ⌜ r ≡ tripsOf self i ⌝ }
+    {
+        let k = i as usize;
+        if k < 8 { self.trips[k] } else { 0 }
+    }
+
+    pub fn with_trips_of(self, i: u8, count: u8) -> Group
+        ensures { λ r. ⌜ r ≡ withTripsOf self i count ⌝ }
+    {
+        let k = i as usize;
+        let mut g = self;
+        if k < 8 {
+            g.trips[k] = count;
+        }
+        g
+    }
+
+    pub fn forget_trips(self) -> Group
+        ensures { λ r. ⌜ r ≡ forgetTrips self ⌝ }
+    {
+        let mut g = self;
+        g.trips = [0; 8];
+        g
     }
 }

@@ -259,6 +259,7 @@ module _ (f : List ℕ) (rows : Rows) where
       starting = λ i h. here (ok .most) i h ∙ ap (λ (r : Rows). startingCabinet f r i) file;
       phase = λ i h. ap (λ (c : Cabinet). c .phase) (here (ok .most) i h);
       in-table = λ i h. ap (λ (c : Cabinet). c .table .cabinets) (here (ok .most) i h);
+      leading = λ i h. ap (λ (c : Cabinet). c .table .lead) (here (ok .most) i h);
       own-links = λ i h. ap (λ (c : Cabinet). c .table .links) (here (ok .most) i h) ∙ ap (λ (r : Rows). getD r i noMarks) (sym (rows-back (fair .size)));
       noted = λ i h. ap (λ (c : Cabinet). c .noted) (here (ok .most) i h);
       registers = λ i h. ap (λ (c : Cabinet). c .registers) (here (ok .most) i h);

@@ -21,7 +21,7 @@ use Rattle.image.specs.Image.{blankImage, withBooking}
 use Rattle.registers.specs.Registers.{startRegisters}
 use Rattle.cabinet.specs.Cabinet.{nothingNoted, absent}
 use Rattle.outgoing.specs.Lines.{emptyLines}
-use Rattle.group.specs.Group.{noRow, blankSlots, ofRows, sum, answering}
+use Rattle.group.specs.Group.{noRow, blankSlots, noTrips, ofRows, sum, answering}
 
 -- ---- the fields
 
@@ -144,11 +144,11 @@ loadRefusal f =
 abbrev pub imageOf : List ℕ → ℕ → Image
 imageOf f i = withBooking (withBooking blankImage A (bookingOf A f i)) B (bookingOf B f i)
 
--- "At the start every version variable is 0 .. and every cabinet is in normal."
+-- "At the start every version variable is 0 .. and every cabinet is in normal."; a table names "its coordinator, at first the lowest"
 abbrev pub startingCabinet : List ℕ → Rows → ℕ → Cabinet
 startingCabinet f rows i = record {
   phase = record { state = Normal; version = Known false; alarm = Quiet };
-  table = record { cabinets = present f; links = getD rows i noMarks };
+  table = record { cabinets = present f; links = getD rows i noMarks; lead = 0 };
   noted = nothingNoted;
   registers = startRegisters;
   image = imageOf f i;
@@ -180,6 +180,7 @@ groupOf f rows = record {
   sound = ofRows rows;
   outgoing = replicate 8 emptyLines;
   store = storeOf f;
+  trips = noTrips;
 }
 
 -- a refused file leaves no group
@@ -191,6 +192,7 @@ noGroup = record {
   sound = replicate 8 noRow;
   outgoing = replicate 8 emptyLines;
   store = replicate 8 blankSlots;
+  trips = noTrips;
 }
 
 abbrev pub loadWith : List ℕ → ℕ → Outcome

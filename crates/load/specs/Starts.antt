@@ -39,6 +39,7 @@ pub record Starts (f : List ℕ) (g : Group) : Type 0 where
   pub starting : (i : ℕ) → i < g .n → cabinet g i ≡ startingCabinet f (rowsIn f) i
   pub phase : (i : ℕ) → i < g .n → cabinet g i .phase ≡ record { state = Normal; version = Known false; alarm = Quiet }
   pub in-table : (i : ℕ) → i < g .n → cabinet g i .table .cabinets ≡ present f
+  pub leading : (i : ℕ) → i < g .n → cabinet g i .table .lead ≡ 0
   pub own-links : (i : ℕ) → i < g .n → cabinet g i .table .links ≡ getD (rowsOf (g .links)) i noMarks
   pub noted : (i : ℕ) → i < g .n → cabinet g i .noted ≡ nothingNoted
   pub registers : (i : ℕ) → i < g .n → cabinet g i .registers ≡ startRegisters

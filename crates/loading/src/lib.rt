@@ -52,6 +52,7 @@ fn starting_cabinet(file: &[u8], rows: [[bool; 8]; 8], i: usize) -> Cabinet
         table: Table {
             cabinets: load::present(file),
             links: row_of(rows, i),
+            lead: 0,
         },
         noted: cabinet::nothing_noted(),
         registers: registers::start_registers(),
@@ -132,6 +133,7 @@ fn group_of(file: &[u8], rows: [[bool; 8]; 8]) -> Group
         sound: links,
         outgoing: [Outgoing::empty(); 8],
         store: store_of(file),
+        trips: [0; 8],
     }
 }
 
@@ -147,6 +149,7 @@ fn no_group() -> Group
         sound: [row; 8],
         outgoing: [Outgoing::empty(); 8],
         store: [Slots::blank(); 8],
+        trips: [0; 8],
     }
 }
 

@@ -1,9 +1,10 @@
--- Eight marks, one for each cabinet: the lowest one marked, those wanted and had, those in both.
--- `lowest`, `covers` and `both` stay shut unless unfolded, so that a caller's goal names them and does not spell them out.
+-- Eight marks, one for each cabinet: the lowest one marked, those wanted and had, those in both, the next one up.
+-- `lowest`, `covers`, `both` and `nextUp` stay shut unless unfolded, so that a caller's goal names them and does not spell them out.
 use Prim.Native.Nat.{ℕ, zero, suc, _+_}
 use mathlib.Core.List.{List, [], _∷_}
 use mathlib.Core.Bool.{Bool, true, false, cond, not, _&&_, _||_}
 use lib.ListN.{getD, replicate}
+use lib.Dec.{ltb}
 
 abbrev pub Marks : Type 0
 Marks = List Bool
@@ -40,3 +41,15 @@ inBoth a b i = marked a i && marked b i
 unfoldable pub both : Marks → Marks → Marks
 both a b =
     inBoth a b 0 ∷ inBoth a b 1 ∷ inBoth a b 2 ∷ inBoth a b 3 ∷ inBoth a b 4 ∷ inBoth a b 5 ∷ inBoth a b 6 ∷ inBoth a b 7 ∷ []
+
+-- the numbers above x
+abbrev pub above : ℕ → Marks
+above x = ltb x 0 ∷ ltb x 1 ∷ ltb x 2 ∷ ltb x 3 ∷ ltb x 4 ∷ ltb x 5 ∷ ltb x 6 ∷ ltb x 7 ∷ []
+
+-- the number i, or where that is none the lowest marked
+abbrev pub orLowest : ℕ → Marks → ℕ
+orLowest i m = cond (ltb i 8) i (lowest m)
+
+-- "the next higher number .., after the highest the lowest": of those marked, the next one after x
+unfoldable pub nextUp : Marks → ℕ → ℕ
+nextUp m x = orLowest (lowest (both m (above x))) m

@@ -3,7 +3,7 @@ ghost use mathlib.Core.Path.{_≡_};
 ghost use mathlib.Core.Bool.{false, _&&_, _||_};
 ghost use Prim.Native.Nat.{ℕ, _<_, _≤_};
 ghost use lib.ListN.{set};
-ghost use Rattle.marks.specs.Marks.{marked, inBoth, lowest, covers, both};
+ghost use Rattle.marks.specs.Marks.{marked, inBoth, lowest, covers, both, above, orLowest, nextUp};
 ghost use Rattle.marks.specs.Reach.{
   mark,
   cleared,
@@ -96,6 +96,27 @@ pub fn both(a: [bool; 8], b: [bool; 8]) -> [bool; 8]
         in_both(a, b, 6),
         in_both(a, b, 7),
     ]
+}
+
+// The numbers above x.
+fn above(x: u8) -> [bool; 8]
+    ensures { λ r. ⌜ r ≡ above x ⌝ }
+{
+    [x < 0, x < 1, x < 2, x < 3, x < 4, x < 5, x < 6, x < 7]
+}
+
+// The number i, or where that is none the lowest marked.
+fn or_lowest(i: u8, marks: [bool; 8]) -> u8
+    ensures { λ r. ⌜ r ≡ orLowest i marks ⌝ }
+{
+    if i < 8 { i } else { lowest(marks) }
+}
+
+// Of those marked the next one up after x, after the highest the lowest.
+pub fn next_up(marks: [bool; 8], x: u8) -> u8
+    ensures { λ r. ⌜ r ≡ nextUp marks x ⌝ }
+{
+    or_lowest(lowest(both(marks, above(x))), marks)
 }
 
 // The row of cabinet a has a mark for b; none is past the eighth.

@@ -56,12 +56,13 @@ fn resume_with(g: Group, i: u8, v: Version) -> Group
     )
 }
 
+// The coordinator commits; no trip before it counts any more.
 pub fn commit(g: Group, k: u8) -> Group
     ensures { λ r. ⌜ r ≡ commit g k ⌝ }
 {
     let phase = g.cabinet(k).phase;
     let v = phase.version;
-    resume_with(g, k, state::flipped(v))
+    resume_with(g, k, state::flipped(v)).forget_trips()
 }
 
 // ---- recovering
@@ -83,6 +84,7 @@ fn recover_if_known(g: Group, i: u8, v: Version) -> Group
     match v {
         Version::Known(bit) => recover_with(g, i, bit),
         Version::Unknown(_) => g,
+        Version::Lost => g,
     }
 }
 
@@ -115,7 +117,8 @@ fn note_at(place: Place, g: Group, v: Version) -> Group
     ensures { λ r. ⌜ r ≡ noteAt place g v ⌝ }
 {
     match place {
-        Place::Cabinet(x) => g.with_cabinet(x, g.cabinet(x).with_version(v)),
+        Place::Failed(x) => g.with_cabinet(x, g.cabinet(x).with_version(v)),
+        Place::Tripped(_) => g,
         Place::Link(_, _) => g,
     }
 }

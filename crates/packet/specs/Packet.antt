@@ -1,4 +1,4 @@
--- Document 01, "Packets and the link check", with document 02, cards 2 and 3: what packets carry, the check registers, fault places, damage.
+-- Document 01, "Packets and the link check", with document 02, cards 2, 3 and 5: what packets carry, the check registers, fault places, damage.
 use Prim.Native.Nat.{ℕ, _+_, _/_, _%_}
 use mathlib.Core.Bool.{Bool, true, false, cond, _&&_}
 use mathlib.Core.List.{List, [], _∷_}
@@ -9,7 +9,7 @@ use Rattle.crc.specs.Crc.{start, crcFrom}
 use Rattle.packet.specs.declared.Payload.{Payload}
 use Rattle.packet.specs.declared.Check.{Check}
 use Rattle.packet.specs.declared.Place.{Place}
-use Rattle.packet.specs.declared.Place.the-variants.{Cabinet, Link}
+use Rattle.packet.specs.declared.Place.the-variants.{Failed, Tripped, Link}
 use Rattle.packet.specs.declared.Packet.{Packet}
 use Rattle.packet.specs.declared.Packet.the-variants.{Empty, Normal, Checkp, Resume, Recover, Fault, Invalid}
 
@@ -32,10 +32,16 @@ sameCheck c d = eqb (c .crc) (d .crc) && eqb (c .count) (d .count)
 abbrev pub linkPlace : ℕ → ℕ → Place
 linkPlace a b = cond (ltb a b) (Link a b) (Link b a)
 
+-- "A fault packet now says failed or tripped": the two are different places
 abbrev pub samePlace : Place → Place → Bool
-samePlace (Cabinet a) (Cabinet b) = eqb a b
-samePlace (Cabinet a) (Link b c) = false
-samePlace (Link a b) (Cabinet c) = false
+samePlace (Failed a) (Failed b) = eqb a b
+samePlace (Failed a) (Tripped b) = false
+samePlace (Failed a) (Link b c) = false
+samePlace (Tripped a) (Failed b) = false
+samePlace (Tripped a) (Tripped b) = eqb a b
+samePlace (Tripped a) (Link b c) = false
+samePlace (Link a b) (Failed c) = false
+samePlace (Link a b) (Tripped c) = false
 samePlace (Link a b) (Link c d) = eqb a c && eqb b d
 
 abbrev pub isEmpty : Packet → Bool

@@ -19,9 +19,10 @@ pub struct Check {
     pub count: u16,
 }
 
-// Where a fault is: a cabinet, or a link named lower number first.
+// Where a fault is: a cabinet that failed, one that tripped, or a link named lower number first.
 pub enum Place {
-    Cabinet(u8),
+    Failed(u8),
+    Tripped(u8),
     Link(u8, u8),
 }
 
@@ -84,12 +85,19 @@ pub fn same_place(p: Place, q: Place) -> bool
     ensures { λ r. ⌜ r ≡ samePlace p q ⌝ }
 {
     match p {
-        Place::Cabinet(a) => match q {
-            Place::Cabinet(b) => a == b,
+        Place::Failed(a) => match q {
+            Place::Failed(b) => a == b,
+            Place::Tripped(_) => false,
+            Place::Link(_, _) => false,
+        },
+        Place::Tripped(a) => match q {
+            Place::Failed(_) => false,
+            Place::Tripped(b) => a == b,
             Place::Link(_, _) => false,
         },
         Place::Link(a, b) => match q {
-            Place::Cabinet(_) => false,
+            Place::Failed(_) => false,
+            Place::Tripped(_) => false,
             Place::Link(c, d) => both_equal(a, c, b, d),
         },
     }

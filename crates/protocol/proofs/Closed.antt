@@ -5,3 +5,4 @@ pub mod Returns
 pub mod Outlets
 pub mod Tempting
 pub mod Losses
+pub mod Trips

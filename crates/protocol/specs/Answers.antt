@@ -5,7 +5,7 @@ use mathlib.Core.List.{List, [], _∷_, _++_}
 use lib.Dec.{eqb}
 use Rattle.group.specs.declared.Group.{Group}
 use Rattle.protocol.specs.declared.Step.{Step}
-use Rattle.protocol.specs.declared.Step.the-variants.{Send, Note, Begin, Deliver, Write, Saved, Fetch, Restored, WaitOver, Fail, Damage, Lose}
+use Rattle.protocol.specs.declared.Step.the-variants.{Send, Note, Begin, Deliver, Write, Saved, Fetch, Restored, WaitOver, Fail, Damage, Lose, Trip}
 use Rattle.protocol.specs.declared.Decoded.{Decoded}
 use Rattle.protocol.specs.declared.Decoded.the-variants.{Malformed, Unused, Taken}
 use Rattle.protocol.specs.Kinds.{sendRefusal, noteRefusal, beginRefusal, deliverRefusal, writeRefusal, savedRefusal, fetchRefusal, restoredRefusal, waitOverRefusal, damageRefusal, loseRefusal}
@@ -29,6 +29,7 @@ workNumbers (WaitOver a) = 12 ∷ []
 workNumbers (Fail a) = 12 ∷ []
 workNumbers (Damage a b p q) = []
 workNumbers (Lose a b p) = 12 ∷ []
+workNumbers (Trip a) = 12 ∷ []
 
 -- the numbers under each kind
 abbrev pub kindNumbers : Step → List ℕ
@@ -44,6 +45,7 @@ kindNumbers (WaitOver a) = 14 ∷ 19 ∷ []
 kindNumbers (Fail a) = []
 kindNumbers (Damage a b p q) = 13 ∷ 18 ∷ 15 ∷ 20 ∷ []
 kindNumbers (Lose a b p) = 13 ∷ 18 ∷ 20 ∷ []
+kindNumbers (Trip a) = []
 
 -- "Every step first": 8, 9, or 10 to 12 and then those of the kind
 abbrev pub refusalNumbers : Decoded → List ℕ
@@ -65,3 +67,4 @@ kindRefusal g (WaitOver a) = waitOverRefusal g (a - 1)
 kindRefusal g (Fail a) = 0
 kindRefusal g (Damage a b p q) = damageRefusal g (a - 1) (b - 1) p q
 kindRefusal g (Lose a b p) = loseRefusal g (a - 1) (b - 1) p
+kindRefusal g (Trip a) = 0

@@ -1,7 +1,7 @@
 -- Document 01, "The group crashes when, and only when": the cases of that sentence, each in the paper's own terms, with those that
 -- document 02 adds.
 -- In a step cabinets count from 1, everywhere else here from 0.
-use Prim.Native.Nat.{ℕ, _-_, _<_}
+use Prim.Native.Nat.{ℕ, _-_, _<_, _≤_}
 use mathlib.Core.Path.{_≡_}
 use mathlib.Core.Bool.{true, false}
 use mathlib.Core.Logic.{_⊎_}
@@ -21,10 +21,10 @@ use Rattle.state.specs.declared.State.the-variants.{Normal, CheckpBegin, Checkp
 use Rattle.cabinet.specs.declared.Alarm.the-variants.{Fault as For}
 use Rattle.cabinet.specs.declared.Cabinet.{Cabinet}
 use Rattle.group.specs.declared.Group.{Group}
-use Rattle.cabinet.specs.Cabinet.{inUse}
-use Rattle.group.specs.Group.{cabinet, stateOf, line, rowsOf, working}
+use Rattle.cabinet.specs.Cabinet.{inUse, coordinator}
+use Rattle.group.specs.Group.{cabinet, stateOf, line, rowsOf, working, tripsOf}
 use Rattle.protocol.specs.declared.Step.{Step}
-use Rattle.protocol.specs.declared.Step.the-variants.{Deliver, Fail, Damage, Lose}
+use Rattle.protocol.specs.declared.Step.the-variants.{Deliver, Fail, Damage, Lose, Trip}
 use Rattle.protocol.specs.declared.Decoded.{Decoded}
 use Rattle.protocol.specs.declared.Decoded.the-variants.{Taken}
 use Rattle.protocol.specs.Entry.{entryRefusal}
@@ -102,6 +102,14 @@ pub data Cause (g : Group) : Step → Type 0 where
   -- "or at the finding of a link fault (that link left out) some working cabinet is not reached"
   link-parts : {a b : ℕ} → LineInUse g (a - 1) (b - 1) → LinkFault (cabinet g (b - 1)) (a - 1) (oldest (line g (a - 1) (b - 1)))
       → Unreached (struck (soundLinks g) (a - 1) (b - 1)) (working g) → Cause g (Deliver a b)
+  -- document 02, card 5: "A store cabinet's trip crashes the group,"
+  store-trips : {a : ℕ} → cabinet g (a - 1) .store ≡ true → Cause g (Trip a)
+  -- "and so does a trip while some working cabinet is in error, recovering or recovered."
+  trips-in-recovery : {a : ℕ} → SomeRecovers g → Cause g (Trip a)
+  -- "The coordinator's trip also crashes the group wherever its fail would"
+  coordinator-trips : {a : ℕ} → coordinator (cabinet g (a - 1)) ≡ a - 1 → Cause g (Fail a) → Cause g (Trip a)
+  -- "A third trip of the same cabinet with no commit between .. is a fail.": the group counts each one's trips since the last commit
+  third-trip : {a : ℕ} → 2 ≤ tripsOf g (a - 1) → Cause g (Fail a) → Cause g (Trip a)
 
 -- the record is a step, no check refuses it, and one of the causes is there
 pub data Crashes (g : Group) : Decoded → Type 0 where

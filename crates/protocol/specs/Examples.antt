@@ -10,7 +10,7 @@ use lib.ListN.{length, replicate}
 use lib.Dec.{eqb}
 use Rattle.outlet.specs.declared.Outlet.the-variants.{A, B}
 use Rattle.packet.specs.declared.Payload.{Payload}
-use Rattle.packet.specs.declared.Place.the-variants.{Cabinet as AtCabinet, Link as AtLink}
+use Rattle.packet.specs.declared.Place.the-variants.{Failed as AtFailed, Link as AtLink}
 use Rattle.cabinet.specs.declared.Alarm.{Alarm}
 use Rattle.cabinet.specs.declared.Alarm.the-variants.{Fault}
 use Rattle.image.specs.declared.Image.{Image}
@@ -226,7 +226,7 @@ after-save-finds = record {
   loaded = 0;
   taken = true;
   ended = true;
-  place = Fault (AtCabinet 2);
+  place = Fault (AtFailed 2);
   committed = 1;
   left = 1;
   begun = true;
@@ -271,7 +271,7 @@ passed-over = record {
       ∷ deliver 2 3 ∷ deliver 3 2
       ∷ fetches 2 ++ fetches 3
       ++ restored 3 ∷ []);
-  -- the coordinator is 2 now, "the lowest-numbered cabinet in use there"
+  -- the coordinator is 2 now, "the next higher number in use"
   last = stepping (restored 2);
   coordinator = 1;
 }
@@ -281,7 +281,7 @@ passed-over-finds = record {
   loaded = 0;
   taken = true;
   ended = true;
-  place = Fault (AtCabinet 0);
+  place = Fault (AtFailed 0);
   committed = 2;
   left = 1;
   begun = true;
@@ -384,7 +384,7 @@ second-recovery-finds = record {
   loaded = 0;
   taken = true;
   ended = true;
-  place = Fault (AtCabinet 3);
+  place = Fault (AtFailed 3);
   committed = 2;
   left = 2;
   begun = true;
@@ -429,7 +429,7 @@ restored-before-finds = record {
   loaded = 0;
   taken = true;
   ended = true;
-  place = Fault (AtCabinet 0);
+  place = Fault (AtFailed 0);
   committed = 1;
   left = 1;
   begun = false;

@@ -1,4 +1,4 @@
--- Document 01, "Which save" and "Words of demand 3", with document 02, cards 1 and 3: the history of a run, a fold over the file and the
+-- Document 01, "Which save" and "Words of demand 3", with document 02, cards 1, 3 and 5: the history of a run, a fold over the file and the
 -- operations (step records, points taken, returns) with what the rules make of them. Of the groups before and after a step it reads
 -- states, tables, homes, images, the packet that is taken or damaged, and which checkps have come; no version, slot, register, report,
 -- piece or fault place. Of a point it reads whether it is taken: what it keeps, the history knows by itself. In a step cabinets count
@@ -25,7 +25,7 @@ use Rattle.group.specs.declared.Group.{Group}
 use Rattle.group.specs.declared.Outcome.{Outcome}
 use Rattle.group.specs.Group.{cabinet, stateOf, line}
 use Rattle.protocol.specs.declared.Step.{Step}
-use Rattle.protocol.specs.declared.Step.the-variants.{Send, Note, Begin, Deliver, Write, Saved, Fetch, Restored, WaitOver, Fail, Damage, Lose}
+use Rattle.protocol.specs.declared.Step.the-variants.{Send, Note, Begin, Deliver, Write, Saved, Fetch, Restored, WaitOver, Fail, Damage, Lose, Trip}
 use Rattle.protocol.specs.declared.Decoded.{Decoded}
 use Rattle.protocol.specs.declared.Decoded.the-variants.{Malformed, Unused, Taken}
 use Rattle.protocol.specs.Receive.{takesFrom}
@@ -123,7 +123,8 @@ atStart g = fresh [] (startSave g) (λ i. none) (λ name. none)
 
 -- "the last one committed before the recovery's end, or the start where there is none. If its coordinator failed before any working
 -- cabinet took that resume or was restored from that save, the one before; the save passed over then counts as never committed."
--- So `saves` never holds one passed over: it is dropped in the fail itself. While another cabinet works, only the newest can be one
+-- "The restored save for a tripped coordinator follows the rule for a failed one."
+-- So `saves` never holds one passed over: it is dropped in the fail or trip itself. While another cabinet works, only the newest can be one
 -- that nobody took or was restored from, so one at most is dropped.
 abbrev pub newest : List Save → Save → Save
 newest [] s = s
@@ -132,7 +133,7 @@ newest (x ∷ xs) s = x
 abbrev pub latest : History → Save
 latest h = newest (h .saves) (h .start)
 
--- coordinator a fails
+-- coordinator a fails or trips
 abbrev pub passesOver : ℕ → List Save → Bool
 passesOver a [] = false
 passesOver a (x ∷ xs) = eqb (x .by) a && not (x .known)
@@ -213,7 +214,7 @@ abbrev pub noteDamage : Bool → History → ℕ → ℕ → History
 noteDamage true h a b = noteHurt (withDamaged h true) a b
 noteDamage false h a b = h
 
--- a save whose coordinator fails before it is known is passed over
+-- a save whose coordinator fails or trips before it is known is passed over
 abbrev pub notePassed : History → ℕ → History
 notePassed h a = withStanding (withSaves h (passOver a (h .saves))) (h .standing && not (passesOver a (h .saves)))
 
@@ -254,6 +255,8 @@ observe h g g′ (Fail a) = notePassed h (a - 1)
 observe h g g′ (Damage a b p q) = noteDamage (isNormal (packetAt (line g (a - 1) (b - 1)) p)) h (a - 1) (b - 1)
 -- a packet that is lost was sent and is never taken
 observe h g g′ (Lose a b p) = noteHurt h (a - 1) (b - 1)
+-- also where a third trip is a fail
+observe h g g′ (Trip a) = notePassed h (a - 1)
 
 -- "A cut belongs to the last begin taken by then, and its image is the cabinet's as that step leaves it."
 abbrev pub cutIn : History → Group → ℕ → Cut
@@ -304,7 +307,7 @@ noteReturn (some images) h g = record {
 abbrev pub ifTaken : ℕ → History → History → History
 ifTaken answer h′ h = cond (eqb answer 0) h′ h
 
--- a refusal adds nothing; a step answered 50 sends, takes and fails nothing, and ends the group
+-- a refusal adds nothing; a step answered 50 sends and takes nothing, and nobody fails or trips in it, and ends the group
 abbrev pub recordDecoded : History → Group → Outcome → Decoded → History
 recordDecoded h g o Malformed = h
 recordDecoded h g o Unused = h

@@ -1,12 +1,12 @@
--- The twelve kinds of step: of each its refusals, "the first in the order written", and what it does when it is taken.
+-- The thirteen kinds of step: of each its refusals, "the first in the order written", and what it does when it is taken.
 -- Cabinets are numbered from 0 here; the step entry has made checks 8 to 12.
-use Prim.Native.Nat.{ℕ}
+use Prim.Native.Nat.{ℕ, _+_}
 use mathlib.Core.Bool.{Bool, true, false, cond, not, _&&_, _||_}
 use lib.ListN.{set}
 use lib.Dec.{eqb, ltb, leb}
 use Rattle.marks.specs.Marks.{marked, covers}
 use Rattle.marks.specs.Reach.{mark, connected}
-use Rattle.packet.specs.declared.Place.the-variants.{Cabinet as AtCabinet, Link as AtLink}
+use Rattle.packet.specs.declared.Place.the-variants.{Failed as AtFailed, Tripped as AtTripped, Link as AtLink}
 use Rattle.outlet.specs.Outlet.{endsOf}
 use Rattle.packet.specs.declared.Payload.{Payload}
 use Rattle.packet.specs.declared.Packet.{Packet}
@@ -23,8 +23,8 @@ use Rattle.group.specs.declared.Outcome.{Outcome}
 use Rattle.state.specs.State.{isIn, inRecovery, inRestoring, inSaving, bitOf}
 use Rattle.image.specs.Image.{booking, firstNote, withOctet, withPiece}
 use Rattle.cabinet.specs.Cabinet.{inUse, coordinator, withImage, sending, hurtFrom, wrote, owing, savedFor, fetched, restoredFor}
-use Rattle.group.specs.Group.{cabinet, withCabinet, stateOf, line, withLine, slot, withSlot, rowsOf, some, working, recoveringOnes, unsure, answering, taken, crashed}
-use Rattle.protocol.specs.Moves.{join, cutIfAll, commit, recoverWith, markFailed, alarmTo, endRecovery, noteLost}
+use Rattle.group.specs.Group.{cabinet, withCabinet, stateOf, line, withLine, slot, withSlot, rowsOf, some, working, recoveringOnes, unsure, tripsOf, withTripsOf, answering, taken, crashed}
+use Rattle.protocol.specs.Moves.{join, cutIfAll, commit, recoverWith, markFailed, trip, alarmTo, endRecovery, noteLost}
 use Rattle.protocol.specs.Receive.{receive}
 
 -- a check of a refusal: where the test does not hold the answer is k, else the next check decides
@@ -179,14 +179,16 @@ restoredStep g a =
 
 -- ---- 9 wait over
 
--- the fault is the coordinator as it was before the strike, and a link in use joined the two
-abbrev pub lostPlace : Place → Cabinet → Bool
-lostPlace (AtCabinet k) c = ltb k (coordinator c) && marked (c .table .links) k
-lostPlace (AtLink j k) c = false
+-- the cabinet's own link mark to the place stands: "Only neighbours may take wait over"
+abbrev pub joinedTo : Place → Cabinet → Bool
+joinedTo (AtFailed k) c = marked (c .table .links) k
+joinedTo (AtTripped k) c = marked (c .table .links) k
+joinedTo (AtLink j k) c = false
 
+-- the fault is the coordinator as it was before, as noted on entering error, and a link in use joined the two
 abbrev pub lostCoordinator : Alarm → Cabinet → Bool
 lostCoordinator Quiet c = false
-lostCoordinator (Fault p) c = lostPlace p c
+lostCoordinator (Fault p) c = c .noted .former && joinedTo p c
 
 abbrev pub waitOverRefusal : Group → ℕ → ℕ
 waitOverRefusal g a =
@@ -206,7 +208,7 @@ failCrashes g a =
     cabinet g a .store || (some (recoveringOnes g) || not (connected (rowsOf (g .sound)) (set (working g) a false)))
 
 unfoldable pub failStep : Group → ℕ → Outcome
-failStep g a = cond (failCrashes g a) (crashed g) (taken (alarmTo 8 (markFailed g a) a))
+failStep g a = cond (failCrashes g a) (crashed g) (taken (alarmTo 8 (markFailed g a) a (AtFailed a)))
 
 -- ---- what damage and loss share
 
@@ -257,3 +259,21 @@ lost g a b p = markHurt (withLine g a b (without (line g a b) p)) a b
 
 unfoldable pub loseStep : Group → ℕ → ℕ → ℕ → Outcome
 loseStep g a b p = orRefuse (loseRefusal g a b p) g (unlessRecovering g (lost g a b p))
+
+-- ---- 13 trip
+
+-- "A store cabinet's trip crashes the group, and so does a trip while some working cabinet is in error, recovering or recovered. The
+-- coordinator's trip also crashes the group wherever its fail would"
+abbrev pub tripCrashes : Group → ℕ → Bool
+tripCrashes g a =
+    cabinet g a .store
+    || (some (recoveringOnes g)
+    || (eqb (coordinator (cabinet g a)) a && not (connected (rowsOf (g .sound)) (set (working g) a false))))
+
+-- the k-th trip of a since the last commit
+unfoldable pub tripOnce : Group → ℕ → ℕ → Outcome
+tripOnce g a k = cond (tripCrashes g a) (crashed g) (taken (alarmTo 8 (trip (withTripsOf g a k) a) a (AtTripped a)))
+
+-- "A third trip of the same cabinet with no commit between .. is a fail."
+unfoldable pub tripStep : Group → ℕ → Outcome
+tripStep g a = cond (ltb (tripsOf g a) 2) (tripOnce g a (tripsOf g a + 1)) (failStep g a)

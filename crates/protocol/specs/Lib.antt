@@ -1,4 +1,4 @@
--- Document 01 as definitions: the moves, the twelve kinds of step, the step entry and the listing; points and returns of document 02; then
+-- Documents 01 and 02 as definitions: the moves, the thirteen kinds of step, the step entry and the listing; points and returns; then
 -- the history and demand 3, the program that runs a plan, closed runs, and what the entry answers.
 pub mod Moves
 pub mod Receive
@@ -15,5 +15,6 @@ pub mod Returns
 pub mod Outlets
 pub mod Tempting
 pub mod Losses
+pub mod Trips
 pub mod Answers
 pub mod Crash

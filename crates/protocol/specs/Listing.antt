@@ -9,7 +9,7 @@ use lib.Dec.{eqb, ltb}
 use Rattle.state.specs.declared.State.{State}
 use Rattle.state.specs.declared.State.the-variants.{Failed, Normal, CheckpBegin, Checkpointing, Checkpointed, Error, Recovering, Recovered, Crashed}
 use Rattle.state.specs.declared.Version.{Version}
-use Rattle.state.specs.declared.Version.the-variants.{Known, Unknown}
+use Rattle.state.specs.declared.Version.the-variants.{Known, Unknown, Lost}
 use Rattle.cabinet.specs.declared.Cabinet.{Cabinet}
 use Rattle.group.specs.declared.Group.{Group}
 use Rattle.group.specs.declared.Outcome.{Outcome}
@@ -63,6 +63,7 @@ stateWord Crashed = ascii "crashed"
 abbrev pub versionWord : Version → Text
 versionWord (Known v) = cond v 49 48 ∷ []
 versionWord (Unknown v) = 117 ∷ []
+versionWord Lost = 117 ∷ []
 
 -- ---- numbers in decimal, of at most five digits
 

@@ -1,26 +1,26 @@
--- The moves that the rules of document 01 are made of, each once.
+-- The moves that the rules of the documents are made of, each once.
 use Prim.Native.Nat.{ℕ, zero, suc}
 use mathlib.Core.Bool.{Bool, true, false, cond, _&&_}
 use lib.ListN.{set}
 use Rattle.marks.specs.Marks.{marked}
 use Rattle.marks.specs.Reach.{struck, connected}
 use Rattle.packet.specs.declared.Place.{Place}
-use Rattle.packet.specs.declared.Place.the-variants.{Cabinet as AtCabinet, Link as AtLink}
+use Rattle.packet.specs.declared.Place.the-variants.{Failed as AtFailed, Tripped as AtTripped, Link as AtLink}
 use Rattle.packet.specs.declared.Packet.{Packet}
 use Rattle.packet.specs.declared.Packet.the-variants.{Resume, Recover, Fault}
 use Rattle.packet.specs.Packet.{linkPlace}
 use Rattle.line.specs.Line.{emptyLine}
 use Rattle.state.specs.declared.State.the-variants.{Failed}
 use Rattle.state.specs.declared.Version.{Version}
-use Rattle.state.specs.declared.Version.the-variants.{Known, Unknown}
+use Rattle.state.specs.declared.Version.the-variants.{Known, Unknown, Lost}
 use Rattle.cabinet.specs.declared.Alarm.{Alarm}
 use Rattle.cabinet.specs.declared.Alarm.the-variants.{Quiet, Fault as At}
 use Rattle.group.specs.declared.Group.{Group}
 use Rattle.group.specs.declared.Outcome.{Outcome}
 use Rattle.state.specs.State.{flipped, adopted, works}
-use Rattle.cabinet.specs.Cabinet.{inUse, beginning, comparing, cutting, resuming, alarmed, hearing, recovering, withState, withVersion}
+use Rattle.cabinet.specs.Cabinet.{inUse, beginning, comparing, cutting, resuming, alarmed, blanked, hearing, recovering, withState, withVersion}
 use Rattle.outgoing.specs.Lines.{emptyLines, putAll, putCheckps}
-use Rattle.group.specs.Group.{cabinet, withCabinet, stateOf, outgoing, withOutgoing, withLine, rowsOf, withSound, working, taken, crashed}
+use Rattle.group.specs.Group.{cabinet, withCabinet, stateOf, outgoing, withOutgoing, withLine, rowsOf, withSound, working, forgetTrips, taken, crashed}
 
 -- a packet on all lines in use of cabinet i
 unfoldable pub broadcast : Group → ℕ → Packet → Group
@@ -45,9 +45,10 @@ takeCheckp g a b = cutIfAll (withCabinet g b (comparing (cabinet g b) a)) b
 unfoldable pub resumeWith : Group → ℕ → Version → Group
 resumeWith g i v = broadcast (withCabinet g i (resuming (cabinet g i) v)) i Resume
 
--- commit: "it flips its version, enters normal and puts resume everywhere"
+-- commit: "it flips its version, enters normal and puts resume everywhere"; a third trip is one "with no commit between", so no trip
+-- before it counts any more
 unfoldable pub commit : Group → ℕ → Group
-commit g k = resumeWith g k (flipped (cabinet g k .phase .version))
+commit g k = forgetTrips (resumeWith g k (flipped (cabinet g k .phase .version)))
 
 -- take a resume in checkpointed: "sets version to 1 − old, enters normal and puts resume on its other lines"
 unfoldable pub adopt : Group → ℕ → ℕ → Group
@@ -64,6 +65,7 @@ recoverWith g i v = broadcast (withCabinet g i (recovering (cabinet g i) v)) i (
 abbrev pub recoverIfKnown : Group → ℕ → Version → Group
 recoverIfKnown g i (Known v) = recoverWith g i v
 recoverIfKnown g i (Unknown v) = g
+recoverIfKnown g i Lost = g
 
 -- enter error: strike, empty every outgoing line, forget, put fault; "If the version is known, put recover with it"
 unfoldable pub raise : Group → ℕ → Place → Group
@@ -92,19 +94,24 @@ emptiedTo (suc n) g a = withLine (emptiedTo n g a) n a emptyLine
 unfoldable pub markFailed : Group → ℕ → Group
 markFailed g a = emptiedTo 8 (withOutgoing (withCabinet g a (withState (cabinet g a) Failed)) a emptyLines) a
 
+-- trip: "turns cabinet a's image to zeros and its version to unknown, its table kept" (but for who is coordinator); "its lines are emptied
+-- both ways .. The cabinet itself enters error with unknown version and puts fault"
+unfoldable pub trip : Group → ℕ → Group
+trip g a = emptiedTo 8 (enterError (withCabinet g a (blanked (cabinet g a))) a (AtTripped a)) a
+
 -- cabinet i works and has a link to a in use
 abbrev pub neighbours : Group → ℕ → ℕ → Bool
 neighbours g i a = works (stateOf g i) && marked (inUse (cabinet g i)) a
 
--- ".. and all its neighbours over links in use enter error in the same step"
+-- ".. and all its neighbours over links in use enter error in the same step", for a place that says failed or tripped
 abbrev pub enterErrorIf : Bool → Group → ℕ → Place → Group
 enterErrorIf true g i p = enterError g i p
 enterErrorIf false g i p = g
 
-unfoldable pub alarmTo : ℕ → Group → ℕ → Group
-alarmTo zero g a = g
-alarmTo (suc n) g a =
-    enterErrorIf (neighbours g n a) (alarmTo n g a) n (AtCabinet a)
+unfoldable pub alarmTo : ℕ → Group → ℕ → Place → Group
+alarmTo zero g a p = g
+alarmTo (suc n) g a p =
+    enterErrorIf (neighbours g n a) (alarmTo n g a p) n p
 
 -- end the recovery: "it enters normal and puts resume on all lines in use"; so does a cabinet in recovered on resume
 unfoldable pub endRecovery : Group → ℕ → Group
@@ -113,7 +120,8 @@ endRecovery g i = resumeWith g i (cabinet g i .phase .version)
 -- Document 02, card 1: which slot has a failed cabinet's image is noted where the recovery from its fail ends. Its own version, which no
 -- rule reads any more, takes the note: it becomes that of the save which the others come back from
 abbrev pub noteAt : Place → Group → Version → Group
-noteAt (AtCabinet x) g v = withCabinet g x (withVersion (cabinet g x) v)
+noteAt (AtFailed x) g v = withCabinet g x (withVersion (cabinet g x) v)
+noteAt (AtTripped x) g v = g
 noteAt (AtLink x y) g v = g
 
 abbrev pub noteFor : Alarm → Group → Version → Group

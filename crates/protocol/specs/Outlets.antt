@@ -5,7 +5,7 @@ use mathlib.Core.Bool.{true}
 use mathlib.Core.List.{List, [], _∷_, _++_}
 use mathlib.Core.Option.{none, some}
 use lib.ListN.{replicate}
-use Rattle.packet.specs.declared.Place.the-variants.{Cabinet as AtCabinet}
+use Rattle.packet.specs.declared.Place.the-variants.{Failed as AtFailed}
 use Rattle.cabinet.specs.declared.Alarm.the-variants.{Fault}
 use Rattle.image.specs.declared.Image.{Image}
 use Rattle.packet.specs.Packet.{octetsOf}
@@ -62,7 +62,7 @@ both-outlets-finds = record {
   loaded = 0;
   taken = true;
   ended = true;
-  place = Fault (AtCabinet 2);
+  place = Fault (AtFailed 2);
   committed = 1;
   left = 1;
   begun = true;

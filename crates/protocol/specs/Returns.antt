@@ -4,7 +4,7 @@ use mathlib.Core.Bool.{true, false}
 use mathlib.Core.List.{List, [], _∷_, _++_, map}
 use mathlib.Core.Option.{none, some}
 use lib.ListN.{replicate}
-use Rattle.packet.specs.declared.Place.the-variants.{Cabinet as AtCabinet}
+use Rattle.packet.specs.declared.Place.the-variants.{Failed as AtFailed}
 use Rattle.cabinet.specs.declared.Alarm.the-variants.{Fault}
 use Rattle.image.specs.declared.Image.{Image}
 use Rattle.points.specs.declared.Points.{Points}
@@ -82,7 +82,7 @@ return-first-finds = record {
   loaded = 0;
   taken = true;
   ended = true;
-  place = Fault (AtCabinet 0);
+  place = Fault (AtFailed 0);
   committed = 3;
   left = 3;
   begun = true;
@@ -122,7 +122,7 @@ return-stays-finds = record {
   loaded = 0;
   taken = true;
   ended = true;
-  place = Fault (AtCabinet 0);
+  place = Fault (AtFailed 0);
   committed = 4;
   left = 3;
   begun = true;
@@ -215,7 +215,7 @@ return-between-finds = record {
   loaded = 0;
   taken = true;
   ended = true;
-  place = Fault (AtCabinet 1);
+  place = Fault (AtFailed 1);
   committed = 8;
   left = 8;
   begun = true;

@@ -205,7 +205,7 @@ abbrev pub inOrder : Run
 inOrder = record {
   file = triangle;
   records =
-      begin 4 ∷ fail 3 ∷ begin 3 ∷ fail 2 ∷ begin 4 ∷ begin 3 ∷ recordOf 3 4 1 0 0 ∷ recordOf 13 4 1 0 0 ∷ [];
+      begin 4 ∷ fail 3 ∷ begin 3 ∷ fail 2 ∷ begin 4 ∷ begin 3 ∷ recordOf 3 4 1 0 0 ∷ recordOf 14 4 1 0 0 ∷ [];
   answers = 11 ∷ 0 ∷ 12 ∷ 50 ∷ 10 ∷ 10 ∷ 9 ∷ 8 ∷ [];
 }
 

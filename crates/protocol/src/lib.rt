@@ -18,6 +18,7 @@ pub enum Step {
     Fail { a: u8 },
     Damage { a: u8, b: u8, p: u8, q: u16 },
     Lose { a: u8, b: u8, p: u8 },
+    Trip { a: u8 },
 }
 
 // What six octets, or some other number of them, decode to.

@@ -64,6 +64,7 @@ fn alone_of(kind: u8, a: u8) -> Decoded
         8 => Decoded::Taken(Step::Restored { a: a }),
         9 => Decoded::Taken(Step::WaitOver { a: a }),
         10 => Decoded::Taken(Step::Fail { a: a }),
+        13 => Decoded::Taken(Step::Trip { a: a }),
         _ => Decoded::Malformed,
     }
 }
@@ -97,7 +98,7 @@ fn fields_of(kind: u8, a: u8, b: u8, p: u8, q: u16) -> Decoded
     if kind == 12 {
         return if_zero(q == 0, Decoded::Taken(Step::Lose { a: a, b: b, p: p }));
     }
-    if marks::and(1 <= kind, kind <= 10) {
+    if marks::and(1 <= kind, kind <= 13) {
         let unused = three_fields(b, p, q);
         return if_zero(unused == 0, alone_of(kind, a));
     }
@@ -155,6 +156,7 @@ fn first_of(s: Step) -> u8
             q: _,
         } => a,
         Step::Lose { a, b: _, p: _ } => a,
+        Step::Trip { a } => a,
     }
 }
 
@@ -184,6 +186,7 @@ fn second_of(s: Step) -> u8
             q: _,
         } => b,
         Step::Lose { a: _, b, p: _ } => b,
+        Step::Trip { a } => a,
     }
 }
 
@@ -232,6 +235,7 @@ fn actor_works(s: Step, first: bool, second: bool) -> bool
             q: _,
         } => true,
         Step::Lose { a: _, b: _, p: _ } => first,
+        Step::Trip { a: _ } => first,
     }
 }
 

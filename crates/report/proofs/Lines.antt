@@ -9,7 +9,7 @@ use lib.ListN.{length, length-append}
 use Rattle.state.specs.declared.State.{State}
 use Rattle.state.specs.declared.State.the-variants.{Failed, Normal, CheckpBegin, Checkpointing, Checkpointed, Error, Recovering, Recovered, Crashed}
 use Rattle.state.specs.declared.Version.{Version}
-use Rattle.state.specs.declared.Version.the-variants.{Known, Unknown}
+use Rattle.state.specs.declared.Version.the-variants.{Known, Unknown, Lost}
 use Rattle.cabinet.specs.declared.Cabinet.{Cabinet}
 use Rattle.state.specs.State.{works}
 use Rattle.outlet.specs.declared.Outlet.the-variants.{A, B}
@@ -58,6 +58,7 @@ state-length Crashed = omega arith
 version-length : (v : Version) → length (versionWord v) ≤ 1
 version-length (Known b) = omega arith
 version-length (Unknown b) = omega arith
+version-length Lost = omega arith
 
 either-length : (b : Bool) (t : Text) → length (cond b t []) ≤ length t
 either-length true t = omega arith

@@ -6,7 +6,7 @@ use group::Outcome;
 use packet::Place;
 use state::State;
 ghost use mathlib.Core.Path.{_≡_};
-ghost use Rattle.protocol.specs.Kinds.{fetchRefusal, fetchPiece, fetchStep, mayReport, restoredRefusal, reportRestored, endIfAll, restoredStep, lostPlace, lostCoordinator, waitOverRefusal, waitOverStep};
+ghost use Rattle.protocol.specs.Kinds.{fetchRefusal, fetchPiece, fetchStep, mayReport, restoredRefusal, reportRestored, endIfAll, restoredStep, joinedTo, lostCoordinator, waitOverRefusal, waitOverStep};
 
 // ---- 7 fetch
 
@@ -108,24 +108,27 @@ pub fn restored_step(g: Group, a: u8) -> Outcome
 
 // ---- 9 wait over
 
-// The fault is the coordinator as it was before, and a link in use joined the two.
-fn lost_place(place: Place, c: Cabinet) -> bool
-    ensures { λ r. ⌜ r ≡ lostPlace place c ⌝ }
+// A link of its own in use joins the cabinet to the place. None joins a tripped one to itself.
+fn joined_to(place: Place, c: Cabinet) -> bool
+    ensures { λ r. ⌜ r ≡ joinedTo place c ⌝ }
 {
     let table = c.table;
     let links = table.links;
     match place {
-        Place::Cabinet(k) => marks::and(k < c.coordinator(), marks::marked(links, k)),
+        Place::Failed(k) => marks::marked(links, k),
+        Place::Tripped(k) => marks::marked(links, k),
         Place::Link(_, _) => false,
     }
 }
 
+// The fault is the coordinator as it was before, and a link in use joined the two.
 fn lost_coordinator(alarm: Alarm, c: Cabinet) -> bool
     ensures { λ r. ⌜ r ≡ lostCoordinator alarm c ⌝ }
 {
+    let noted = c.noted;
     match alarm {
         Alarm::Quiet => false,
-        Alarm::Fault(place) => lost_place(place, c),
+        Alarm::Fault(place) => marks::and(noted.former, joined_to(place, c)),
     }
 }
 

@@ -5,7 +5,7 @@ use lib.Dec.{eqb}
 use Rattle.state.specs.declared.State.{State}
 use Rattle.state.specs.declared.State.the-variants.{Failed, Normal, CheckpBegin, Checkpointing, Checkpointed, Error, Recovering, Recovered, Crashed}
 use Rattle.state.specs.declared.Version.{Version}
-use Rattle.state.specs.declared.Version.the-variants.{Known, Unknown}
+use Rattle.state.specs.declared.Version.the-variants.{Known, Unknown, Lost}
 
 -- a number for each state, by which states are compared
 abbrev pub rank : State → ℕ
@@ -40,23 +40,28 @@ inSaving s = isIn s Checkpointing || isIn s Checkpointed
 abbrev pub isUnknown : Version → Bool
 isUnknown (Known v) = false
 isUnknown (Unknown v) = true
+isUnknown Lost = true
 
--- the version, and while it is unknown the old one
+-- the version, and while it is unknown the old one; a lost one has none, and false stands for it
 abbrev pub bitOf : Version → Bool
 bitOf (Known v) = v
 bitOf (Unknown v) = v
+bitOf Lost = false
 
 -- "keep version as old and set it to unknown"
 abbrev pub doubted : Version → Version
 doubted (Known v) = Unknown v
 doubted (Unknown v) = Unknown v
+doubted Lost = Lost
 
 -- the commit at the coordinator: "flips its version"
 abbrev pub flipped : Version → Version
 flipped (Known v) = Known (not v)
 flipped (Unknown v) = Unknown v
+flipped Lost = Lost
 
 -- a resume taken in checkpointed: "sets version to 1 − old"
 abbrev pub adopted : Version → Version
 adopted (Known v) = Known v
 adopted (Unknown v) = Known (not v)
+adopted Lost = Lost

@@ -15,10 +15,11 @@ pub enum State {
     Crashed,
 }
 
-// The version variable: 0 is false, 1 is true. While it is unknown the old version is kept with it.
+// The version variable: 0 is false, 1 is true. While it is unknown the old version is kept with it; a trip leaves none.
 pub enum Version {
     Known(bool),
     Unknown(bool),
+    Lost,
 }
 
 // A number for each state, by which states are compared.
@@ -80,6 +81,7 @@ pub fn is_unknown(v: Version) -> bool
     match v {
         Version::Known(_) => false,
         Version::Unknown(_) => true,
+        Version::Lost => true,
     }
 }
 
@@ -90,6 +92,7 @@ pub fn bit_of(v: Version) -> bool
     match v {
         Version::Known(bit) => bit,
         Version::Unknown(old) => old,
+        Version::Lost => false,
     }
 }
 
@@ -100,6 +103,7 @@ pub fn doubted(v: Version) -> Version
     match v {
         Version::Known(bit) => Version::Unknown(bit),
         Version::Unknown(old) => Version::Unknown(old),
+        Version::Lost => Version::Lost,
     }
 }
 
@@ -110,6 +114,7 @@ pub fn flipped(v: Version) -> Version
     match v {
         Version::Known(bit) => Version::Known(!bit),
         Version::Unknown(old) => Version::Unknown(old),
+        Version::Lost => Version::Lost,
     }
 }
 
@@ -120,5 +125,6 @@ pub fn adopted(v: Version) -> Version
     match v {
         Version::Known(bit) => Version::Known(bit),
         Version::Unknown(old) => Version::Known(!old),
+        Version::Lost => Version::Lost,
     }
 }

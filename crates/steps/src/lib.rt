@@ -34,6 +34,7 @@ fn perform(g: Group, s: Step) -> Outcome
             q,
         ),
         Step::Lose { a, b, p } => hurting::lose_step(g, records::before(a), records::before(b), p),
+        Step::Trip { a } => failing::trip_step(g, records::before(a)),
     }
 }
 

@@ -1,16 +1,17 @@
-// One cabinet's table of what is still in use, by value.
+// One cabinet's table of what is still in use and who is coordinator, by value.
 // Cabinets are numbered 0 to 7 here: a cabinet's number in a file or a record, less one.
 use packet::Place;
 ghost use mathlib.Core.Path.{_≡_};
 ghost use mathlib.Core.Bool.{false, cond};
 ghost use lib.Dec.{eqb};
 ghost use lib.ListN.{set};
-ghost use Rattle.table.specs.Table.{inUse, coordinator, struckAt};
+ghost use Rattle.table.specs.Table.{inUse, coordinator, struckAt, isAt, ledOnIf, faultedAt};
 
-// The cabinets still in use, and a cabinet's own links still in use.
+// The cabinets still in use, a cabinet's own links still in use, and the coordinator.
 pub struct Table {
     pub cabinets: [bool; 8],
     pub links: [bool; 8],
+    pub lead: u8,
 }
 
 impl Table {
@@ -23,12 +24,11 @@ impl Table {
         marks::both(links, cabinets)
     }
 
-    // The lowest-numbered cabinet in use, 8 where none is.
+    // The cabinet that the table names as coordinator.
     pub fn coordinator(self) -> u8
         ensures { λ r. ⌜ r ≡ coordinator self ⌝ }
     {
-        let row = self.cabinets;
-        marks::lowest(row)
+        self.lead
     }
 }
 
@@ -47,20 +47,55 @@ fn without_link(links: [bool; 8], i: u8, a: u8, b: u8) -> [bool; 8]
     links
 }
 
-// The place struck from the table of cabinet i: a cabinet, or i's own end of a link.
-pub fn struck_at(i: u8, place: Place, table: Table) -> Table
+// The place struck from the table of cabinet i: a cabinet that failed, or i's own end of a link; nothing for one that tripped.
+fn struck_at(i: u8, place: Place, table: Table) -> Table
     ensures { λ r. ⌜ r ≡ struckAt i place table ⌝ }
 {
     let cabinets = table.cabinets;
     let links = table.links;
     match place {
-        Place::Cabinet(a) => Table {
+        Place::Failed(a) => Table {
             cabinets: marks::set_mark(cabinets, a, false),
             links: links,
+            lead: table.lead,
         },
+        Place::Tripped(_) => table,
         Place::Link(a, b) => Table {
             cabinets: cabinets,
             links: without_link(links, i, a, b),
+            lead: table.lead,
         },
     }
+}
+
+// ---- the lead that moves on
+
+// The place is cabinet k, failed or tripped.
+pub fn is_at(place: Place, k: u8) -> bool
+    ensures { λ r. ⌜ r ≡ isAt place k ⌝ }
+{
+    match place {
+        Place::Failed(a) => a == k,
+        Place::Tripped(a) => a == k,
+        Place::Link(_, _) => false,
+    }
+}
+
+// The next higher cabinet in use is coordinator, after the highest the lowest, where the one before is lost.
+fn led_on_if(lost: bool, table: Table) -> Table
+    ensures { λ r. ⌜ r ≡ ledOnIf lost table ⌝ }
+{
+    let mut t = table;
+    if lost {
+        let cabinets = table.cabinets;
+        t.lead = marks::next_up(cabinets, table.lead);
+    }
+    t
+}
+
+// The table of cabinet i once it has entered error for a place.
+pub fn faulted_at(i: u8, place: Place, table: Table) -> Table
+    ensures { λ r. ⌜ r ≡ faultedAt i place table ⌝ }
+{
+    led_on_if(is_at(place, table.lead), struck_at(i, place, table))
 }

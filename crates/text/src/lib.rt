@@ -21,6 +21,7 @@ fn version_octet(v: Version) -> u8
     match v {
         Version::Known(bit) => if bit { b'1' } else { b'0' },
         Version::Unknown(_) => b'u',
+        Version::Lost => b'u',
     }
 }
 

@@ -79,6 +79,9 @@ enum Scene {
     HalfSave,
     StrikeAtCommit,
     Fail,
+    Trip,
+    Stumble,
+    SlyTrip,
     Damage,
     Loss,
     HurtOverReturn,
@@ -89,7 +92,8 @@ enum Scene {
 }
 
 /// How often each scene comes; drawn anew for each plan.
-fn drawn_weights(dice: &mut Dice, damage: bool) -> Vec<(Scene, usize)> {
+fn drawn_weights(dice: &mut Dice, wishes: Wishes) -> Vec<(Scene, usize)> {
+    let (damage, trips) = (wishes.damage, wishes.trips());
     vec![
         (Scene::Point, dice.pick(&[4, 6, 10])),
         (Scene::Return, dice.pick(&[4, 6, 10])),
@@ -99,10 +103,13 @@ fn drawn_weights(dice: &mut Dice, damage: bool) -> Vec<(Scene, usize)> {
         (Scene::HalfSave, dice.pick(&[0, 1, 2])),
         (Scene::StrikeAtCommit, dice.pick(&[0, 1, 3])),
         (Scene::Fail, dice.pick(&[0, 1, 3])),
+        (Scene::Trip, if trips { dice.pick(&[0, 2, 4]) } else { 0 }),
+        (Scene::Stumble, if trips { dice.pick(&[0, 0, 1, 2]) } else { 0 }),
+        (Scene::SlyTrip, if trips { dice.pick(&[0, 1, 3]) } else { 0 }),
         (Scene::Damage, if damage { dice.pick(&[0, 2, 4]) } else { 0 }),
         (Scene::Loss, if damage { dice.pick(&[0, 2, 4]) } else { 0 }),
         (Scene::HurtOverReturn, if damage { dice.pick(&[0, 1, 2]) } else { 0 }),
-        (Scene::Crash, dice.pick(&[0, 0, 0, 0, 1])),
+        (Scene::Crash, dice.pick(&[0, 0, 0, 1])),
         (Scene::Probe, dice.pick(&[1, 3])),
         (Scene::Wander, dice.pick(&[0, 1, 3])),
         (Scene::Malformed, dice.pick(&[0, 0, 1, 3])),
@@ -125,7 +132,7 @@ struct Planner<'a> {
 impl Planner<'_> {
     fn new(dice: &mut Dice, group: Group, wishes: Wishes) -> Planner<'_> {
         let names = some_names(dice);
-        let weights = drawn_weights(dice, wishes.damage);
+        let weights = drawn_weights(dice, wishes);
         let chatter = dice.pick(&[0, 50, 150]);
         let run = Run::new(dice, group, wishes);
         Planner { run, points: Points::default(), names, weights, chatter, plan: Vec::new() }
@@ -185,6 +192,9 @@ impl Planner<'_> {
             Scene::HalfSave => self.half_save_scene(),
             Scene::StrikeAtCommit => self.strike_scene(),
             Scene::Fail => self.fail_scene(),
+            Scene::Trip => self.trip_scene(),
+            Scene::Stumble => self.stumble_scene(),
+            Scene::SlyTrip => self.sly_trip_scene(),
             Scene::Damage => self.damage_scene(),
             Scene::Loss => self.loss_scene(),
             Scene::HurtOverReturn => self.hurt_over_return_scene(),
@@ -287,7 +297,7 @@ impl Planner<'_> {
     }
 
     fn begin(&mut self) -> bool {
-        let coordinator = self.run.group.working_cabinets().first().copied();
+        let coordinator = self.run.lead();
         coordinator.is_some_and(|a| self.step(record(3, a, 0, 0, 0)).answer == TAKEN)
     }
 
@@ -436,11 +446,15 @@ impl Planner<'_> {
         if self.begin() {
             let steps = self.run.dice.between(1, 60);
             self.drive(steps);
-            self.fail_scene();
+            if self.run.wishes.trips() && self.chance(500) {
+                self.trip_scene();
+            } else {
+                self.fail_scene();
+            }
         }
     }
 
-    /// The coordinator fails right after its commit, or when few have taken the resume.
+    /// The coordinator fails or trips right after its commit, or when few have taken the resume.
     fn strike_scene(&mut self) {
         self.settle_mostly();
         if !self.save_up_to_commit() {
@@ -456,6 +470,7 @@ impl Planner<'_> {
         if let Some(record) = self.run.strike_at_commit() {
             self.step(record);
         }
+        self.ask_some_to_wait();
         self.settle_mostly();
     }
 
@@ -463,11 +478,109 @@ impl Planner<'_> {
         if let Some(cabinet) = self.run.some_failing_with(|crash| crash.is_none()) {
             self.step(record(10, cabinet, 0, 0, 0));
         }
+        self.recover_mostly();
+    }
+
+    fn recover_mostly(&mut self) {
         if self.chance(200) {
             let steps = self.run.dice.between(1, 20);
             self.drive(steps);
         } else {
             self.settle();
+        }
+    }
+
+    fn trip_scene(&mut self) {
+        let trip = self.run.trip_that_cuts_off().or_else(|| self.run.safe_trip());
+        trip.map(|record| self.step(record));
+        self.ask_some_to_wait();
+        self.recover_mostly();
+    }
+
+    /// Who may not, or not yet.
+    fn ask_some_to_wait(&mut self) {
+        for _ in 0..self.run.dice.below(12) {
+            if let Some(record) = self.run.refused_wait_over() {
+                self.step(record);
+            }
+            self.drive_once();
+        }
+    }
+
+    /// One cabinet trips again and again, mostly after each recovery.
+    fn stumble_scene(&mut self) {
+        self.settle();
+        let safe = self.run.cabinets_safe_to_trip();
+        let any = self.run.dice.pick_any(&safe);
+        let next = self.run.next_to_lead().filter(|next| safe.contains(next));
+        let next = next.filter(|_| self.chance(500));
+        let Some(cabinet) = next.or(any) else {
+            return;
+        };
+        for _ in 0..self.run.dice.between(3, 4) {
+            if self.run.group.trip_is_a_fail(cabinet) {
+                let towards = self.run.trip_towards_its_third(cabinet);
+                towards.map(|record| self.step(record));
+                self.settle();
+            }
+            let safe = self.run.cabinets_safe_to_trip().contains(&cabinet);
+            if !safe && !self.chance(150) {
+                return;
+            }
+            self.step(record(13, cabinet, 0, 0, 0));
+            if self.chance(950) {
+                self.settle();
+                self.between_trips();
+            }
+        }
+    }
+
+    /// A return, a commit or a save passed over, or nothing that counts.
+    fn between_trips(&mut self) {
+        match self.run.dice.below(8) {
+            0 => self.settled_return(),
+            1 => self.save_and_settle(),
+            2 | 3 => self.strike_scene(),
+            4 => self.trade_scene(),
+            _ => {}
+        }
+        self.settle();
+    }
+
+    /// Somebody trips where others are about to find a link fault or to commit.
+    fn sly_trip_scene(&mut self) {
+        self.settle();
+        if self.run.wishes.damage && self.chance(700) {
+            self.hurt_a_line();
+        }
+        if !self.begin() {
+            return;
+        }
+        let with_its_own = self.chance(600);
+        for _ in 0..ENOUGH_STEPS {
+            let beside = self.run.trip_beside_a_link_fault();
+            let trip = beside.or_else(|| self.run.trip_before_the_reports(with_its_own));
+            if let Some(trip) = trip {
+                self.step(trip);
+                self.take_what_follows();
+                break;
+            }
+            if self.drive_once().is_none() {
+                break;
+            }
+        }
+        self.settle_mostly();
+    }
+
+    fn hurt_a_line(&mut self) {
+        let Some((from, to)) = self.send_some() else {
+            return;
+        };
+        let pattern = self.run.dice.between(1, 65_535) as u16;
+        let hurts = [record(11, from, to, 0, pattern), record(12, from, to, 0, 0)];
+        let hurt = self.run.dice.pick(&hurts);
+        if !self.run.dangerous_to_hurt(from, to) {
+            self.step(hurt);
         }
     }
 
@@ -547,9 +660,28 @@ impl Planner<'_> {
     }
 
     fn crash_scene(&mut self) {
-        let by_loss = self.run.wishes.damage && self.chance(400);
-        let record = if by_loss { self.loss_in_recovery() } else { self.run.crashing_fail() };
+        let by_loss = self.run.wishes.damage && self.chance(300);
+        let by_trip = self.run.wishes.trips() && self.chance(600);
+        let record = if by_loss {
+            self.loss_in_recovery()
+        } else if by_trip {
+            self.crashing_trip()
+        } else {
+            self.run.crashing_fail()
+        };
         record.map(|record| self.step(record));
+    }
+
+    /// Now and then in a recovery begun for it.
+    fn crashing_trip(&mut self) -> Option<Record> {
+        self.settle();
+        if self.chance(400) {
+            let trip = self.run.safe_trip();
+            trip.map(|record| self.step(record));
+            let steps = self.run.dice.below(20);
+            self.drive(steps);
+        }
+        self.run.crashing_trip()
     }
 
     /// Of a packet put before the recovery, if a line still holds one.
@@ -635,10 +767,15 @@ impl Planner<'_> {
 
     fn recovery_after_trade(&mut self) {
         self.trade_scene();
-        let fails: Option<Number> = self.run.some_failing_with(|crash| crash.is_none());
-        match fails {
-            Some(cabinet) => {
-                self.step(record(10, cabinet, 0, 0, 0));
+        let fault = if self.run.wishes.trips() && self.chance(500) {
+            self.run.safe_trip()
+        } else {
+            let cabinet = self.run.some_failing_with(|crash| crash.is_none());
+            cabinet.map(|cabinet| record(10, cabinet, 0, 0, 0))
+        };
+        match fault {
+            Some(record) => {
+                self.step(record);
                 self.settle();
             }
             None if self.run.wishes.damage => self.damage_scene(),
@@ -652,10 +789,12 @@ impl Planner<'_> {
 #[cfg(test)]
 mod tests {
     use super::*;
-    use crate::cases::case_seed;
+    use crate::cases::{case_seed, make_case};
     use crate::evening::{counted_evening, operation, Operation, Sight};
     use crate::listing::Tally;
     use crate::model::{booking_in, Image, Outlet};
+    use crate::trips::Between;
+    use std::collections::BTreeSet;
 
     fn wishes(damage: bool) -> Wishes {
         Wishes { damage, highest_kind: KINDS, cabinets: None }
@@ -685,6 +824,9 @@ mod tests {
         assert!(tally.point_answers.keys().eq(&[0, 10, 22, 23]));
         assert!(tally.return_answers.keys().eq(&[0, 10, 21, 22]));
         assert!(tally.sights.keys().eq(&Sight::ALL));
+        let after_two = [Between::Commit, Between::CommitPassedOver];
+        assert!(tally.trips.after_two.keys().eq(&after_two));
+        assert!(tally.trips.link_faults > 0 && tally.trips.commits > 0);
     }
 
     /// The saves as the documents tell them: images at the cuts, points returned to, and what
@@ -744,7 +886,7 @@ mod tests {
         }
     }
 
-    /// Takes one operation and tells it.
+    /// Takes one operation and tells it. What a recovery leaves is the save told.
     fn take(told: &mut Told, group: &mut Group, points: &mut Points, operation: Operation) {
         match operation {
             Operation::Step(record) => {
@@ -752,6 +894,10 @@ mod tests {
                 let event = group.step(&record, KINDS).event;
                 told.note_cuts(&before, group);
                 told.note_event(event, group);
+                if matches!(event, Event::RecoveryEnd { .. }) {
+                    assert!(group.numbers().all(|c| group.image(c) == told.image(group, c)));
+                    assert_eq!(versions(group).len(), 1);
+                }
             }
             Operation::Point(name) => {
                 points.take(group, name);
@@ -762,6 +908,12 @@ mod tests {
                 }
             }
         }
+    }
+
+    /// Of the working cabinets, as they are printed.
+    fn versions(group: &Group) -> BTreeSet<String> {
+        let working = group.working_cabinets().into_iter();
+        working.map(|c| format!("{:?}", group.cabinet(c).version)).collect()
     }
 
     fn total(images: impl Iterator<Item = Image>) -> u32 {
@@ -787,11 +939,25 @@ mod tests {
     }
 
     /// What a point would keep in each quiet moment is the save that the documents name, with
-    /// failed cabinets' images, and adds up to the feeder's total; damage or not.
+    /// failed cabinets' images, and adds up to the feeder's total; damage or not. What each
+    /// recovery leaves is that save too, with tripped cabinets' images.
     #[test]
     fn points_keep_the_saves_that_the_documents_name() {
         for index in 0..400 {
             check_against_told(&make_plan_case(case_seed(9, index), wishes(index % 2 == 0)));
+        }
+    }
+
+    fn as_plan(case: Case) -> Case {
+        let records = case.steps.chunks_exact(6);
+        let steps = records.flat_map(|record| [&[0], record, &[0, 0]].concat()).collect();
+        Case { steps, ..case }
+    }
+
+    #[test]
+    fn cases_without_a_plan_keep_them_too() {
+        for index in 0..200 {
+            check_against_told(&as_plan(make_case(case_seed(9, index), wishes(index % 2 == 0))));
         }
     }
 }

@@ -1,28 +1,31 @@
 -- Theorems on the step entry: what its answers are, that a refusal changes nothing, and when and how the group crashes.
-use Prim.Native.Nat.{ℕ, _-_}
+use Prim.Native.Nat.{ℕ, _+_, _-_, _<_, _≤_}
 use mathlib.Core.Path.{_≡_, refl}
-use mathlib.Core.Bool.{Bool, true, false, not, _||_}
+use mathlib.Core.Bool.{Bool, true, false, cond, not, _&&_, _||_}
 use mathlib.Core.List.{List, _∷_}
 use mathlib.Core.Logic.{_↔_, _⊎_, inl, inr}
 use lib.ListN.{set}
+use lib.Dec.{eqb, ltb}
+use borrow.Author.Tests.{ltb-true, ltb-false}
+use native.Mathlib.Omega.{arith}
 use Rattle.marks.specs.Marks.{marked}
 use Rattle.marks.specs.Reach.{connected}
 use Rattle.line.specs.Line.{oldest}
 use Rattle.group.specs.declared.Group.{Group}
 use Rattle.group.specs.declared.Outcome.{Outcome}
-use Rattle.cabinet.specs.Cabinet.{inUse}
-use Rattle.group.specs.Group.{cabinet, line, some, working, recoveringOnes, taken, crashAll}
+use Rattle.cabinet.specs.Cabinet.{inUse, coordinator}
+use Rattle.group.specs.Group.{cabinet, line, some, working, recoveringOnes, tripsOf, taken, crashAll}
 use Rattle.protocol.specs.declared.Step.{Step}
-use Rattle.protocol.specs.declared.Step.the-variants.{Send, Note, Begin, Deliver, Write, Saved, Fetch, Restored, WaitOver, Fail, Damage, Lose}
+use Rattle.protocol.specs.declared.Step.the-variants.{Send, Note, Begin, Deliver, Write, Saved, Fetch, Restored, WaitOver, Fail, Damage, Lose, Trip}
 use Rattle.protocol.specs.declared.Decoded.{Decoded}
 use Rattle.protocol.specs.declared.Decoded.the-variants.{Malformed, Unused, Taken}
-use Rattle.protocol.specs.Kinds.{need, orRefuse, sendStep, noteStep, beginStep, deliverRefusal, delivered, deliverStep, writeStep, savedStep, fetchStep, restoredStep, waitOverStep, failCrashes, failStep, damageRefusal, damageStep, loseRefusal, loseStep}
+use Rattle.protocol.specs.Kinds.{need, orRefuse, sendStep, noteStep, beginStep, deliverRefusal, delivered, deliverStep, writeStep, savedStep, fetchStep, restoredStep, waitOverStep, failCrashes, failStep, damageRefusal, damageStep, loseRefusal, loseStep, tripCrashes, tripOnce, tripStep}
 use Rattle.protocol.specs.Entry.{decode, actorWorks, entryRefusal, perform, stepDecoded, step}
 use Rattle.protocol.specs.Answers.{among, workNumbers, kindNumbers, refusalNumbers, kindRefusal}
 use Rattle.protocol.specs.Crash.{SomeRecovers, Unreached, soundLinks, LineInUse, Cause, Crashes}
-use Rattle.protocol.specs.Crash.Cause.{store-fails, fails-in-recovery, damage-in-recovery, loss-in-recovery, places-meet, fail-parts, link-parts}
+use Rattle.protocol.specs.Crash.Cause.{store-fails, fails-in-recovery, damage-in-recovery, loss-in-recovery, places-meet, fail-parts, link-parts, store-trips, trips-in-recovery, coordinator-trips, third-trip}
 use Rattle.protocol.specs.Crash.Crashes.{crashes}
-use Rattle.claims.proofs.Answers.Tests.{Reflects, itself, or-reflects, some-recovers, not-reached}
+use Rattle.claims.proofs.Answers.Tests.{Reflects, itself, or-reflects, and-reflects, same-number, some-recovers, not-reached}
 use Rattle.claims.proofs.Answers.Answer.{Listed, checks, Answer, recast, refusing, guarded, only-if, crash-if, keeps, listed, crashes-all, exactly}
 use Rattle.claims.proofs.Answers.Answer.Listed.{nothing}
 use Rattle.claims.proofs.Answers.Answer.Answer.{took, refused}
@@ -44,6 +47,7 @@ kind-listed g (WaitOver a) = search (checks, nothing)
 kind-listed g (Fail a) = nothing
 kind-listed g (Damage a b p q) = search (checks, nothing)
 kind-listed g (Lose a b p) = search (checks, nothing)
+kind-listed g (Trip a) = nothing
 
 -- what a step that passed checks 8 to 12 answers
 abbrev Answers : Group → Step → Outcome → Type 0
@@ -87,6 +91,66 @@ fail-causes g a = (λ e. to (found .0 e), λ c. found .1 (from c))
 fail-answers : (g : Group) (a : ℕ) → Answers g (Fail a) (failStep g (a - 1))
 unfolding failStep
 fail-answers g a = recast (λ c. (refl, c), λ p. p .1) (crash-if (failCrashes g (a - 1)) _ (fail-causes g a))
+
+-- ---- trip
+
+module _ (g : Group) (a : ℕ) where
+  -- a left out, some working cabinet is not reached
+  abbrev Parted : Type 0
+  Parted = Unreached (soundLinks g) (set (working g) (a - 1) false)
+
+  abbrev Tripping : Type 0
+  Tripping = (cabinet g (a - 1) .store ≡ true) ⊎ (SomeRecovers g ⊎ ((coordinator (cabinet g (a - 1)) ≡ a - 1) × Parted))
+
+  abbrev parted : Bool
+  parted = not (connected (soundLinks g) (set (working g) (a - 1) false))
+
+  trip-found : Reflects (tripCrashes g (a - 1)) Tripping
+  trip-found =
+      or-reflects (cabinet g (a - 1) .store) (some (recoveringOnes g) || (eqb (coordinator (cabinet g (a - 1))) (a - 1) && parted)) (itself (cabinet g (a - 1) .store))
+      (or-reflects (some (recoveringOnes g)) (eqb (coordinator (cabinet g (a - 1))) (a - 1) && parted) (some-recovers g)
+      (and-reflects (eqb (coordinator (cabinet g (a - 1))) (a - 1)) parted (same-number (coordinator (cabinet g (a - 1))) (a - 1))
+      (not-reached (soundLinks g) (set (working g) (a - 1) false))))
+
+  -- a first or second one
+  trip-causes : tripsOf g (a - 1) < 2 → Reflects (tripCrashes g (a - 1)) (Cause g (Trip a))
+  trip-causes few = (λ e. to (trip-found .0 e), λ c. trip-found .1 (from c))
+    where
+      to : Tripping → Cause g (Trip a)
+      to (inl p) = store-trips p
+      to (inr (inl r)) = trips-in-recovery r
+      to (inr (inr (e, u))) = coordinator-trips e (fail-parts u)
+
+      -- a coordinator's fail crashes by its store, by a recovery or by reach, and so does its trip
+      from : Cause g (Trip a) → Tripping
+      from (store-trips p) = inl p
+      from (trips-in-recovery r) = inr (inl r)
+      from (coordinator-trips e (store-fails p)) = inl p
+      from (coordinator-trips e (fails-in-recovery r)) = inr (inl r)
+      from (coordinator-trips e (fail-parts u)) = inr (inr (e, u))
+      from (third-trip l c) = absurd (omega arith)
+
+  -- a third one is a fail
+  third-causes : 2 ≤ tripsOf g (a - 1) → Cause g (Fail a) ↔ Cause g (Trip a)
+  third-causes l = (λ c. third-trip l c, from)
+    where
+      from : Cause g (Trip a) → Cause g (Fail a)
+      from (store-trips p) = store-fails p
+      from (trips-in-recovery r) = fails-in-recovery r
+      from (coordinator-trips e c) = c
+      from (third-trip l c) = c
+
+  trip-answers : Answers g (Trip a) (tripStep g (a - 1))
+  unfolding tripStep tripOnce
+  trip-answers = go (ltb (tripsOf g (a - 1)) 2) refl
+    where
+      go : (t : Bool) → ltb (tripsOf g (a - 1)) 2 ≡ t
+          → Answers g (Trip a) (cond t (tripOnce g (a - 1) (tripsOf g (a - 1) + 1)) (failStep g (a - 1)))
+      go true e =
+          recast (λ c. (refl, c), λ p. p .1) (crash-if (tripCrashes g (a - 1)) _ (trip-causes (ltb-true (tripsOf g (a - 1)) 2 e)))
+      go false e =
+          let c = third-causes (ltb-false (tripsOf g (a - 1)) 2 e) in
+          recast (λ p. (refl, c .0 (p .1)), λ p. (refl, c .1 (p .1))) (fail-answers g a)
 
 -- ---- damage
 
@@ -144,6 +208,7 @@ performs g (WaitOver a) = harmless g (WaitOver a) _ (λ c. elim c [ ])
 performs g (Fail a) = fail-answers g a
 performs g (Damage a b p q) = damage-answers g a b p q
 performs g (Lose a b p) = lose-answers g a b p
+performs g (Trip a) = trip-answers g a
 
 -- ---- checks 8 to 12
 
@@ -160,6 +225,7 @@ work-listed g (WaitOver a) = search (checks, nothing)
 work-listed g (Fail a) = search (checks, nothing)
 work-listed g (Damage a b p q) = nothing
 work-listed g (Lose a b p) = search (checks, nothing)
+work-listed g (Trip a) = search (checks, nothing)
 
 entry-listed : (g : Group) (s : Step) → Listed (10 ∷ 11 ∷ workNumbers s) (entryRefusal g s)
 entry-listed g s = search (checks, work-listed)
@@ -191,6 +257,7 @@ not-fifty (Taken (WaitOver a)) = refl
 not-fifty (Taken (Fail a)) = refl
 not-fifty (Taken (Damage a b p q)) = refl
 not-fifty (Taken (Lose a b p)) = refl
+not-fifty (Taken (Trip a)) = refl
 
 -- ---- the theorems
 

@@ -12,7 +12,7 @@ use Rattle.marks.specs.MarksLaws.{lowest-marked, lowest-le-marked}
 use Rattle.marks.specs.ReachLaws.{path-reached, connected-paths}
 use Rattle.packet.specs.declared.Check.{Check}
 use Rattle.packet.specs.declared.Place.{Place}
-use Rattle.packet.specs.declared.Place.the-variants.{Cabinet as AtCabinet, Link as AtLink}
+use Rattle.packet.specs.declared.Place.the-variants.{Failed as AtFailed, Tripped as AtTripped, Link as AtLink}
 use Rattle.packet.specs.Packet.{sameCheck, samePlace}
 use Rattle.state.specs.declared.State.{State}
 use Rattle.state.specs.declared.State.the-variants.{Failed, Normal, CheckpBegin, Checkpointing, Checkpointed, Error, Recovering, Recovered, Crashed}
@@ -102,13 +102,18 @@ serves-or-recovers s p r = apart s (in-serving s .1 p) (in-recovery s .1 r)
 
 -- ---- fault places and check values
 
-same-number : (a b : ℕ) → Reflects (eqb a b) (a ≡ b)
+pub same-number : (a b : ℕ) → Reflects (eqb a b) (a ≡ b)
 same-number a b = (eqb-true a b, eq-eqb a b)
 
 pub same-place : (p q : Place) → Reflects (samePlace p q) (p ≡ q)
-same-place (AtCabinet a) (AtCabinet b) = (λ e. ap AtCabinet (eqb-true a b e), λ e. eq-eqb a b (cc))
-same-place (AtCabinet a) (AtLink b c) = (λ e. absurd (false≢true e), λ e. let z : _≡_ {A = ℕ} 0 1 = cc in absurd (omega arith))
-same-place (AtLink a b) (AtCabinet c) = (λ e. absurd (false≢true e), λ e. let z : _≡_ {A = ℕ} 0 1 = cc in absurd (omega arith))
+same-place (AtFailed a) (AtFailed b) = (λ e. ap AtFailed (eqb-true a b e), λ e. eq-eqb a b (cc))
+same-place (AtFailed a) (AtTripped b) = (λ e. absurd (false≢true e), λ e. let z : _≡_ {A = ℕ} 0 1 = cc in absurd (omega arith))
+same-place (AtFailed a) (AtLink b c) = (λ e. absurd (false≢true e), λ e. let z : _≡_ {A = ℕ} 0 1 = cc in absurd (omega arith))
+same-place (AtTripped a) (AtFailed b) = (λ e. absurd (false≢true e), λ e. let z : _≡_ {A = ℕ} 0 1 = cc in absurd (omega arith))
+same-place (AtTripped a) (AtTripped b) = (λ e. ap AtTripped (eqb-true a b e), λ e. eq-eqb a b (cc))
+same-place (AtTripped a) (AtLink b c) = (λ e. absurd (false≢true e), λ e. let z : _≡_ {A = ℕ} 0 1 = cc in absurd (omega arith))
+same-place (AtLink a b) (AtFailed c) = (λ e. absurd (false≢true e), λ e. let z : _≡_ {A = ℕ} 0 1 = cc in absurd (omega arith))
+same-place (AtLink a b) (AtTripped c) = (λ e. absurd (false≢true e), λ e. let z : _≡_ {A = ℕ} 0 1 = cc in absurd (omega arith))
 same-place (AtLink a b) (AtLink c d) =
     let both = and-reflects (eqb a c) (eqb b d) (same-number a c) (same-number b d) in
     (λ e. let p : a ≡ c = both .0 e .0 in let q : b ≡ d = both .0 e .1 in cc, λ e. both .1 (cc, cc))

@@ -1,4 +1,4 @@
--- Demand 3 for each of the runs of `specs/Examples`, `specs/Returns`, `specs/Outlets` and `specs/Losses`: its premises are met in runs that restore a save.
+-- Demand 3 for each of the runs of `specs/Examples`, `specs/Returns`, `specs/Outlets`, `specs/Losses` and `specs/Trips`: its premises are met in runs that restore a save.
 use Prim.Native.Nat.{ℕ, zero, suc}
 use mathlib.Core.Path.{_≡_, refl, ap, sym, subst, _∙_}
 use mathlib.Core.Bool.{Bool, true, _&&_}
@@ -20,9 +20,11 @@ use Rattle.protocol.specs.Returns.{foundKept, return-first, return-first-finds,
 use Rattle.protocol.proofs.Closed.Examples.{runs-found}
 use Rattle.protocol.specs.Outlets.{both-outlets, both-outlets-finds}
 use Rattle.protocol.specs.Losses.{silent-loss, silent-loss-finds}
+use Rattle.protocol.specs.Trips.{comes-back, comes-back-finds, trip-passed-over, trip-passed-over-finds, trip-after-resume, trip-after-resume-finds, third-trip-fails, third-trip-fails-finds, lead-moves-on, lead-moves-on-finds, middle-trips, middle-trips-finds, trips-while-saving, trips-while-saving-finds}
 use Rattle.protocol.proofs.Closed.Returns.{returns-found}
 use Rattle.protocol.proofs.Closed.Outlets.{outlets-found}
 use Rattle.protocol.proofs.Closed.Losses.{loss-found}
+use Rattle.protocol.proofs.Closed.Trips.{trips-found}
 
 -- ---- octets
 
@@ -118,3 +120,26 @@ both-outlets-restored = demanded both-outlets both-outlets-finds outlets-found r
 
 pub silent-loss-restored : Demanded silent-loss
 silent-loss-restored = demanded silent-loss silent-loss-finds loss-found refl refl refl refl refl
+
+-- recoveries in which a cabinet has tripped
+
+pub comes-back-restored : Demanded comes-back
+comes-back-restored = demanded comes-back comes-back-finds (trips-found .0) refl refl refl refl refl
+
+pub trip-passed-over-restored : Demanded trip-passed-over
+trip-passed-over-restored = demanded trip-passed-over trip-passed-over-finds (trips-found .1) refl refl refl refl refl
+
+pub trip-after-resume-restored : Demanded trip-after-resume
+trip-after-resume-restored = demanded trip-after-resume trip-after-resume-finds (trips-found .2) refl refl refl refl refl
+
+pub third-trip-fails-restored : Demanded third-trip-fails
+third-trip-fails-restored = demanded third-trip-fails third-trip-fails-finds (trips-found .3) refl refl refl refl refl
+
+pub lead-moves-on-restored : Demanded lead-moves-on
+lead-moves-on-restored = demanded lead-moves-on lead-moves-on-finds (trips-found .4) refl refl refl refl refl
+
+pub middle-trips-restored : Demanded middle-trips
+middle-trips-restored = demanded middle-trips middle-trips-finds (trips-found .5) refl refl refl refl refl
+
+pub trips-while-saving-restored : Demanded trips-while-saving
+trips-while-saving-restored = demanded trips-while-saving trips-while-saving-finds (trips-found .6) refl refl refl refl refl

@@ -2,7 +2,7 @@
 use Prim.Native.Nat.{ℕ, zero, suc, _-_, _<_}
 use mathlib.Core.Path.{_≡_, refl, sym, ap, _∙_, subst}
 use mathlib.Core.Logic.{⊎-elim}
-use mathlib.Core.Bool.{Bool, true, false, not, _&&_}
+use mathlib.Core.Bool.{Bool, true, false, not, _&&_, _||_}
 use mathlib.Core.List.{List, [], _∷_, _++_}
 use lib.ListN.{getD}
 use lib.Dec.{eqb, ltb}
@@ -13,20 +13,21 @@ use Rattle.packet.specs.declared.Packet.the-variants.{Normal as NormalPacket}
 use Rattle.line.specs.declared.Cell.{Cell}
 use Rattle.packet.specs.Packet.{isEmpty}
 use Rattle.line.specs.Line.{emptyCell, oldest}
+use Rattle.state.specs.State.{works}
 use Rattle.group.specs.declared.Group.{Group}
 use Rattle.group.specs.declared.Outcome.{Outcome}
-use Rattle.group.specs.Group.{cabinet, stateOf, line, rowsOf, isCrashed, some, recoveringOnes}
+use Rattle.group.specs.Group.{cabinet, stateOf, line, rowsOf, isCrashed, some, recoveringOnes, tripsOf}
 use Rattle.load.specs.Load.{feederTotal}
 use Rattle.protocol.specs.declared.Step.{Step}
-use Rattle.protocol.specs.declared.Step.the-variants.{Send, Note, Begin, Deliver, Write, Saved, Fetch, Restored, WaitOver, Fail, Damage, Lose}
+use Rattle.protocol.specs.declared.Step.the-variants.{Send, Note, Begin, Deliver, Write, Saved, Fetch, Restored, WaitOver, Fail, Damage, Lose, Trip}
 use Rattle.protocol.specs.declared.Decoded.the-variants.{Taken}
-use Rattle.protocol.specs.Kinds.{need, orRefuse, sendRefusal, carried, sent, sendStep, noteRefusal, noteStep, beginRefusal, beginStep, deliverRefusal, deliverStep, writeRefusal, writeStep, savedRefusal, savedStep, fetchRefusal, fetchStep, restoredRefusal, restoredStep, waitOverRefusal, waitOverStep, failCrashes, failStep, damageRefusal, hurt, damageStep, loseRefusal, lost, loseStep}
+use Rattle.protocol.specs.Kinds.{need, orRefuse, sendRefusal, carried, sent, sendStep, noteRefusal, noteStep, beginRefusal, beginStep, deliverRefusal, deliverStep, writeRefusal, writeStep, savedRefusal, savedStep, fetchRefusal, fetchStep, restoredRefusal, restoredStep, waitOverRefusal, waitOverStep, failCrashes, failStep, damageRefusal, hurt, damageStep, loseRefusal, lost, loseStep, tripCrashes, tripOnce, tripStep}
 use Rattle.protocol.specs.Entry.{step, stepDecoded, decode, firstOf, secondOf, actorWorks, isCabinet, entryRefusal, perform}
 use Rattle.protocol.specs.History.{History}
 use Rattle.protocol.specs.Restored.{worldAfter}
 use Rattle.claims.specs.Bounds.{packets}
 use Rattle.claims.specs.Fifo.{handled, cameFrom, lineAfter, FirstInFirstOut, PacketsFirst}
-use Rattle.claims.proofs.State.Fun.{is-true, and-true, not-true-false, cond-elim, kept-at}
+use Rattle.claims.proofs.State.Fun.{never, is-true, is-false, and-true, or-left, or-right, not-true-false, cond-elim, kept-at}
 use Rattle.claims.proofs.State.Every.{passed, Fits, FitsIn, decode-fits, every-step}
 use Rattle.claims.proofs.State.View.{View, Own, view}
 use Rattle.claims.proofs.State.Cells.{Packed, nothing-there}
@@ -39,9 +40,8 @@ use Rattle.claims.proofs.Moves.Sending.{seen as send-seen}
 use Rattle.claims.proofs.Moves.Damaging.{hit, seen as damage-seen}
 use Rattle.claims.proofs.Moves.Losing.{left, seen as lose-seen}
 use Rattle.claims.proofs.Fifo.Unbounded.{Unbounded, idle-same, still}
-use Rattle.claims.proofs.Fifo.Alarms.{puts-fail}
-use Rattle.claims.proofs.Moves.FailStep.{nobody}
-use Rattle.claims.proofs.Fifo.Rooms.{no-line}
+use Rattle.claims.proofs.Fifo.Alarms.{puts-fail, puts-trip}
+use Rattle.claims.proofs.Fifo.Rooms.{ready}
 use Rattle.claims.proofs.Fifo.Delivers.{line-at, puts-deliver}
 use Rattle.claims.proofs.Fifo.Steps.{cabinet-puts, fetch-puts, write-puts, begin-puts, wait-puts, saved-puts, restored-puts}
 use Rattle.claims.proofs.Claims.Stepping.{below}
@@ -67,8 +67,27 @@ module _ (total : ℕ) (g : Group) (h : History) (γ : Ghost) (w : Fit g) (i : I
   at : (x : ℕ) → isCabinet g x ≡ true → (x - 1 < g .n) × (x - 1 < 8)
   at = below total g h γ w i past
 
+  -- nobody recovers where a fail or a trip does not crash the group
+  second : (s t u : Bool) → (s || (t || u)) ≡ false → t ≡ false
+  second s t u e = is-false t (λ f. never (or-right s (t || u) (or-left t u f)) e)
+
+  failed : (a : ℕ) → isCabinet g a ≡ true → works (stateOf g (a - 1)) ≡ true → Owed (Fail a) (failStep g (a - 1))
+  unfolding failStep
+  failed a x o =
+      cond-elim (Owed (Fail a)) (failCrashes g (a - 1)) (λ _ e. absurd (omega arith))
+      (λ e _. puts-fail (λ c d. false) g w (a - 1) (at a x .1) (ready total g γ w i (a - 1) o (second (cabinet g (a - 1) .store) (some (recoveringOnes g)) _ e)))
+
+  -- a third trip is a fail
+  tripped : (a : ℕ) → isCabinet g a ≡ true → works (stateOf g (a - 1)) ≡ true → Owed (Trip a) (tripStep g (a - 1))
+  unfolding tripStep tripOnce
+  tripped a x o =
+      cond-elim (Owed (Trip a)) (ltb (tripsOf g (a - 1)) 2)
+      (λ _. cond-elim (Owed (Trip a)) (tripCrashes g (a - 1)) (λ _ e. absurd (omega arith))
+      (λ e _. puts-trip (λ c d. false) g w (a - 1) _ (at a x .1) (ready total g γ w i (a - 1) o (second (cabinet g (a - 1) .store) (some (recoveringOnes g)) _ e))))
+      (λ _. failed a x o)
+
   performed : (s : Step) → Fits s → isCabinet g (firstOf s) ≡ true → isCabinet g (secondOf s) ≡ true → actorWorks g s ≡ true → Owed s (perform g s)
-  unfolding sendStep noteStep beginStep deliverStep writeStep savedStep fetchStep restoredStep waitOverStep failStep damageStep loseStep
+  unfolding sendStep noteStep beginStep deliverStep writeStep savedStep fetchStep restoredStep waitOverStep damageStep loseStep
   performed (Send a b p q) f x y o =
       checked (Send a b p q) (sendRefusal g (a - 1) (b - 1) p q) _ (λ e _.
       let seen = send-seen total g h γ w i past (a - 1) (b - 1) p q (at a x .1) (at b y .1) f e in
@@ -85,9 +104,7 @@ module _ (total : ℕ) (g : Group) (h : History) (γ : Ghost) (w : Fit g) (i : I
   performed (Fetch a) f x y o = checked (Fetch a) (fetchRefusal g (a - 1)) _ (λ e _. fetch-puts total g γ w i (a - 1) (at a x .1) e)
   performed (Restored a) f x y o = checked (Restored a) (restoredRefusal g (a - 1)) _ (λ e _. restored-puts total g γ w i (a - 1) (at a x .1) e)
   performed (WaitOver a) f x y o = checked (WaitOver a) (waitOverRefusal g (a - 1)) _ (λ e _. wait-puts total g γ w i (a - 1) (at a x .1) o e)
-  performed (Fail a) f x y o = cond-elim (Owed (Fail a)) (failCrashes g (a - 1)) (λ _ e. absurd (omega arith))
-      (λ e _. puts-fail (λ c d. false) g w (a - 1) (at a x .1) o (nobody total g h γ w i past (a - 1) (at a x .1) (at a x .0) o e) (λ c. i .core .nodes c .running)
-      (no-line total g γ w i))
+  performed (Fail a) f x y o = failed a x o
   performed (Damage a b p q) f x y o =
       checked (Damage a b p q) (damageRefusal g (a - 1) (b - 1) p q) _ (λ e.
       cond-elim (Owed (Damage a b p q)) (some (recoveringOnes g)) (λ _ d. absurd (omega arith)) (λ r _.
@@ -100,6 +117,7 @@ module _ (total : ℕ) (g : Group) (h : History) (γ : Ghost) (w : Fit g) (i : I
       let seen = lose-seen total g h γ w i past (a - 1) (b - 1) p (at a x .1) (at b y .1) e r in
       line-ends (Lose a b p) (view (lost g (a - 1) (b - 1) p)) (λ c. ap (λ (u : View). u .own c .state) seen)
       (λ c d. ap (λ (u : View). u .lines c d) seen ∙ line-at (v .lines) (λ l. left l p) (a - 1) (b - 1) c d)))
+  performed (Trip a) f x y o = tripped a x o
 
   -- the checks that come before every step
   entered : (s : Step) → Fits s → Owed s (orRefuse (entryRefusal g s) g (perform g s))

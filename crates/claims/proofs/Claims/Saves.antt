@@ -14,7 +14,7 @@ use Rattle.packet.specs.Packet.{isEmpty}
 use Rattle.line.specs.Line.{packetAt}
 use Rattle.state.specs.declared.State.the-variants.{Checkpointing, Checkpointed, Recovering}
 use Rattle.state.specs.declared.Version.{Version}
-use Rattle.state.specs.declared.Version.the-variants.{Known, Unknown}
+use Rattle.state.specs.declared.Version.the-variants.{Known, Unknown, Lost}
 use Rattle.image.specs.declared.Image.{Image}
 use Rattle.state.specs.State.{isIn, works, inRestoring, isUnknown, bitOf}
 use Rattle.image.specs.Image.{booked}
@@ -26,11 +26,11 @@ use Rattle.load.specs.Load.{load, feederTotal}
 use Rattle.protocol.specs.declared.Step.the-variants.{Saved}
 use Rattle.protocol.specs.declared.Decoded.{Decoded}
 use Rattle.protocol.specs.declared.Decoded.the-variants.{Taken}
-use Rattle.protocol.specs.Kinds.{need, orRefuse, writeRefusal, fetchRefusal, savedRefusal, savedStep, reportSaved, commitIfAll}
+use Rattle.protocol.specs.Kinds.{need, orRefuse, writeRefusal, fetchRefusal, waitOverRefusal, savedRefusal, savedStep, reportSaved, commitIfAll}
 use Rattle.protocol.specs.Entry.{step, stepDecoded, entryRefusal, isCabinet}
 use Rattle.protocol.specs.History.{Cut, Save, History, Operation, advance, commits, noteCommit, recordDecoded, latest, newest, imageNow}
 use Rattle.protocol.specs.Restored.{Octets, AllOctets, worldAfter, Balanced, amperes}
-use Rattle.claims.specs.Saves.{Commits, savedTotal, CommitsWhole, CommitsUnhurt, CommitsBetweenResumes, TakesResume, ResumeOfNewest, VersionsNameNewest, KnownWhereUsed, FetchedOfNewest, CutsSinceBegin}
+use Rattle.claims.specs.Saves.{Commits, savedTotal, CommitsWhole, CommitsUnhurt, CommitsBetweenResumes, TakesResume, ResumeOfNewest, VersionsNameNewest, KnownWhereUsed, WaitedByOld, FetchedOfNewest, CutsSinceBegin}
 use Rattle.claims.proofs.State.Fun.{never, is-true, and-true, and-intro, not-true-false, cond-elim, sum-cong}
 use Rattle.claims.proofs.State.Every.{passed}
 use Rattle.claims.proofs.State.Counting.{step-n}
@@ -43,6 +43,7 @@ use Rattle.claims.proofs.Invariant.Past.{held-now, cut-held, tops-add}
 use Rattle.claims.proofs.Invariant.Words.{un-of}
 use Rattle.claims.proofs.Moves.Waking.{resume-open, resume-fresh}
 use Rattle.claims.proofs.Moves.Saving.{chief-alive, all-wrote}
+use Rattle.claims.proofs.Moves.WaitingOver.{waits-by-old}
 use Rattle.claims.proofs.Claims.Stepping.{below}
 use Rattle.claims.proofs.Claims.Demand.{Runs, open-step, taken-runs, count-after}
 use Rattle.claims.proofs.Claims.Bounds.{running}
@@ -92,6 +93,19 @@ module _ (total : ℕ) (g : Group) (h : History) (w : Runs total g h) where
           names-newest a home (ap works (in-state (stateOf g a) Recovering .0 (one .0)))
           (restoring-works (stateOf g home) (passed (inRestoring (stateOf g home)) 18 0 (one .1) .0) .4) v is
       go (Unknown v) is k = absurd (true≢false k)
+      go Lost is k = absurd (true≢false k)
+
+  -- the old version names the newest save
+  waited-newest : (a : ℕ) → waitOverRefusal g a ≡ 0
+      → (v : Bool) × (cabinet g a .phase .version ≡ Unknown v) × ((c : ℕ) → works (stateOf g c) ≡ true → (y : Cut) × (latest h .cut c ≡ some y) × (slot g c v ≡ y .image))
+  waited-newest a e =
+      let o = waits-by-old total g γ (w .inv) a e in (
+        o .0,
+        o .1,
+        λ c wc.
+            let y = cut-held (w .inv) (w .past) c wc in
+            (y .0, y .1, ap (slot g c) (o .2) ∙ w .inv .core .nodes c .slotTop (w .inv .core .nodes c .placed wc) ∙ sym (y .2)),
+      )
 
   -- ---- begins
 
@@ -134,6 +148,9 @@ module _ (total : ℕ) (g : Group) (h : History) (w : Runs total g h) where
 
   whole-save : Whole (g .n)
   whole-save = (w .past .balanced, (λ c l. (γ .mind c .top, held-image c l)), saved-sum ∙ tops-add (w .inv) (w .past))
+
+pub waited-by-old : WaitedByOld
+waited-by-old f of e xs o c a = waited-newest _ _ _ (running f of e xs o c) a
 
 pub known-where-used : KnownWhereUsed
 known-where-used f of e xs o c a = let w = running f of e xs o c in (writes-known _ _ _ w a, fetches-known _ _ _ w a)

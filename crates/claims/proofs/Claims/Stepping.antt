@@ -1,9 +1,9 @@
 -- Every step from a group that meets the invariant: it is refused and nothing changes, the group crashes, or the invariant holds again;
 -- and where a coordinator ends a recovery in it, demand 3 holds.
-use Prim.Native.Nat.{ℕ, _-_, _<_, _≤_}
+use Prim.Native.Nat.{ℕ, _+_, _-_, _<_, _≤_}
 use mathlib.Core.Path.{_≡_}
 use mathlib.Core.Bool.{true, false, not, _&&_}
-use lib.Dec.{eqb, leb}
+use lib.Dec.{eqb, ltb, leb}
 use borrow.Author.Tests.{eqb-true, eqb-false, leb-true}
 use native.Mathlib.Omega.{arith}
 use Rattle.marks.specs.Reach.{mark}
@@ -11,10 +11,10 @@ use Rattle.packet.specs.Packet.{isEmpty}
 use Rattle.line.specs.Line.{oldest}
 use Rattle.group.specs.declared.Group.{Group}
 use Rattle.group.specs.declared.Outcome.{Outcome}
-use Rattle.group.specs.Group.{line, rowsOf, isCrashed, some, recoveringOnes}
+use Rattle.group.specs.Group.{line, rowsOf, tripsOf, isCrashed, some, recoveringOnes}
 use Rattle.protocol.specs.declared.Step.{Step}
-use Rattle.protocol.specs.declared.Step.the-variants.{Send, Note, Begin, Deliver, Write, Saved, Fetch, Restored as RestoredStep, WaitOver, Fail, Damage, Lose}
-use Rattle.protocol.specs.Kinds.{orRefuse, sendRefusal, sendStep, noteRefusal, noteStep, beginRefusal, beginStep, deliverRefusal, deliverStep, writeRefusal, writeStep, savedRefusal, savedStep, fetchRefusal, fetchStep, restoredRefusal, restoredStep, waitOverRefusal, waitOverStep, failCrashes, failStep, damageRefusal, damageStep, loseRefusal, loseStep}
+use Rattle.protocol.specs.declared.Step.the-variants.{Send, Note, Begin, Deliver, Write, Saved, Fetch, Restored as RestoredStep, WaitOver, Fail, Damage, Lose, Trip}
+use Rattle.protocol.specs.Kinds.{orRefuse, sendRefusal, sendStep, noteRefusal, noteStep, beginRefusal, beginStep, deliverRefusal, deliverStep, writeRefusal, writeStep, savedRefusal, savedStep, fetchRefusal, fetchStep, restoredRefusal, restoredStep, waitOverRefusal, waitOverStep, failCrashes, failStep, damageRefusal, damageStep, loseRefusal, loseStep, tripCrashes, tripOnce, tripStep}
 use Rattle.protocol.specs.Entry.{firstOf, secondOf, actorWorks, isCabinet, entryRefusal, perform}
 use Rattle.protocol.specs.History.{History}
 use Rattle.claims.proofs.State.Fun.{and-true, cond-elim, not-true-false}
@@ -32,6 +32,7 @@ use Rattle.claims.proofs.Moves.Saving.{keeps-saved}
 use Rattle.claims.proofs.Moves.Damaging.{keeps-damage}
 use Rattle.claims.proofs.Moves.Losing.{keeps-lose}
 use Rattle.claims.proofs.Moves.FailStep.{keeps-fail}
+use Rattle.claims.proofs.Moves.TripStep.{keeps-trip}
 use Rattle.claims.proofs.Moves.WaitingOver.{keeps-wait-over}
 use Rattle.claims.proofs.Moves.Fetching.{keeps-fetch}
 use Rattle.claims.proofs.Moves.RestoredStep.{keeps-restored}
@@ -61,7 +62,7 @@ module _ (total : ℕ) (g : Group) (h : History) (γ : Ghost) (w : Fit g) (i : I
   Named s = (isCabinet g (firstOf s) ≡ true) × (isCabinet g (secondOf s) ≡ true)
 
   performed : (s : Step) → Fits s → Named s → actorWorks g s ≡ true → Owed s (perform g s)
-  unfolding sendStep noteStep beginStep deliverStep writeStep savedStep fetchStep restoredStep waitOverStep failStep damageStep loseStep
+  unfolding sendStep noteStep beginStep deliverStep writeStep savedStep fetchStep restoredStep waitOverStep failStep damageStep loseStep tripStep tripOnce
   performed (Send a b p q) f c o =
       checked (Send a b p q) (sendRefusal g (a - 1) (b - 1) p q) _
       (λ e _. kept-next (keeps-send total g h γ w i past (a - 1) (b - 1) p q (below a (c .0) .1) (below b (c .1) .1) f e))
@@ -98,6 +99,12 @@ module _ (total : ℕ) (g : Group) (h : History) (γ : Ghost) (w : Fit g) (i : I
       checked (Lose a b p) (loseRefusal g (a - 1) (b - 1) p) _
       (λ e. cond-elim (Owed (Lose a b p)) (some (recoveringOnes g)) (λ _ d. absurd (omega arith))
       (λ r _. kept-next (keeps-lose total g h γ w i past (a - 1) (b - 1) p (below a (c .0) .1) (below b (c .1) .1) e r)))
+  performed (Trip a) f c o =
+      cond-elim (Owed (Trip a)) (ltb (tripsOf g (a - 1)) 2)
+      (λ _. cond-elim (Owed (Trip a)) (tripCrashes g (a - 1)) (λ _ e. absurd (omega arith))
+      (λ e _. kept-next (keeps-trip total g h γ w i past (a - 1) (below a (c .0) .1) (below a (c .0) .0) o e (tripsOf g (a - 1) + 1))))
+      (λ _. cond-elim (Owed (Trip a)) (failCrashes g (a - 1)) (λ _ e. absurd (omega arith))
+      (λ e _. kept-next (keeps-fail total g h γ w i past (a - 1) (below a (c .0) .1) (below a (c .0) .0) o e)))
 
   -- the checks that come before every step
   pub entered : (s : Step) → Fits s → Owed s (orRefuse (entryRefusal g s) g (perform g s))

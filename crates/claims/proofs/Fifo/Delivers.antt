@@ -2,9 +2,9 @@
 use Prim.Native.Nat.{ℕ, _<_}
 use mathlib.Core.Path.{_≡_, refl, sym, ap, _∙_, subst}
 use mathlib.Core.Bool.{Bool, true, false, cond, _&&_, _||_}
-use mathlib.Core.List.{List}
+use mathlib.Core.List.{List, _∷_}
 use lib.ListN.{getD, drop}
-use lib.Dec.{eqb}
+use lib.Dec.{eqb, ltb}
 use borrow.Author.Tests.{eq-eqb, ne-eqb}
 use native.Mathlib.Omega.{arith}
 use native.Mathlib.Decide.{ℕ-discrete}
@@ -13,9 +13,10 @@ use Rattle.marks.specs.Reach.{Rows, struck, connected}
 use Rattle.packet.specs.declared.Payload.{Payload}
 use Rattle.packet.specs.declared.Check.{Check}
 use Rattle.packet.specs.declared.Place.{Place}
+use Rattle.packet.specs.declared.Place.the-variants.{Tripped as AtTripped, Link as AtLink}
 use Rattle.packet.specs.declared.Packet.{Packet}
 use Rattle.packet.specs.declared.Packet.the-variants.{Empty, Normal as NormalPacket, Checkp, Resume, Recover, Fault, Invalid}
-use Rattle.packet.specs.Packet.{isEmpty, sameCheck, startCheck, linkPlace}
+use Rattle.packet.specs.Packet.{isEmpty, sameCheck, samePlace, startCheck, linkPlace}
 use Rattle.line.specs.Line.{oldest}
 use Rattle.state.specs.declared.State.{State}
 use Rattle.state.specs.declared.State.the-variants.{Normal, CheckpBegin, Checkpointed, Error, Recovered}
@@ -37,14 +38,14 @@ use Rattle.claims.proofs.State.Sim.{Fit}
 use Rattle.claims.proofs.State.ViewMoves.{Room, vTake, sim-off, view-off, sim-take, sim-join, sim-compare}
 use Rattle.claims.proofs.Answers.Tests.{in-state}
 use Rattle.claims.proofs.Invariant.States.{opens-serve}
-use Rattle.claims.proofs.Invariant.Facts.{Ghost}
+use Rattle.claims.proofs.Invariant.Facts.{Ghost, Pair}
 use Rattle.claims.proofs.Invariant.Whole.{Inv}
 use Rattle.claims.proofs.Invariant.Past.{Past}
-use Rattle.claims.proofs.Moves.Hearing.{off, off-fit}
+use Rattle.claims.proofs.Moves.Hearing.{fault-aware, fault-place, off, left-of, off-fit, off-line}
 use Rattle.claims.proofs.Moves.LinkFault.{fit-sound}
 use Rattle.claims.proofs.Moves.Delivering.{other}
 use Rattle.claims.proofs.Fifo.Unbounded.{Unbounded, still}
-use Rattle.claims.proofs.Fifo.Rooms.{works-room}
+use Rattle.claims.proofs.Fifo.Rooms.{works-room, not-its-trip}
 use Rattle.claims.proofs.Fifo.Puts.{puts-join, puts-resume, puts-adopt, puts-recover, puts-error, puts-hear, puts-compare, puts-cut}
 
 -- one line changed by a function of what it holds
@@ -123,9 +124,13 @@ module _ (total : ℕ) (g : Group) (h : History) (γ : Ghost) (w : Fit g) (i : I
   unfolding findLinkFault
   linked serves = cond-elim Owed (connected (struck (rowsOf (g1 .sound)) a b) (working g1)) (λ _ _. found (struck (rowsOf (g1 .sound)) a b)) (λ _ e. absurd (omega arith))
     where
+      not-trip : (t : Bool) → samePlace (cond t (AtLink a b) (AtLink b a)) (AtTripped b) ≡ false
+      not-trip true = refl
+      not-trip false = refl
+
       found : (rs : Rows) → Ends (view (enterError (withSound g1 rs) b (linkPlace a b)))
       found rs =
-          puts-error base back v (withSound g1 rs) (fit-sound g1 rs fit1) (λ c. sound-states g1 rs c ∙ states c) (λ c d. sound-lines g1 rs c d ∙ lines c d) b lb (linkPlace a b)
+          puts-error base back v (withSound g1 rs) (fit-sound g1 rs fit1) (λ c. sound-states g1 rs c ∙ states c) (λ c d. sound-lines g1 rs c d ∙ lines c d) b lb (linkPlace a b) (not-trip (ltb a b))
           (ap serving (sym (states b)) ∙ serves)
 
   normal : (p : Payload) → Owed (receiveNormal g g1 a b p)
@@ -174,12 +179,19 @@ module _ (total : ℕ) (g : Group) (h : History) (γ : Ghost) (w : Fit g) (i : I
       cond-elim Owed (isIn (stateOf g1 b) Error && marked (cabinet g1 b .noted .heard) a)
       (λ e _. puts-recover base back v g1 fit1 states lines b lb room x (state-is Error (and-true {s = isIn (stateOf g1 b) Error} e .0))) (λ _ _. dropped)
 
-  fault : (q : Place) → Owed (receiveFault g g1 a b q)
+  -- a serving receiver is not the tripped one that the packet tells of: its sender is aware of the fault, the receiver is not
+  fault-other : (q : Place) → oldest (line g a b) ≡ Fault q → serving (stateOf g b) ≡ true → samePlace q (AtTripped b) ≡ false
+  fault-other q is serves =
+      let held = off-line g a b (Fault q) is refl in
+      let pair : Pair (γ .big) a b (v .own a) (γ .mind a) (v .own b) (γ .mind b) (v .side a b) (v .side b a) (Fault q ∷ left-of g a b) (γ .wire a b) = rw held at (i .core .pairs a b) in
+      not-its-trip total g γ w i b serves q (i .places .fromOne a (fault-aware {d = b} pair) q (fault-place {d = b} pair (i .core .nodes a .placeKnown)))
+
+  fault : (q : Place) → oldest (line g a b) ≡ Fault q → Owed (receiveFault g g1 a b q)
   unfolding receiveFault
-  fault q =
+  fault q is =
       cond-elim Owed (serving (stateOf g1 b))
       (λ e _. puts-hear base back v (enterError g1 b q) (ok-enterError Shaped Lined Pictured shaped g1 b q fit1)
-      (puts-error base back v g1 fit1 states lines b lb q (ap serving (sym (states b)) ∙ e)) b lb a la)
+      (let s = ap serving (sym (states b)) ∙ e in puts-error base back v g1 fit1 states lines b lb q (fault-other q is s) s) b lb a la)
       (λ _. cond-elim Owed (inRecovery (stateOf g1 b))
       (λ _. cond-elim Owed (isFor (cabinet g1 b .phase .alarm) q) (λ _ _. puts-hear base back v g1 fit1 dropped b lb a la) (λ _ e. absurd (omega arith)))
       (λ _ _. dropped))
@@ -188,15 +200,15 @@ module _ (total : ℕ) (g : Group) (h : History) (γ : Ghost) (w : Fit g) (i : I
   unfolding receiveInvalid
   invalid = cond-elim Owed (serving (stateOf g1 b)) linked (λ _ _. dropped)
 
-  received : (p : Packet) → Owed (receive g g1 a b p)
-  received Empty = λ _. dropped
-  received (NormalPacket p) = normal p
-  received (Checkp x) = checkp x
-  received Resume = resume
-  received (Recover x) = recover x
-  received (Fault q) = fault q
-  received Invalid = invalid
+  received : (p : Packet) → oldest (line g a b) ≡ p → Owed (receive g g1 a b p)
+  received Empty is = λ _. dropped
+  received (NormalPacket p) is = normal p
+  received (Checkp x) is = checkp x
+  received Resume is = resume
+  received (Recover x) is = recover x
+  received (Fault q) is = fault q is
+  received Invalid is = invalid
 
   pub puts-deliver : Owed (delivered g a b)
   unfolding delivered
-  puts-deliver = cond-elim Owed (marked (inUse (cabinet g b)) a) (λ _. received (oldest (line g a b))) (λ _ _. dropped)
+  puts-deliver = cond-elim Owed (marked (inUse (cabinet g b)) a) (λ _. received (oldest (line g a b)) refl) (λ _ _. dropped)

@@ -11,10 +11,12 @@ use Rattle.packet.specs.declared.Check.{Check}
 use Rattle.packet.specs.declared.Packet.{Packet}
 use Rattle.packet.specs.declared.Packet.the-variants.{Checkp, Resume, Recover, Fault}
 use Rattle.packet.specs.declared.Place.{Place}
+use Rattle.packet.specs.declared.Place.the-variants.{Tripped as AtTripped}
+use Rattle.packet.specs.Packet.{samePlace}
 use Rattle.state.specs.declared.State.{State}
 use Rattle.state.specs.declared.State.the-variants.{Normal, CheckpBegin, Checkpointing, Checkpointed, Error}
 use Rattle.state.specs.declared.Version.{Version}
-use Rattle.state.specs.declared.Version.the-variants.{Known, Unknown}
+use Rattle.state.specs.declared.Version.the-variants.{Known, Unknown, Lost}
 use Rattle.cabinet.specs.declared.Alarm.{Alarm}
 use Rattle.cabinet.specs.declared.Alarm.the-variants.{Quiet, Fault as At}
 use Rattle.cabinet.specs.declared.Cabinet.{Cabinet}
@@ -25,11 +27,11 @@ use Rattle.group.specs.Group.{cabinet, withCabinet}
 use Rattle.protocol.specs.History.{upd}
 use Rattle.protocol.specs.Moves.{join, cutIfAll, resumeWith, adopt, recoverWith, enterError, hear}
 use Rattle.protocol.specs.Receive.{serving}
-use Rattle.claims.proofs.State.Fun.{and-false, and-same, cond-elim, kept-at, kept-pair, upd-same, upd-id, upd-case}
+use Rattle.claims.proofs.State.Fun.{and-false, and-off, and-same, cond-elim, kept-at, kept-pair, upd-same, upd-id, upd-case}
 use Rattle.claims.proofs.State.View.{View, Own, Side, used, ownOf, sideOf, view, setCabinet}
 use Rattle.claims.proofs.State.Sim.{Fit, view-cabinet}
 use Rattle.claims.proofs.State.Methods.{sBegun, sCleared}
-use Rattle.claims.proofs.State.ViewMoves.{Room, vPut, oPhase, oPieces, sim-join, sim-resume, sim-recover, vHear, vCompare, sim-hear, sim-compare}
+use Rattle.claims.proofs.State.ViewMoves.{Room, vPut, oPhase, oBare, leadAfter, sim-join, sim-resume, sim-recover, vHear, vCompare, sim-hear, sim-compare}
 use Rattle.claims.proofs.Invariant.States.{serving-calm}
 use Rattle.claims.proofs.Invariant.Logs.{resumedBy}
 use Rattle.claims.proofs.Moves.Adopting.{others, sim-adopt}
@@ -57,6 +59,7 @@ woke false c l = sym (append-nil l)
 pub put-error : (s : State) (x : Version) (q : Place) (k : Check) (back : Bool) → serving s ≡ true → putOn s (erredState x) x (At q) k back ≡ Fault q ∷ erredRest x
 put-error s (Known x) q k back e = rw (and-false (isIn s Normal), and-false (not (isIn s Normal)), e)
 put-error s (Unknown x) q k back e = rw (and-false (isIn s Normal), and-false (not (isIn s Normal)), e)
+put-error s Lost q k back e = rw (and-false (isIn s Normal), and-false (not (isIn s Normal)), e)
 
 pub enters-error : (s : State) (x : Version) → serving s ≡ true → enters s (erredState x) ≡ true
 enters-error s x e = rw (e, erred-recovers x)
@@ -70,8 +73,8 @@ module _ (base : ℕ → ℕ → List Packet) (back : ℕ → ℕ → Bool) (v :
     pub puts-join : Room (view u) i → ((b : ℕ) → view u .side i b .put ≡ v .side i b .put) → v .own i .state ≡ Normal → Ends (view (join u i))
     puts-join room registers normal =
         subst Ends (sym (sim-join u fit i l room))
-        (moves base back v (view u) states lines i (oPieces (oPhase (view u .own i) CheckpBegin (view u .own i .version) (view u .own i .alarm)) 0)
-        (λ b. sBegun (view u .side i b)) (vPut (view u) i (λ b. Checkp (view u .side i b .put))) (view u .slots) (rw normal)
+        (moves base back v (view u) states lines i (oBare (oPhase (view u .own i) CheckpBegin (view u .own i .version) (view u .own i .alarm)))
+        (λ b. sBegun (view u .side i b)) (vPut (view u) i (λ b. Checkp (view u .side i b .put))) (view u .slots) (rw normal) (rw normal)
         (λ b. rw (normal, registers b) (put-last (used (view u .side i b)) (view u .lines i b) (Checkp (v .side i b .put)))))
 
     puts-woken : (x : Version) (r : ℕ → Bool) → works (v .own i .state) ≡ true → isIn (v .own i .state) Normal ≡ false
@@ -79,7 +82,7 @@ module _ (base : ℕ → ℕ → List Packet) (back : ℕ → ℕ → Bool) (v :
     puts-woken x r up away chosen =
         let s = v .own i .state in
         moves base back v (view u) states lines i (oResumed (view u .own i) x) (λ b. sCleared (view u .side i b)) (λ b. resumedBy (r b) (view u .lines i b))
-        (view u .slots) (sym up)
+        (view u .slots) (sym up) (and-false (enters s Normal))
         (λ b. rw (chosen b, put-resume s x Quiet (v .side i b .put) (back i b) away, and-false (serving s))
         (woke (used (view u .side i b)) (isIn s Checkpointed && back i b) (view u .lines i b)))
 
@@ -99,18 +102,19 @@ module _ (base : ℕ → ℕ → List Packet) (back : ℕ → ℕ → Bool) (v :
     puts-recover room x error =
         subst Ends (sym (sim-recover u fit i x l (λ b e. room b (plain b e)) ∙ recover-seen (view u) i x))
         (moves base back v (view u) states lines i (oGoes (view u .own i) x) (view u .side i) (λ b. goesLine x (view u .lines i b) (used (view u .side i b)))
-        (view u .slots) (rw error) (λ b. rw error (put-last (used (view u .side i b)) (view u .lines i b) (Recover x))))
+        (view u .slots) (rw error) (rw error) (λ b. rw error (put-last (used (view u .side i b)) (view u .lines i b) (Recover x))))
       where
         plain : (b : ℕ) → used (upd (view u .side) i (view u .side i) i b) ≡ true → used (view u .side i b) ≡ true
         plain b e = subst (λ (s : ℕ → Side). used (s b) ≡ true) (upd-same (view u .side) i (view u .side i)) e
 
-    -- entering error
-    pub puts-error : (q : Place) → serving (v .own i .state) ≡ true → Ends (view (enterError u i q))
-    puts-error q serves =
+    -- entering error for another place than its own trip
+    pub puts-error : (q : Place) → samePlace q (AtTripped i) ≡ false → serving (v .own i .state) ≡ true → Ends (view (enterError u i q))
+    puts-error q other serves =
         subst Ends (sym (sim-error u fit i q l ∙ error-seen (view u) i q))
-        (moves base back v (view u) states lines i (oErred (view u .own i) q) (sErred (view u) i q)
+        (moves base back v (view u) states lines i (oErred (view u .own i) q (leadAfter (view u) i q)) (sErred (view u) i q)
         (λ b. erredLine (view u .own i .version) q (used (sErred (view u) i q b))) (view u .slots)
         (erred-works (view u .own i .version) ∙ sym (serving-calm (v .own i .state) serves .0))
+        (and-off (enters (v .own i .state) (erredState (view u .own i .version))) (samePlace q (AtTripped i)) other)
         (λ b. rw (put-error (v .own i .state) (view u .own i .version) q (v .side i b .put) (back i b) serves, enters-error (v .own i .state) (view u .own i .version) serves)))
 
   -- ---- moves that put nothing more

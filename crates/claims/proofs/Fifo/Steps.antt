@@ -1,4 +1,4 @@
--- The kinds of step beside deliver, fail, send, damage and lose: what they put, in a group that meets the invariant.
+-- The kinds of step beside deliver, fail, trip, send, damage and lose: what they put, in a group that meets the invariant.
 use Prim.Native.Nat.{ℕ, _<_}
 use mathlib.Core.Path.{_≡_, refl, sym, ap, _∙_, subst}
 use mathlib.Core.Bool.{Bool, true, false, not, _&&_}
@@ -22,7 +22,7 @@ use Rattle.claims.proofs.State.View.{View, Own, Side, used, ownOf, side
 use Rattle.claims.proofs.State.Shape.{Shaped, Lined, Pictured, shaped}
 use Rattle.claims.proofs.State.Sim.{Fit, view-cabinet}
 use Rattle.claims.proofs.State.Methods.{sOwed}
-use Rattle.claims.proofs.State.ViewMoves.{Room, vOwe, vRestored, sim-join, sim-owe, sim-restored, sim-note}
+use Rattle.claims.proofs.State.ViewMoves.{Room, view-forget, vOwe, vRestored, sim-join, sim-owe, sim-restored, sim-note}
 use Rattle.claims.proofs.Answers.Tests.{in-state}
 use Rattle.claims.proofs.Invariant.States.{saving-works, restoring-works}
 use Rattle.claims.proofs.Invariant.Facts.{Ghost}
@@ -171,7 +171,7 @@ module _ (total : ℕ) (g : Group) (γ : Ghost) (w : Fit g) (i : Inv (g .n) tota
         let fit = ok-reportSaved Shaped Lined Pictured shaped g a home k w in
         let lines : (c d : ℕ) → view u .lines c d ≡ v .lines c d = λ c d. ap (λ (x : View). x .lines c d) told in
         cond-elim (λ (x : Group). Puts (view x)) (covers (cabinet u k .noted .saved) (cabinet u k .table .cabinets))
-        (λ _. normal-puts u fit k (k-saves .0) (k-saves .2) told-states told-sides lines _)
+        (λ _. subst Puts (sym (view-forget _)) (normal-puts u fit k (k-saves .0) (k-saves .2) told-states told-sides lines _))
         (λ _. report-puts u fit k (k-saves .0) (k-saves .2) told-states told-sides lines)
 
   -- the report on a goes to its coordinator

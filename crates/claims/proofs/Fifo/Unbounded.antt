@@ -6,6 +6,7 @@ use mathlib.Core.Logic.{_⊎_, inl, inr}
 use mathlib.Core.Bool.{Bool, true, false, cond, not, _&&_, _||_, and-not-self, or-false}
 use mathlib.Core.List.{List, [], _∷_, _++_, append-nil}
 use native.Mathlib.Decide.{ℕ-discrete}
+use Rattle.packet.specs.declared.Place.the-variants.{Tripped as AtTripped}
 use Rattle.packet.specs.declared.Check.{Check}
 use Rattle.packet.specs.declared.Packet.{Packet}
 use Rattle.packet.specs.declared.Packet.the-variants.{Checkp, Resume, Recover}
@@ -14,11 +15,12 @@ use Rattle.state.specs.declared.State.the-variants.{Failed, Normal, CheckpBegin
 use Rattle.state.specs.declared.Version.{Version}
 use Rattle.cabinet.specs.declared.Alarm.{Alarm}
 use Rattle.image.specs.declared.Image.{Image}
+use Rattle.cabinet.specs.Alarm.{isFor}
 use Rattle.state.specs.State.{isIn, works, inRecovery, bitOf}
 use Rattle.protocol.specs.History.{upd}
 use Rattle.protocol.specs.Receive.{serving}
 use Rattle.claims.specs.Fifo.{faultOf}
-use Rattle.claims.proofs.State.Fun.{kept-at, upd-same, upd-other}
+use Rattle.claims.proofs.State.Fun.{upd-same, upd-other, upd-case}
 use Rattle.claims.proofs.State.View.{View, Own, Side, used}
 use Rattle.claims.proofs.Invariant.Frame.{moved}
 
@@ -89,46 +91,68 @@ alike-enters : (r s t : State) → Cut s t → enters r s ≡ enters r t
 alike-enters r s t (inl e) = ap (enters r) e
 alike-enters r s t (inr e) = rw (e .0, e .1)
 
+-- ---- the lines to a cabinet are emptied where it fails or trips
+
+abbrev pub tripsIn : State → Own → ℕ → Bool
+tripsIn s o b = enters s (o .state) && isFor (o .alarm) (AtTripped b)
+
+abbrev pub cutOff : State → Own → ℕ → Bool
+cutOff s o b = (works s && not (works (o .state))) || tripsIn s o b
+
+pub cut-none : (s : State) (o : Own) (b : ℕ) → works (o .state) ≡ works s → tripsIn s o b ≡ false → cutOff s o b ≡ false
+cut-none s o b alive calm = rw (calm, alive, and-not-self (works s))
+
+cut-idle : (s : State) (o : Own) (b : ℕ) → works (o .state) ≡ works s → enters s (o .state) ≡ false → cutOff s o b ≡ false
+cut-idle s o b alive calm = cut-none s o b alive (ap (λ (t : Bool). t && isFor (o .alarm) (AtTripped b)) calm)
+
+pub cut-still : (s : State) (o : Own) (b : ℕ) → o .state ≡ s → cutOff s o b ≡ false
+cut-still s o b e = cut-idle s o b (ap works e) (ap (enters s) e ∙ enters-none s)
+
+alike-cut : (s : State) (o p : Own) (b : ℕ) → Alike o p → cutOff s p b ≡ cutOff s o b
+alike-cut s o p b y = rw (y .2, ← alike-works _ _ (y .0), ← alike-enters s _ _ (y .0))
+
 -- ---- the claim of a line and of all lines: `base` is what was left or sent on them, `back` where no resume is put
 
 module _ (base : ℕ → ℕ → List Packet) (back : ℕ → ℕ → Bool) (v : View) where
+  -- a's line to b, where a is o now and b is cut off or not
   abbrev pub Line : ℕ → ℕ → Own → Bool → Side → List Packet → Type 0
-  Line a b o wb s l =
-      l ≡ cond (enters (v .own a .state) (o .state) || ((works (v .own a .state) && not (works (o .state))) || (works (v .own b .state) && not wb))) [] (base a b)
+  Line a b o cut s l =
+      l ≡ cond (enters (v .own a .state) (o .state) || ((works (v .own a .state) && not (works (o .state))) || cut)) [] (base a b)
       ++ cond (used s) (putOn (v .own a .state) (o .state) (o .version) (o .alarm) (v .side a b .put) (back a b)) []
 
   abbrev pub Unbounded : View → Type 0
-  Unbounded w = (a b : ℕ) → Line a b (w .own a) (works (w .own b .state)) (w .side a b) (w .lines a b)
+  Unbounded w = (a b : ℕ) → Line a b (w .own a) (cutOff (v .own b .state) (w .own b) b) (w .side a b) (w .lines a b)
 
   -- no state changes so that something is put, and all lines are as they were left
   pub idle : (w : View) → ((c : ℕ) → Idle (v .own c .state) (w .own c .state)) → ((a b : ℕ) → w .lines a b ≡ base a b) → Unbounded w
   idle w states lines a b =
       let x = states a in let y = states b in
       lines a b
-      ∙ sym (rw (x .2, x .1, x .0, y .0, and-not-self (works (v .own a .state)), and-not-self (works (v .own b .state)), cond-same) (append-nil (base a b)))
+      ∙ sym (rw (x .2, x .1, x .0, cut-idle (v .own b .state) (w .own b) b (y .0) (y .1), and-not-self (works (v .own a .state)), cond-same) (append-nil (base a b)))
 
   pub still : (w : View) → ((c : ℕ) → w .own c .state ≡ v .own c .state) → ((a b : ℕ) → w .lines a b ≡ base a b) → Unbounded w
   still w states lines = idle w (λ c. rw (states c) (idle-same (v .own c .state))) lines
 
   -- one cabinet i is replaced, with its sides and its lines out
-  pub one : (u : View) (i : ℕ) (o : Own) (s : ℕ → Side) (f : ℕ → List Packet) (z : ℕ → Bool → Image) → works (o .state) ≡ works (u .own i .state)
-      → ((b : ℕ) → Line i b o (works (u .own b .state)) (s b) (f b)) → Unbounded u → Unbounded (moved u i o s (upd (u .lines) i f) z)
-  one u i o s f z alive here before a b =
-      rw (kept-at (λ (x : Own). works (x .state)) (u .own) i o alive b)
+  pub one : (u : View) (i : ℕ) (o : Own) (s : ℕ → Side) (f : ℕ → List Packet) (z : ℕ → Bool → Image) → cutOff (v .own i .state) o i ≡ cutOff (v .own i .state) (u .own i) i
+      → ((b : ℕ) → Line i b o (cutOff (v .own b .state) (u .own b) b) (s b) (f b)) → Unbounded u → Unbounded (moved u i o s (upd (u .lines) i f) z)
+  one u i o s f z same here before a b =
+      rw (upd-case (λ (j : ℕ) (x : Own). cutOff (v .own j .state) x j ≡ cutOff (v .own j .state) (u .own j) j) (u .own) i o same (λ j n. refl) b)
       (elim (ℕ-discrete a i) [
         | yes e ↦ rw (e, upd-same (u .own) i o, upd-same (u .side) i s, upd-same (u .lines) i f) (here b)
         | no n ↦ rw (upd-other (u .own) i o a n, upd-other (u .side) i s a n, upd-other (u .lines) i f a n) (before a b)
       ])
 
-  -- and no cabinet fails
+  -- and no cabinet fails or trips
   pub moves : (u : View) → ((c : ℕ) → u .own c .state ≡ v .own c .state) → ((a b : ℕ) → u .lines a b ≡ base a b)
       → (i : ℕ) (o : Own) (s : ℕ → Side) (f : ℕ → List Packet) (z : ℕ → Bool → Image) → works (o .state) ≡ works (v .own i .state)
+      → tripsIn (v .own i .state) o i ≡ false
       → ((b : ℕ) → f b ≡ cond (enters (v .own i .state) (o .state)) [] (u .lines i b)
       ++ cond (used (s b)) (putOn (v .own i .state) (o .state) (o .version) (o .alarm) (v .side i b .put) (back i b)) [])
       → Unbounded (moved u i o s (upd (u .lines) i f) z)
-  moves u states lines i o s f z alive here =
-      one u i o s f z (alive ∙ ap works (sym (states i)))
-      (λ b. here b ∙ sym (rw (alive, states b, and-not-self (works (v .own i .state)), and-not-self (works (v .own b .state)), or-false (enters (v .own i .state) (o .state)), ← lines i b)))
+  moves u states lines i o s f z alive calm here =
+      one u i o s f z (cut-none (v .own i .state) o i alive calm ∙ sym (cut-still (v .own i .state) (u .own i) i (states i)))
+      (λ b. here b ∙ sym (rw (cut-still (v .own b .state) (u .own b) b (states b), alive, and-not-self (works (v .own i .state)), or-false (enters (v .own i .state) (o .state)), ← lines i b)))
       (still u states lines)
 
   -- what is put stays the same: states, versions and places do, but for a cut after joining
@@ -136,4 +160,13 @@ module _ (base : ℕ → ℕ → List Packet) (back : ℕ → ℕ → Bool) (v :
       → ((c : ℕ) → Alike (u .own c) (w .own c)) → Unbounded u → Unbounded w
   quiet u w lines sides alike before a b =
       let x = alike a in let y = alike b in
-      rw (lines a b, sides a b, x .1, x .2, ← alike-put (v .own a .state) _ _ (x .0), ← alike-works _ _ (x .0), ← alike-works _ _ (y .0), ← alike-enters (v .own a .state) _ _ (x .0)) (before a b)
+      rw (
+        lines a b,
+        sides a b,
+        x .1,
+        x .2,
+        ← alike-put (v .own a .state) _ _ (x .0),
+        ← alike-works _ _ (x .0),
+        ← alike-enters (v .own a .state) _ _ (x .0),
+        alike-cut (v .own b .state) (u .own b) (w .own b) b y,
+      ) (before a b)

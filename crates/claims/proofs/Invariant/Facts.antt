@@ -10,16 +10,18 @@ use lib.Dec.{eqb}
 use Rattle.packet.specs.declared.Check.{Check}
 use Rattle.packet.specs.declared.Payload.{Payload}
 use Rattle.packet.specs.declared.Place.{Place}
+use Rattle.packet.specs.declared.Place.the-variants.{Tripped as AtTripped}
 use Rattle.packet.specs.declared.Packet.{Packet}
 use Rattle.packet.specs.declared.Packet.the-variants.{Empty, Normal as NormalPacket, Checkp, Resume, Recover, Fault, Invalid}
 use Rattle.packet.specs.Packet.{startCheck, stepCheck}
 use Rattle.state.specs.declared.State.the-variants.{Normal, CheckpBegin, Checkpointing, Checkpointed, Error, Recovering, Recovered, Crashed}
 use Rattle.state.specs.declared.Version.{Version}
-use Rattle.state.specs.declared.Version.the-variants.{Known, Unknown}
+use Rattle.state.specs.declared.Version.the-variants.{Known, Unknown, Lost}
 use Rattle.cabinet.specs.declared.Alarm.the-variants.{Fault as At}
 use Rattle.image.specs.declared.Image.{Image}
 use Rattle.state.specs.State.{isIn, works, inRecovery, inSaving, isUnknown, bitOf}
 use Rattle.image.specs.Image.{booked}
+use Rattle.table.specs.Table.{isAt}
 use Rattle.claims.proofs.State.View.{Own, Side, used}
 use Rattle.claims.proofs.State.Shape.{Pictured}
 use Rattle.claims.proofs.State.Methods.{hitsCabinet, hitsLink}
@@ -33,8 +35,10 @@ pub record Big : Type 0 where
   -- the version value that names the save which the rule gives, and whether some cabinet took its resume or was restored from it
   pub topv : Bool
   pub adopted : Bool
-  -- the coordinator, whether it works and whether it has joined the save under way
+  -- the coordinator of the last recovery's end, who leads after it, whether it is not lost (it has neither failed nor tripped since) and
+  -- whether it has joined the save under way
   pub chief : ℕ
+  pub heir : ℕ
   pub alive : Bool
   pub begun : Bool
   -- some cabinet that is aware of the fault has known its version
@@ -326,6 +330,19 @@ pub record Node (b : Big) (c : ℕ) (o : Own) (m : Mind) (z : Bool → Image) : 
   pub noted : m .tab ≡ false → z (bitOf (o .version)) ≡ m .top
   -- images have their 32 octets
   pub sizes : Pictured (m .cut) × (Pictured (m .top) × Pictured (m .prev))
+
+-- ---- who leads; c is the cabinet and o what it holds of itself
+
+pub record Lead (b : Big) (c : ℕ) (o : Own) : Type 0 where
+  -- A1, A2: the lead moves on where the fault is the coordinator
+  pub steady : unaware b o ≡ true → o .lead ≡ b .chief
+  pub moved : aware b o ≡ true → (q : Place) → o .alarm ≡ At q
+      → (o .former ≡ isAt q (b .chief)) × (o .lead ≡ cond (isAt q (b .chief)) (b .heir) (b .chief))
+  -- a coordinator that is not lost works, and is in error for another fault than its own trip
+  pub lives : c ≡ b .chief → b .alive ≡ true → (works (o .state) ≡ true) × (aware b o ≡ true → o .alarm ≡ At (AtTripped c) → ⊥)
+  pub fallen : c ≡ b .chief → b .alive ≡ false → unaware b o ≡ false
+  -- a version with no old one is that of a cabinet that is aware, and of the coordinator where that is lost
+  pub blank : works (o .state) ≡ true → o .version ≡ Lost → (aware b o ≡ true) × (b .alive ≡ false → c ≡ b .chief)
 
 -- ---- what a cabinet has booked; out is the sum of what it sent since `base`, got that of what it took
 

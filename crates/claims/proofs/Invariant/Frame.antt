@@ -13,8 +13,9 @@ use Rattle.protocol.specs.History.{upd}
 use Rattle.state.specs.declared.State.{State}
 use Rattle.claims.proofs.State.Fun.{upd-elim, upd-same, upd-other, sum-cong, upd-id, kept, kept-at}
 use Rattle.claims.proofs.State.View.{View, Own, Side, used}
-use Rattle.claims.proofs.Invariant.Facts.{Big, Mind, Wire, Ghost, Pair, Node, Books, aware, unaware}
-use Rattle.claims.proofs.Invariant.Whole.{PairAt, NodeAt, BooksAt, GroundOf, PlacesOf, MeetsOf, ChainOf, SumsOf, lkOf, outOf, gotOf, Inv}
+use Rattle.claims.proofs.Invariant.Facts.{Big, Mind, Wire, Ghost, Pair, Node, Books, Lead, aware, unaware}
+use Rattle.claims.proofs.Invariant.Words.{lead-same}
+use Rattle.claims.proofs.Invariant.Whole.{PairAt, NodeAt, BooksAt, LeadAt, GroundOf, PlacesOf, MeetsOf, ChainOf, SumsOf, lkOf, outOf, gotOf, Inv}
 
 -- ---- the group and the ghost after a move at c; lines, logs and slots are given whole
 
@@ -60,6 +61,12 @@ module _ (v : View) (γ : Ghost) (b : Big) (c : ℕ) (o : Own) (m : Mind) (s : �
     | no d ↦ rw (upd-other (v .own) c o i d, upd-other (γ .mind) c m i d, slots i d) (aside i d)
   ]
 
+  pub move-leads : ((i : ℕ) → i ≢ c → Lead b i (v .own i)) → Lead b c o → (i : ℕ) → LeadAt v′ γ′ i
+  move-leads aside lead i = elim (ℕ-discrete i c) [
+    | yes e ↦ rw (e, upd-same (v .own) c o) lead
+    | no d ↦ rw (upd-other (v .own) c o i d) (aside i d)
+  ]
+
   -- where what a cabinet sent and took stays, what it owes is said of the sums as they were
   pub move-books : ((i : ℕ) → outOf γ′ i ≡ outOf γ i) → ((i : ℕ) → gotOf γ′ i ≡ gotOf γ i)
       → ((i : ℕ) → i ≢ c → Books b (v .own i) (γ .mind i) (outOf γ i) (gotOf γ i)) → Books b o m (outOf γ c) (gotOf γ c) → (i : ℕ) → BooksAt v′ γ′ i
@@ -83,11 +90,12 @@ module _ (v : View) (γ : Ghost) (c : ℕ) (o : Own) (m : Mind) (s : ℕ → Sid
   lk-kept : _≡_ {A = ℕ → ℕ → Bool} (λ i j. w i j .lk) (lkOf γ)
   lk-kept = fun-ext (λ i. fun-ext (λ j. links i j))
 
-  pub move-ground : {n : ℕ} (b : Big) → b .chief ≡ γ .big .chief → b .alive ≡ γ .big .alive → o .home ≡ v .own c .home → o .store ≡ v .own c .store
+  pub move-ground : {n : ℕ} (b : Big) → b .chief ≡ γ .big .chief → b .heir ≡ γ .big .heir → b .alive ≡ γ .big .alive → o .home ≡ v .own c .home → o .store ≡ v .own c .store
       → GroundOf n v γ → GroundOf n (moved v c o s l z) (minded γ b c m w)
-  move-ground {n} b chief alive home store g =
+  move-ground {n} b chief heir alive home store g =
       rw (
         chief,
+        heir,
         alive,
         kept (λ (x : Own). works (x .state)) (v .own) c o work,
         kept (λ (x : Own). x .home) (v .own) c o home,
@@ -159,7 +167,9 @@ same-view v c = λ t. record { own = upd-id (v .own) c t; side = upd-id (v .side
 -- ---- a move that leaves a cabinet's phase, home and store, and its progress in the save, as they were
 
 abbrev pub SameOwn : Own → Own → Type 0
-SameOwn o x = (o .state ≡ x .state) × (o .version ≡ x .version) × (o .alarm ≡ x .alarm) × (o .home ≡ x .home) × (o .store ≡ x .store)
+SameOwn o x =
+    (o .state ≡ x .state) × (o .version ≡ x .version) × (o .alarm ≡ x .alarm) × (o .home ≡ x .home) × (o .store ≡ x .store)
+    × (o .lead ≡ x .lead) × (o .former ≡ x .former)
 
 abbrev pub SameMind : Mind → Mind → Type 0
 SameMind m k =
@@ -182,7 +192,9 @@ module _ (n total : ℕ) (v : View) (γ : Ghost) (i : Inv n total v γ) (c : ℕ
       pairs = pairs;
       nodes = nodes;
       books = books;
-      ground = move-ground v γ c o m s l z w work (f .0) links (γ .big) refl refl (e .3) (e .4) (i .core .ground);
+      leads = move-leads v γ (γ .big) c o m s l z w (λ j d. i .core .leads j)
+          (lead-same (γ .big) c (v .own c) o (i .core .leads c) work (ap (λ (x : State). γ .big .faulted && inRecovery x) (e .0)) (e .2) (e .5) (e .6) (λ q. sym (e .1) ∙ q));
+      ground = move-ground v γ c o m s l z w work (f .0) links (γ .big) refl refl refl (e .3) (e .4) (i .core .ground);
       chain = move-chain v γ c o m s l z w work calm (f .0) (f .1) (f .2) (f .3) (ap isUnknown (e .1)) (i .core .chain);
       sums = move-sums total γ (γ .big) c m w refl (f .4) (f .5) (f .6) (i .core .sums);
     };

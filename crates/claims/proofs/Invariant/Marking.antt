@@ -44,7 +44,7 @@ module _ (n total : ℕ) (v : View) (γ : Ghost) (i : Inv n total v γ) (h a : �
   mark-inv =
       subst (λ (δ : Ghost). Inv n total (setCabinet v h (v .own h) s′) δ) (same-ghost γ h)
       (quiet-inv n total v γ i h (v .own h) (γ .mind h) s′ (v .lines) (v .slots) (γ .wire)
-      (refl, refl, refl, refl, refl) (refl, refl, refl, refl, refl, refl, refl) (λ i j. refl) uses-at
+      (refl, refl, refl, refl, refl, refl, refl) (refl, refl, refl, refl, refl, refl, refl) (λ i j. refl) uses-at
       mark-pairs
       (move-nodes v γ (γ .big) h (v .own h) (γ .mind h) s′ (v .lines) (v .slots) (γ .wire) (λ j d. refl) (λ j d. i .core .nodes j) (i .core .nodes h))
       (move-books v γ (γ .big) h (v .own h) (γ .mind h) s′ (v .lines) (v .slots) (γ .wire) (λ j. refl) (λ j. refl) (λ j n. i .core .books j) (i .core .books h)))

@@ -35,16 +35,18 @@ use Rattle.claims.proofs.State.Shape.{Pictured}
 use Rattle.claims.proofs.State.Sim.{Fit}
 use Rattle.claims.proofs.State.Methods.{no-marks, all-start}
 use Rattle.claims.proofs.Invariant.Facts.{Big, Mind, Wire, Ghost, Pair, Node, Stream, unaware, behind, closed, amountsIn, count, checkpLast, Amounts, amount, same, isCheckp}
-use Rattle.claims.proofs.Invariant.Whole.{Inv, PairAt, NodeAt, BooksAt, GroundOf, PlacesOf, ChainOf, workOf, outOf, gotOf}
+use Rattle.claims.proofs.Invariant.Whole.{Inv, PairAt, NodeAt, BooksAt, LeadAt, GroundOf, PlacesOf, ChainOf, workOf, outOf, gotOf}
 use Rattle.claims.proofs.Invariant.Past.{Past, bare-balanced}
 use Rattle.claims.proofs.Invariant.Logs.{check-none, no-checkp-end, count-none}
 use Rattle.claims.proofs.Invariant.Words.{un-works}
 use Rattle.claims.proofs.Invariant.Reaching.{reach-group}
+use Rattle.claims.proofs.Invariant.States.{known-not-lost}
+use Rattle.claims.proofs.State.Leading.{next-one}
 
 -- ---- the ghost at the start
 
 abbrev b₀ : Big
-b₀ = record { faulted = false; topv = false; adopted = true; chief = 0; alive = true; begun = false; frozen = false; calm = true; clean = true }
+b₀ = record { faulted = false; topv = false; adopted = true; chief = 0; heir = 1; alive = true; begun = false; frozen = false; calm = true; clean = true }
 
 abbrev m₀ : Bool → Image → Mind
 m₀ t x = record { tab = t; joined = false; done = false; wrote = false; told = false; ready = false; cut = x; base = x; top = x; prev = x }
@@ -285,6 +287,18 @@ module _ (f : List ℕ) (g : Group) (st : Starts f g) (fit : Fit g) where
   works₀ : (c : ℕ) → workOf (view g) c ≡ tab₀ c
   works₀ c = working-tab (tab₀ c) (view g .own c) (ready₀ c)
 
+  -- every table names cabinet 0
+  leads₀ : (c : ℕ) → LeadAt (view g) γ₀ c
+  leads₀ c = record {
+    steady = λ u.
+        let l = below c (sym (works₀ c) ∙ un-works b₀ (view g .own c) u) in
+        ap (λ (x : Cabinet). x .table .lead) (st .starting c l);
+    moved = λ a. absurd (false≢true a);
+    lives = λ k e. (ap (workOf (view g)) k ∙ works₀ 0 ∙ lt-ltb 0 (g .n) (omega (arith, st .least)), λ a. absurd (false≢true a));
+    fallen = λ k e. absurd (true≢false e);
+    blank = λ w e. absurd (known-not-lost (sym (ready₀ c .version) ∙ e));
+  }
+
   sound₀ : rowsOf (g .sound) ≡ rowsOf (g .links)
   sound₀ = ap rowsOf (st .all-sound)
 
@@ -293,8 +307,7 @@ module _ (f : List ℕ) (g : Group) (st : Starts f g) (fit : Fit g) where
     most = st .most;
     within = below;
     chiefIn = lt-ltb 0 (g .n) (omega (arith, st .least));
-    chiefLeast = λ c e. omega arith;
-    aliveIs = sym (works₀ 0 ∙ lt-ltb 0 (g .n) (omega (arith, st .least)));
+    heirIs = sym (next-one tab₀ (lt-ltb 1 (g .n) (omega (arith, st .least))));
     linkBoth = st .both-ways;
     linkOther = st .not-self;
     soundBoth = λ c d. rw sound₀ (st .both-ways c d);
@@ -302,6 +315,8 @@ module _ (f : List ℕ) (g : Group) (st : Starts f g) (fit : Fit g) where
     homeStores = st .home-stores;
     storeWorks = λ c e. works₀ c ∙ stored c e;
     reach = reach-group g (rowsOf (g .sound)) (st .joined) (λ c e. omega (arith, below c (sym (works₀ c) ∙ e), st .most)) (λ c d. rw sound₀ (st .both-ways c d));
+    othersWork = λ e. absurd (true≢false e);
+    othersReach = λ e. absurd (true≢false e);
   }
     where
       stored : (c : ℕ) → cabinet g c .store ≡ true → tab₀ c ≡ true
@@ -339,6 +354,7 @@ module _ (f : List ℕ) (g : Group) (st : Starts f g) (fit : Fit g) where
       pairs = pairs₀;
       nodes = nodes₀;
       books = books₀;
+      leads = leads₀;
       ground = ground₀;
       chain = chain₀;
       sums = record { least = omega (arith, st .total-most); bases = total₀; tops = total₀; prevs = λ e. absurd (true≢false e) };

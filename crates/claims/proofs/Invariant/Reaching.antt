@@ -23,6 +23,12 @@ Reach work sound =
     (P : ℕ → Bool) → ((i j : ℕ) → P i ≡ true → work i ≡ true → work j ≡ true → sound i j ≡ true → P j ≡ true)
     → (i : ℕ) → work i ≡ true → P i ≡ true → (j : ℕ) → work j ≡ true → P j ≡ true
 
+-- it holds of the same cabinets over more links
+pub reach-more : (work others : ℕ → Bool) (sound links : ℕ → ℕ → Bool) → ((c : ℕ) → work c ≡ true → others c ≡ true) → ((c : ℕ) → others c ≡ true → work c ≡ true)
+    → ((c d : ℕ) → sound c d ≡ true → links c d ≡ true) → Reach work sound → Reach others links
+reach-more work others sound links to from more reach P passes i wi pi j wj =
+    reach P (λ x y px wx wy s. passes x y px (to x wx) (to y wy) (more x y s)) i (from i wi) pi j (from j wj)
+
 module _ (rows : Rows) (ones : Marks) where
   path-works : (s : ℕ) → marked ones s ≡ true → {j : ℕ} → Path rows ones s j → marked ones j ≡ true
   path-works s e here = e

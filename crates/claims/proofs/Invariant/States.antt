@@ -1,12 +1,14 @@
 -- States and versions: what one of their tests says about the others.
+use Prim.Native.Nat.{ℕ}
 use mathlib.Core.Path.{_≡_, refl, sym, ap, _∙_}
 use mathlib.Core.Logic.{_⊎_, inl, inr, ⊎-elim}
 use mathlib.Core.Bool.{Bool, true, false, not, _&&_, _||_, false≢true, true≢false}
+use native.Mathlib.Omega.{arith}
 use Rattle.packet.specs.declared.Place.{Place}
 use Rattle.state.specs.declared.State.{State}
 use Rattle.state.specs.declared.State.the-variants.{Failed, Normal, CheckpBegin, Checkpointing, Checkpointed, Error, Recovering, Recovered, Crashed}
 use Rattle.state.specs.declared.Version.{Version}
-use Rattle.state.specs.declared.Version.the-variants.{Known, Unknown}
+use Rattle.state.specs.declared.Version.the-variants.{Known, Unknown, Lost}
 use Rattle.cabinet.specs.declared.Alarm.the-variants.{Fault as At}
 use Rattle.state.specs.State.{isIn, works, inRecovery, inRestoring, inSaving, isUnknown, bitOf}
 use Rattle.protocol.specs.Receive.{serving}
@@ -75,13 +77,26 @@ known-same e = ap bitOf e
 pub known-not-unknown : {x y : Bool} → Known x ≡ Unknown y → ⊥
 known-not-unknown e = false≢true (ap isUnknown e)
 
+pub known-not-lost : {x : Bool} → Known x ≡ Lost → ⊥
+known-not-lost e = false≢true (ap isUnknown e)
+
+pub unknown-not-lost : {x : Bool} → Unknown x ≡ Lost → ⊥
+unknown-not-lost {x} e = let z : _≡_ {A = ℕ} 0 1 = ap place e in omega arith
+  where
+    place : Version → ℕ
+    place (Known v) = 0
+    place (Unknown v) = 0
+    place Lost = 1
+
 pub known-is-known : (x : Version) → isUnknown x ≡ false → x ≡ Known (bitOf x)
 known-is-known (Known v) e = refl
 known-is-known (Unknown v) e = absurd (true≢false e)
+known-is-known Lost e = absurd (true≢false e)
 
-pub unknown-old : (x : Version) → isUnknown x ≡ true → (v : Bool) × (x ≡ Unknown v)
-unknown-old (Known v) e = absurd (false≢true e)
-unknown-old (Unknown v) e = (v, refl)
+pub unknown-old : (x : Version) → isUnknown x ≡ true → (x ≡ Lost → ⊥) → (v : Bool) × (x ≡ Unknown v)
+unknown-old (Known v) e l = absurd (false≢true e)
+unknown-old (Unknown v) e l = (v, refl)
+unknown-old Lost e l = absurd (l refl)
 
 pub place-same : {p q : Place} → At p ≡ At q → p ≡ q
 place-same e = cc

@@ -3,9 +3,10 @@
 use Prim.Native.Nat.{ℕ, _<_, _≤_}
 use mathlib.Core.Path.{_≡_}
 use mathlib.Core.Logic.{_≢_, _⊎_}
-use mathlib.Core.Bool.{Bool, true, false, not}
+use mathlib.Core.Bool.{Bool, true, false, not, _&&_}
+use lib.Dec.{eqb}
 use Rattle.packet.specs.declared.Place.{Place}
-use Rattle.packet.specs.declared.Place.the-variants.{Cabinet as AtCabinet, Link as AtLink}
+use Rattle.packet.specs.declared.Place.the-variants.{Failed as AtFailed, Tripped as AtTripped, Link as AtLink}
 use Rattle.cabinet.specs.declared.Alarm.{Alarm}
 use Rattle.cabinet.specs.declared.Alarm.the-variants.{Fault as At}
 use Rattle.image.specs.declared.Image.{Image}
@@ -13,38 +14,43 @@ use Rattle.state.specs.State.{works, isUnknown}
 use Rattle.image.specs.Image.{booked}
 use Rattle.group.specs.Group.{sum}
 use Rattle.claims.proofs.State.View.{View, used}
-use Rattle.claims.proofs.Invariant.Facts.{Big, Ghost, Pair, Node, Books, aware, unaware}
+use Rattle.claims.proofs.State.Leading.{nextOver}
+use Rattle.claims.proofs.Invariant.Reaching.{Reach}
+use Rattle.claims.proofs.Invariant.Facts.{Big, Ghost, Pair, Node, Books, Lead, aware, unaware}
 
--- ---- who is there, which links stand, and that all are reached (A3, A4, A8)
+-- ---- who is there, which links stand, and that all are reached (A3, A4, A8, A13)
 
-pub record Ground (n chief : ℕ) (alive : Bool) (work tab store : ℕ → Bool) (home : ℕ → ℕ) (lk sound : ℕ → ℕ → Bool) : Type 0 where
+pub record Ground (n chief heir : ℕ) (alive : Bool) (work tab store : ℕ → Bool) (home : ℕ → ℕ) (lk sound : ℕ → ℕ → Bool) : Type 0 where
   pub most : n ≤ 8
   pub within : (c : ℕ) → tab c ≡ true → c < n
   pub chiefIn : tab chief ≡ true
-  pub chiefLeast : (c : ℕ) → tab c ≡ true → chief ≤ c
-  pub aliveIs : alive ≡ work chief
+  pub heirIs : heir ≡ nextOver tab chief
   pub linkBoth : (c d : ℕ) → lk c d ≡ lk d c
   pub linkOther : (c : ℕ) → lk c c ≡ false
   pub soundBoth : (c d : ℕ) → sound c d ≡ sound d c
   pub soundLinks : (c d : ℕ) → sound c d ≡ true → lk c d ≡ true
   pub homeStores : (c : ℕ) → c < n → store (home c) ≡ true
   pub storeWorks : (c : ℕ) → store c ≡ true → work c ≡ true
-  -- A4: what passes from working cabinet to working cabinet over sound links, and holds of one, holds of all
-  pub reach : (P : ℕ → Bool) → ((i j : ℕ) → P i ≡ true → work i ≡ true → work j ≡ true → sound i j ≡ true → P j ≡ true)
-      → (i : ℕ) → work i ≡ true → P i ≡ true → (j : ℕ) → work j ≡ true → P j ≡ true
+  -- A4: over sound links
+  pub reach : Reach work sound
+  -- A13: the coordinator is lost: all others work, and without it they are reached over the links of the last recovery's end
+  pub othersWork : alive ≡ false → (c : ℕ) → tab c ≡ true → c ≢ chief → work c ≡ true
+  pub othersReach : alive ≡ false → Reach (λ c. tab c && not (eqb c chief)) lk
 
 -- ---- fault places (A5, A6)
 
-pub data Place-of (work tab : ℕ → Bool) (lk sound : ℕ → ℕ → Bool) : Place → Type 0 where
-  failed : (x : ℕ) → tab x ≡ true → work x ≡ false → Place-of work tab lk sound (AtCabinet x)
-  faulty : (x y : ℕ) → x < y → lk x y ≡ true → sound x y ≡ false → Place-of work tab lk sound (AtLink x y)
+pub data Place-of (work tab knows : ℕ → Bool) (alarm : ℕ → Alarm) (lk sound : ℕ → ℕ → Bool) : Place → Type 0 where
+  failed : (x : ℕ) → tab x ≡ true → work x ≡ false → Place-of work tab knows alarm lk sound (AtFailed x)
+  -- a tripped cabinet is in error for its own trip
+  tripped : (x : ℕ) → knows x ≡ true → alarm x ≡ At (AtTripped x) → Place-of work tab knows alarm lk sound (AtTripped x)
+  faulty : (x y : ℕ) → x < y → lk x y ≡ true → sound x y ≡ false → Place-of work tab knows alarm lk sound (AtLink x y)
 
 pub record Places (faulted : Bool) (work tab knows : ℕ → Bool) (alarm : ℕ → Alarm) (lk sound : ℕ → ℕ → Bool) : Type 0 where
   pub standing : faulted ≡ false → (c d : ℕ) → lk c d ≡ sound c d
-  pub failedFor : (x : ℕ) → tab x ≡ true → work x ≡ false → (c : ℕ) × (knows c ≡ true) × (alarm c ≡ At (AtCabinet x))
+  pub failedFor : (x : ℕ) → tab x ≡ true → work x ≡ false → (c : ℕ) × (knows c ≡ true) × (alarm c ≡ At (AtFailed x))
   pub faultyFor : (x y : ℕ) → x < y → lk x y ≡ true → sound x y ≡ false → (c : ℕ) × (knows c ≡ true) × (alarm c ≡ At (AtLink x y))
   pub someone : faulted ≡ true → (c : ℕ) × (knows c ≡ true)
-  pub fromOne : (c : ℕ) → knows c ≡ true → (p : Place) → alarm c ≡ At p → Place-of work tab lk sound p
+  pub fromOne : (c : ℕ) → knows c ≡ true → (p : Place) → alarm c ≡ At p → Place-of work tab knows alarm lk sound p
 
 -- ---- versions (C5, C6, C8)
 
@@ -110,12 +116,15 @@ PairAt v γ c d =
 abbrev pub NodeAt : View → Ghost → ℕ → Type 0
 NodeAt v γ c = Node (γ .big) c (v .own c) (γ .mind c) (v .slots c)
 
+abbrev pub LeadAt : View → Ghost → ℕ → Type 0
+LeadAt v γ c = Lead (γ .big) c (v .own c)
+
 abbrev pub BooksAt : View → Ghost → ℕ → Type 0
 BooksAt v γ c = Books (γ .big) (v .own c) (γ .mind c) (outOf γ c) (gotOf γ c)
 
 abbrev pub GroundOf : ℕ → View → Ghost → Type 0
 GroundOf n v γ =
-    Ground n (γ .big .chief) (γ .big .alive) (workOf v) (tabOf γ) (storeOf v) (homeOf v) (lkOf γ) (v .sound)
+    Ground n (γ .big .chief) (γ .big .heir) (γ .big .alive) (workOf v) (tabOf γ) (storeOf v) (homeOf v) (lkOf γ) (v .sound)
 
 abbrev pub PlacesOf : View → Ghost → Type 0
 PlacesOf v γ = Places (γ .big .faulted) (workOf v) (tabOf γ) (awareOf v γ) (alarmOf v) (lkOf γ) (v .sound)
@@ -136,6 +145,7 @@ pub record Core (n total : ℕ) (v : View) (γ : Ghost) : Type 0 where
   pub pairs : (c d : ℕ) → PairAt v γ c d
   pub nodes : (c : ℕ) → NodeAt v γ c
   pub books : (c : ℕ) → BooksAt v γ c
+  pub leads : (c : ℕ) → LeadAt v γ c
   pub ground : GroundOf n v γ
   pub chain : ChainOf v γ
   pub sums : SumsOf total γ

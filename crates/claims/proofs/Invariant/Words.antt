@@ -1,13 +1,11 @@
 -- What the words of the invariant come to: who is aware, which line is in use, who coordinates, and that a line has room.
-use Prim.Native.Nat.{ℕ, _+_, _<_, _≤_}
+use Prim.Native.Nat.{ℕ, _+_, _≤_}
 use mathlib.Core.Path.{_≡_, refl, sym, _∙_, ap}
 use mathlib.Core.Logic.{_⊎_, inl, inr}
 use mathlib.Core.Bool.{Bool, true, false, cond, not, _&&_}
 use mathlib.Core.List.{List, [], _∷_, _++_}
 use lib.ListN.{length, List·getD-eq-default}
 use native.Mathlib.Omega.{arith}
-use Rattle.marks.specs.Marks.{Marks, marked, lowest}
-use Rattle.marks.specs.MarksLaws.{lowest-marked, lowest-le-marked}
 use Rattle.packet.specs.declared.Packet.{Packet}
 use Rattle.packet.specs.declared.Packet.the-variants.{Empty, Normal as NormalPacket, Checkp, Resume, Recover, Fault, Invalid}
 use Rattle.packet.specs.declared.Place.{Place}
@@ -15,6 +13,7 @@ use Rattle.line.specs.declared.Cell.{Cell}
 use Rattle.packet.specs.Packet.{isNormal}
 use Rattle.line.specs.Line.{normalsIn}
 use Rattle.state.specs.declared.Version.{Version}
+use Rattle.state.specs.declared.Version.the-variants.{Lost}
 use Rattle.state.specs.State.{works, inRecovery}
 use Rattle.cabinet.specs.Cabinet.{coordinator, absent}
 use Rattle.group.specs.declared.Group.{Group}
@@ -27,7 +26,7 @@ use Rattle.claims.proofs.State.Sim.{Fit}
 use Rattle.claims.proofs.State.ViewMoves.{Room}
 use Rattle.claims.proofs.Answers.Tests.{some-recovers, in-recovery}
 use Rattle.claims.proofs.Invariant.States.{recovering-works}
-use Rattle.claims.proofs.Invariant.Facts.{Big, Mind, Wire, Ghost, Pair, Alarms, aware, unaware, linked, count, isSafe}
+use Rattle.claims.proofs.Invariant.Facts.{Big, Mind, Wire, Ghost, Pair, Lead, Alarms, aware, unaware, linked, count, isSafe}
 use Rattle.claims.proofs.Invariant.Whole.{Core, GroundOf}
 
 -- ---- aware and unaware
@@ -109,24 +108,50 @@ linked-back n v γ g c d e =
 
 -- ---- who coordinates
 
-pub lowest-is : (m : Marks) (k : ℕ) → k < 8 → marked m k ≡ true → ((j : ℕ) → marked m j ≡ true → k ≤ j) → lowest m ≡ k
-lowest-is m k l e least =
-    let below = lowest-le-marked m k e in
-    let above = least (lowest m) (lowest-marked m (omega arith)) in
-    omega arith
-
 -- the coordinator of a cabinet that is not aware of a fault
 pub chief-of : (n total : ℕ) (g : Group) (γ : Ghost) → Core n total (view g) γ → (a : ℕ) → unaware (γ .big) (view g .own a) ≡ true
     → coordinator (cabinet g a) ≡ γ .big .chief
-chief-of n total g γ i a un =
-    lowest-is (cabinet g a .table .cabinets) (γ .big .chief)
-    (omega (arith, i .ground .within (γ .big .chief) (i .ground .chiefIn), i .ground .most))
-    (i .pairs a (γ .big .chief) .table un .0 ∙ i .ground .chiefIn)
-    (λ j e. i .ground .chiefLeast j (sym (i .pairs a j .table un .0) ∙ e))
+chief-of n total g γ i a un = i .leads a .steady un
 
--- one that is not aware of a fault works
+-- one that is not aware of a fault is not lost
 pub chief-lives : (n total : ℕ) (v : View) (γ : Ghost) → Core n total v γ → unaware (γ .big) (v .own (γ .big .chief)) ≡ true → γ .big .alive ≡ true
-chief-lives n total v γ i un = i .ground .aliveIs ∙ un-works (γ .big) (v .own (γ .big .chief)) un
+chief-lives n total v γ i un = is-true (γ .big .alive) (λ e. never un (i .leads (γ .big .chief) .fallen refl e))
+
+-- who leads, where a cabinet knows of the same fault as before and its version is not lost anew
+module _ (b : Big) (c : ℕ) (o p : Own) (h : Lead b c o) where
+  pub lead-same : works (p .state) ≡ works (o .state) → aware b p ≡ aware b o → p .alarm ≡ o .alarm → p .lead ≡ o .lead → p .former ≡ o .former
+      → (p .version ≡ Lost → o .version ≡ Lost) → Lead b c p
+  lead-same work knows alarm lead former lost = record {
+    steady = λ u. lead ∙ h .steady (sym same ∙ u);
+    moved = λ a q e. let m = h .moved (sym knows ∙ a) q (sym alarm ∙ e) in (former ∙ m .0, lead ∙ m .1);
+    lives = λ k e. let l = h .lives k e in (work ∙ l .0, λ a f. l .1 (sym knows ∙ a) (sym alarm ∙ f));
+    fallen = λ k e. same ∙ h .fallen k e;
+    blank = λ w e. let x = h .blank (sym work ∙ w) (lost e) in (knows ∙ x .0, x .1);
+  }
+    where
+      same : unaware b p ≡ unaware b o
+      same = rw (work, knows)
+
+  -- or does not know of one, before and after
+  pub lead-calm : unaware b o ≡ true → unaware b p ≡ true → p .lead ≡ o .lead → (p .version ≡ Lost → ⊥) → Lead b c p
+  lead-calm un up lead known = record {
+    steady = λ u. lead ∙ h .steady un;
+    moved = λ a. absurd (un-not-aware b p up a);
+    lives = λ k e. (un-works b p up, λ a. absurd (un-not-aware b p up a));
+    fallen = λ k e. absurd (never un (h .fallen k e));
+    blank = λ w e. absurd (known e);
+  }
+
+-- the coordinator is lost, and the cabinet is not aware of it
+pub lead-lost : (b : Big) (c : ℕ) (o : Own) → inRecovery (o .state) ≡ false → b .alive ≡ false → (c ≡ b .chief → works (o .state) ≡ false)
+    → (works (o .state) ≡ true → o .lead ≡ b .chief) → (works (o .state) ≡ true → o .version ≡ Lost → ⊥) → Lead b c o
+lead-lost b c o calm dead gone lead known = record {
+  steady = λ u. lead (un-works b o u);
+  moved = λ a. absurd (never (aware-recovers b o a) calm);
+  lives = λ k e. absurd (never e dead);
+  fallen = λ k e. failed-not-un b o (gone k);
+  blank = λ w e. absurd (known w e);
+}
 
 -- ---- a line has room
 

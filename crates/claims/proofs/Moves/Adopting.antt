@@ -17,7 +17,7 @@ use Rattle.line.specs.declared.Cell.{Cell}
 use Rattle.line.specs.Line.{emptyCell, oldest, rest}
 use Rattle.state.specs.declared.State.the-variants.{Normal, Checkpointed}
 use Rattle.state.specs.declared.Version.{Version}
-use Rattle.state.specs.declared.Version.the-variants.{Known, Unknown}
+use Rattle.state.specs.declared.Version.the-variants.{Known, Unknown, Lost}
 use Rattle.state.specs.State.{isIn, works, isUnknown, adopted}
 use Rattle.cabinet.specs.Cabinet.{inUse, resuming}
 use Rattle.group.specs.declared.Group.{Group}
@@ -170,6 +170,7 @@ module _ (total : ℕ) (g : Group) (h : History) (γ : Ghost) (w : Fit g) (i : I
       go : (y : Version) → v .own b .version ≡ y → adopted y ≡ Known (γ .big .topv)
       go (Known x) e = absurd (false≢true (ap isUnknown (sym e) ∙ i .core .nodes b .unknownAt calm ∙ rw (saved, ne-eqb b (γ .big .chief) not-chief)))
       go (Unknown x) e = ap Known (ap not (i .core .nodes b .oldBefore (rw saved) x e fresh) ∙ not-not (γ .big .topv))
+      go Lost e = absurd (un-not-aware (γ .big) (v .own b) calm (i .core .leads b .blank (rw saved) e .0))
 
   abbrev g1 : Group
   g1 = withLine g a b (rest (line g a b))

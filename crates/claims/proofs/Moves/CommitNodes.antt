@@ -15,7 +15,7 @@ use Rattle.claims.proofs.State.View.{Own}
 use Rattle.claims.proofs.State.Shape.{Pictured}
 use Rattle.claims.proofs.Answers.Tests.{in-state}
 use Rattle.claims.proofs.Invariant.States.{other-state}
-use Rattle.claims.proofs.Invariant.Facts.{Big, Mind, Node, Books, aware, unaware}
+use Rattle.claims.proofs.Invariant.Facts.{Big, Mind, Node, Books, Lead, aware, unaware}
 use Rattle.claims.proofs.Invariant.Words.{un-works, un-not-aware, un-or-aware}
 use Rattle.claims.proofs.Moves.Rousing.{oResumed, resumed-not-aware}
 use Rattle.claims.proofs.Moves.CommitPairs.{bCommit, mCommit, Through}
@@ -175,3 +175,7 @@ commit-books b o m out got h = record { bounded = h .bounded; live = h .live; at
 
 pub chief-books : (b : Big) (o : Own) (m : Mind) (out got : ℕ) (x : Version) → unaware b o ≡ true → Books b o m out got → Books (bCommit b) (oResumed o x) (mCommit m) out got
 chief-books b o m out got x un h = record { bounded = h .bounded; live = λ u. h .live un; atCut = λ a e. absurd (false≢true e) }
+
+-- who leads does not hang on the save
+pub commit-lead : (b : Big) (c : ℕ) (o : Own) → Lead b c o → Lead (bCommit b) c o
+commit-lead b c o h = record { steady = h .steady; moved = h .moved; lives = h .lives; fallen = h .fallen; blank = h .blank }

@@ -25,6 +25,7 @@ bCommit b = record {
   topv = not (b .topv);
   adopted = false;
   chief = b .chief;
+  heir = b .heir;
   alive = b .alive;
   begun = false;
   frozen = b .frozen;

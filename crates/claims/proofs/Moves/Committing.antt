@@ -5,7 +5,6 @@ use mathlib.Core.Logic.{_≢_, ⊎-elim, inl}
 use mathlib.Core.Bool.{Bool, true, false, cond, not, false≢true}
 use mathlib.Core.List.{List, [], _∷_, _++_}
 use native.Mathlib.Omega.{arith}
-use native.Mathlib.Decide.{ℕ-discrete}
 use Rattle.packet.specs.declared.Packet.{Packet}
 use Rattle.packet.specs.declared.Packet.the-variants.{Resume}
 use Rattle.state.specs.declared.State.the-variants.{Checkpointed}
@@ -18,14 +17,15 @@ use Rattle.claims.proofs.State.Fun.{never, is-false, and-true, upd-same
 use Rattle.claims.proofs.State.View.{View, Own, Side, used}
 use Rattle.claims.proofs.State.Methods.{sCleared}
 use Rattle.claims.proofs.State.ViewMoves.{vPut, vBroadcast, vResumed}
-use Rattle.claims.proofs.Invariant.Facts.{Big, Mind, Ghost, Pair, aware, unaware, linked}
-use Rattle.claims.proofs.Invariant.Whole.{Inv, Place-of, PairAt, ChainOf, SumsOf, PlacesOf, workOf, alarmOf, tabOf, lkOf, outOf, gotOf}
+use Rattle.claims.proofs.Invariant.States.{known-not-lost}
+use Rattle.claims.proofs.Invariant.Facts.{Big, Mind, Ghost, Pair, unaware, linked}
+use Rattle.claims.proofs.Invariant.Whole.{Inv, PairAt, ChainOf, SumsOf, PlacesOf, outOf, gotOf}
 use Rattle.claims.proofs.Invariant.Logs.{resumedBy}
-use Rattle.claims.proofs.Invariant.Words.{chief-lives, un-works, un-not-aware, used-linked}
-use Rattle.claims.proofs.Invariant.Frame.{same-ghost, moved, minded, move-pairs, move-nodes, move-books, move-ground, move-meets}
-use Rattle.claims.proofs.Moves.Rousing.{oResumed, resumed-not-aware, roused-from, roused-to}
+use Rattle.claims.proofs.Invariant.Words.{chief-lives, un-works, un-not-aware, used-linked, lead-calm}
+use Rattle.claims.proofs.Invariant.Frame.{same-ghost, moved, minded, move-pairs, move-nodes, move-books, move-leads, move-ground, move-meets}
+use Rattle.claims.proofs.Moves.Rousing.{oResumed, resumed-un, roused-from, roused-to, roused-places}
 use Rattle.claims.proofs.Moves.CommitPairs.{bCommit, mCommit, gCommit, sUnsaved, Through, unsaved-from, turned, line-empty, not-closed}
-use Rattle.claims.proofs.Moves.CommitNodes.{wrote-state, commit-node, chief-node, commit-books, chief-books}
+use Rattle.claims.proofs.Moves.CommitNodes.{wrote-state, commit-node, chief-node, commit-books, chief-books, commit-lead}
 use Rattle.claims.proofs.Moves.CommitSums.{sum-exact}
 
 -- the group after the commit
@@ -171,40 +171,8 @@ module _ (n total : ℕ) (v : View) (γ : Ghost) (i : Inv n total v γ) (un : un
   work-kept : works (o′ .state) ≡ works (v .own k .state)
   work-kept = sym (un-works b (v .own k) un)
 
-  work-at : (c : ℕ) → workOf v′ c ≡ workOf v c
-  work-at = kept-at (λ (x : Own). works (x .state)) (v .own) k o′ work-kept
-
-  -- who is aware of a fault is not the coordinator
-  aware-other : (c : ℕ) → aware b (v .own c) ≡ true → c ≢ k
-  aware-other c e q = un-not-aware b (v .own k) un (subst (λ (j : ℕ). aware b (v .own j) ≡ true) q e)
-
-  same-at : (c : ℕ) → aware b (v .own c) ≡ true → v′ .own c ≡ v .own c
-  same-at c e = upd-other (v .own) k o′ c (aware-other c e)
-
-  aware-back : (c : ℕ) → aware b (v′ .own c) ≡ true → aware b (v .own c) ≡ true
-  aware-back c e = elim (ℕ-discrete c k) [
-    | yes q ↦ resumed-not-aware b (v .own k) (Known (not (b .topv))) (subst (λ (x : Own). aware b x ≡ true) (ap (upd (v .own) k o′) q ∙ upd-same (v .own) k o′) e)
-    | no d ↦ subst (λ (x : Own). aware b x ≡ true) (upd-other (v .own) k o′ c d) e
-  ]
-
-  aware-on : (c : ℕ) → aware b (v .own c) ≡ true → aware b (v′ .own c) ≡ true
-  aware-on c e = subst (λ (x : Own). aware b x ≡ true) (sym (same-at c e)) e
-
-  alarm-on : (c : ℕ) → aware b (v .own c) ≡ true → alarmOf v′ c ≡ alarmOf v c
-  alarm-on c e = ap (λ (x : Own). x .alarm) (same-at c e)
-
   commit-places : PlacesOf v′ δ
-  commit-places =
-      let p = i .places in
-      record {
-        standing = p .standing;
-        failedFor = λ x t w. let r = p .failedFor x t (sym (work-at x) ∙ w) in (r .0, aware-on (r .0) (r .1), alarm-on (r .0) (r .1) ∙ r .2);
-        faultyFor = λ x y l t w. let r = p .faultyFor x y l t w in (r .0, aware-on (r .0) (r .1), alarm-on (r .0) (r .1) ∙ r .2);
-        someone = λ f. let r = p .someone f in (r .0, aware-on (r .0) (r .1));
-        fromOne = λ c e q f.
-            let a = aware-back c e in
-            subst (λ (w : ℕ → Bool). Place-of w (tabOf γ) (lkOf γ) (v .sound) q) (sym (fun-ext work-at)) (p .fromOne c a q (sym (alarm-on c a) ∙ f));
-      }
+  commit-places = roused-places v γ k (Known (not (b .topv))) un s′ lines′ (v .slots) (i .places)
 
   commit-chain : ChainOf v′ δ′
   commit-chain = record {
@@ -223,7 +191,9 @@ module _ (n total : ℕ) (v : View) (γ : Ghost) (i : Inv n total v γ) (un : un
           (chief-node _ _ _ _ _ (i .core .nodes k) (through k) lives thaw refl un);
       books = move-books v δ (bCommit b) k o′ (mCommit (γ .mind k)) s′ lines′ (v .slots) (γ .wire) (λ j. refl) (λ j. refl)
           (λ j d. commit-books _ _ _ _ _ (i .core .books j)) (chief-books _ _ _ _ _ (Known (not (b .topv))) un (i .core .books k));
-      ground = move-ground v δ k o′ (mCommit (γ .mind k)) s′ lines′ (v .slots) (γ .wire) work-kept refl (λ i j. refl) (bCommit b) refl refl refl refl (i .core .ground);
+      leads = move-leads v δ (bCommit b) k o′ (mCommit (γ .mind k)) s′ lines′ (v .slots) (γ .wire) (λ j d. commit-lead _ _ _ (i .core .leads j))
+          (commit-lead _ _ _ (lead-calm b k (v .own k) o′ (i .core .leads k) un (resumed-un b (v .own k) (Known (not (b .topv)))) refl known-not-lost));
+      ground = move-ground v δ k o′ (mCommit (γ .mind k)) s′ lines′ (v .slots) (γ .wire) work-kept refl (λ i j. refl) (bCommit b) refl refl refl refl refl (i .core .ground);
       chain = commit-chain;
       sums = subst (λ (x : Ghost). SumsOf total x) (sym (same-ghost δ k)) commit-sums;
     };

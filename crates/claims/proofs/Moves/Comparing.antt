@@ -300,7 +300,7 @@ module _ (n total : ℕ) (v : View) (γ : Ghost) (i : Inv n total v γ) (a b : �
 
     compared : Inv n total v′ δ
     compared = quiet-inv n total v γ i b (v .own b) (γ .mind b) s′ lines′ (v .slots) wire′
-        (refl, refl, refl, refl, refl) (refl, refl, refl, refl, refl, refl, refl) link-kept used-kept
+        (refl, refl, refl, refl, refl, refl, refl) (refl, refl, refl, refl, refl, refl, refl) link-kept used-kept
         (move-pairs v γ (γ .big) b (v .own b) (γ .mind b) s′ lines′ (v .slots) wire′ (λ c d x y. line-past c d y) (λ c d x y. wire-past c d y)
         (λ c d x y. i .core .pairs c d) (λ j x. from-b j) self (λ c x. to-b c))
         (move-nodes v γ (γ .big) b (v .own b) (γ .mind b) s′ lines′ (v .slots) wire′ (λ c x. refl) (λ c x. i .core .nodes c) (i .core .nodes b))

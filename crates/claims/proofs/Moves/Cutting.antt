@@ -19,8 +19,8 @@ use Rattle.claims.proofs.State.Shape.{Pictured}
 use Rattle.claims.proofs.State.ViewMoves.{oPhase, vCut}
 use Rattle.claims.proofs.Invariant.Facts.{Big, Mind, Wire, Ghost, Pair, Node, Books, aware, unaware, linked, behind, closed}
 use Rattle.claims.proofs.Invariant.Whole.{Inv, PairAt, ChainOf}
-use Rattle.claims.proofs.Invariant.Words.{un-of, un-works, un-not-aware, linked-back, used-linked}
-use Rattle.claims.proofs.Invariant.Frame.{minded, move-pairs, move-nodes, move-books, move-ground, move-places, move-meets, move-sums}
+use Rattle.claims.proofs.Invariant.Words.{un-of, un-works, un-not-aware, linked-back, used-linked, lead-same}
+use Rattle.claims.proofs.Invariant.Frame.{minded, move-pairs, move-nodes, move-books, move-leads, move-ground, move-places, move-meets, move-sums}
 
 abbrev pub mCut : Mind → Image → Mind
 mCut m x = record {
@@ -274,8 +274,10 @@ module _ (n total : ℕ) (v : View) (γ : Ghost) (i : Inv n total v γ) (c : ℕ
           (cut-node _ _ _ _ _ (i .core .nodes c) un begins whole);
       books = move-books v γ (γ .big) c o′ m′ (v .side c) (v .lines) (v .slots) (γ .wire) (λ j. refl) (λ j. refl) (λ j d. i .core .books j)
           (cut-books _ _ _ _ _ un (i .core .books c));
+      leads = move-leads v γ (γ .big) c o′ m′ (v .side c) (v .lines) (v .slots) (γ .wire) (λ j d. i .core .leads j)
+          (lead-same (γ .big) c (v .own c) o′ (i .core .leads c) works-on unknowing refl refl refl (λ e. e));
       ground = move-ground v γ c o′ m′ (v .side c) (v .lines) (v .slots) (γ .wire) works-on refl (λ i j. refl) (γ .big)
-          refl refl refl refl (i .core .ground);
+          refl refl refl refl refl (i .core .ground);
       chain = cut-chain;
       sums = move-sums total γ (γ .big) c m′ (γ .wire) refl refl refl refl (i .core .sums);
     };

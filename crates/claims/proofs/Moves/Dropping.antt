@@ -105,7 +105,7 @@ module _ (n total : ℕ) (v : View) (γ : Ghost) (i : Inv n total v γ) (a b : �
 
   pub line-inv : Inv n total (setLine v a b k) γ
   line-inv = record {
-    core = record { pairs = line-pairs; nodes = i .core .nodes; books = i .core .books; ground = i .core .ground; chain = i .core .chain; sums = i .core .sums };
+    core = record { pairs = line-pairs; nodes = i .core .nodes; books = i .core .books; leads = i .core .leads; ground = i .core .ground; chain = i .core .chain; sums = i .core .sums };
     places = i .places;
     meets = i .meets;
   }

@@ -12,12 +12,12 @@ use Rattle.state.specs.State.{isIn, works, isUnknown, bitOf}
 use Rattle.claims.proofs.State.Fun.{never}
 use Rattle.claims.proofs.State.View.{Own}
 use Rattle.claims.proofs.Invariant.States.{failed-state, other-state}
-use Rattle.claims.proofs.Invariant.Facts.{Big, Mind, Node, Books, aware, unaware}
+use Rattle.claims.proofs.Invariant.Facts.{Big, Mind, Node, Books, Lead, aware, unaware}
 use Rattle.claims.proofs.Invariant.Words.{un-works}
 use Rattle.claims.proofs.Moves.Rousing.{oResumed}
 use Rattle.claims.proofs.Moves.EndPairs.{bEnd, mEnd}
 
-module _ (b : Big) (k c : ℕ) (o : Own) (m : Mind) (z : Bool → Image) (h : Node b c o m z) (knows : works (o .state) ≡ true → aware b o ≡ true)
+module _ (b : Big) (k x c : ℕ) (o : Own) (m : Mind) (z : Bool → Image) (h : Node b c o m z) (knows : works (o .state) ≡ true → aware b o ≡ true)
     (rec : works (o .state) ≡ true → o .state ≡ Recovered) where
   -- a cabinet is failed or recovered
   only : (P : State → Type 0) → P Failed → P Recovered → P (o .state)
@@ -37,7 +37,7 @@ module _ (b : Big) (k c : ℕ) (o : Own) (m : Mind) (z : Bool → Image) (h : No
   not-unknown w v e = never (ap isUnknown e) (known-all w)
 
   abbrev b′ : Big
-  b′ = bEnd b k
+  b′ = bEnd b k x
 
   abbrev m′ : Mind
   m′ = mEnd m (works (o .state))
@@ -149,4 +149,15 @@ module _ (b : Big) (k c : ℕ) (o : Own) (m : Mind) (z : Bool → Image) (h : No
     bounded = omega arith;
     live = λ u. (0, rw (e, h .restored (knows (wo u)) (rec (wo u)) .0) (omega arith));
     atCut = λ a x. absurd (false≢true x);
+  }
+
+  -- who ended the recovery leads
+  pub ended-lead : (p : Own) → p .lead ≡ o .lead → p .version ≡ o .version → works (p .state) ≡ works (o .state)
+      → (works (o .state) ≡ true → o .lead ≡ k) → (c ≡ k → works (o .state) ≡ true) → Lead b′ c p
+  ended-lead p lead version work led up = record {
+    steady = λ u. lead ∙ led (sym work ∙ un-works b′ p u);
+    moved = λ a. absurd (false≢true a);
+    lives = λ e f. (work ∙ up e, λ a. absurd (false≢true a));
+    fallen = λ e f. absurd (true≢false f);
+    blank = λ w e. absurd (never (ap isUnknown (sym version ∙ e)) (known-all (sym work ∙ w)));
   }

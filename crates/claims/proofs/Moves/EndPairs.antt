@@ -24,8 +24,8 @@ use Rattle.claims.proofs.Invariant.Words.{un-works, un-not-aware}
 
 -- ---- the ghost as a recovery's end leaves it
 
-abbrev pub bEnd : Big → ℕ → Big
-bEnd b k = record { faulted = false; topv = b .topv; adopted = true; chief = k; alive = true; begun = false; frozen = false; calm = true; clean = true }
+abbrev pub bEnd : Big → ℕ → ℕ → Big
+bEnd b k x = record { faulted = false; topv = b .topv; adopted = true; chief = k; heir = x; alive = true; begun = false; frozen = false; calm = true; clean = true }
 
 abbrev pub mEnd : Mind → Bool → Mind
 mEnd m t = record {
@@ -63,13 +63,13 @@ pub record Done (b : Big) (q : Place) (o : Own) (m : Mind) : Type 0 where
   pub place : works (o .state) ≡ true → o .alarm ≡ At q
   pub ready : works (o .state) ≡ true → m .ready ≡ true
 
-module _ (b : Big) (k : ℕ) (q : Place) (c d : ℕ) (o : Own) (m : Mind) (p : Own) (n : Mind) (s t : Side) (l : List Packet) (w : Wire)
+module _ (b : Big) (k x : ℕ) (q : Place) (c d : ℕ) (o : Own) (m : Mind) (p : Own) (n : Mind) (s t : Side) (l : List Packet) (w : Wire)
     (h : Pair b c d o m p n s t l w) (co : Done b q o m) (pd : Done b q p n) (sound : Bool)
     (tabs : (n .tab && not (hitsCabinet q d)) ≡ works (p .state)) (links : (w .lk && not (hitsLink q c d)) ≡ sound)
     (back : works (p .state) ≡ true → works (o .state) ≡ true → sound ≡ true → used t ≡ true)
     (fresh-back : works (p .state) ≡ true → (t .put ≡ startCheck) × (t .took ≡ startCheck) × (t .hurt ≡ false)) where
   abbrev b′ : Big
-  b′ = bEnd b k
+  b′ = bEnd b k x
 
   o-works : unaware b′ o ≡ true → works (o .state) ≡ true
   o-works = un-works b′ o

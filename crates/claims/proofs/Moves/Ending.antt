@@ -1,6 +1,6 @@
 -- The end of a recovery: with restored reports of all in its table the coordinator finds every working cabinet recovered, for one
 -- fault place and with one table; from then on the group is as at the start, from the images of the save that the rule gives.
-use Prim.Native.Nat.{ℕ, _<_, _≤_}
+use Prim.Native.Nat.{ℕ, _<_}
 use mathlib.Core.Path.{_≡_, refl, sym, ap, _∙_, subst}
 use mathlib.Core.Logic.{_≢_, inl}
 use mathlib.Core.Bool.{Bool, true, false, not, _&&_, _||_, true≢false, false≢true}
@@ -10,7 +10,7 @@ use borrow.Author.Tests.{eqb-true, eq-eqb, ne-eqb}
 use native.Mathlib.Omega.{arith}
 use native.Mathlib.Decide.{decLt}
 use Rattle.packet.specs.declared.Place.{Place}
-use Rattle.packet.specs.declared.Place.the-variants.{Cabinet as AtCabinet, Link as AtLink}
+use Rattle.packet.specs.declared.Place.the-variants.{Failed as AtFailed, Link as AtLink}
 use Rattle.packet.specs.declared.Packet.{Packet}
 use Rattle.packet.specs.Packet.{startCheck}
 use Rattle.state.specs.declared.State.{State}
@@ -22,27 +22,30 @@ use Rattle.state.specs.State.{isIn, works, isUnknown, bitOf}
 use Rattle.protocol.specs.History.{upd}
 use Rattle.claims.proofs.State.Fun.{never, is-false, and-true, and-intro, sum-zero, upd-same, upd-other, upd-elim, kept}
 use Rattle.claims.proofs.State.View.{View, Own, Side, used}
+use Rattle.claims.proofs.State.Leading.{nextOver}
 use Rattle.claims.proofs.State.Methods.{sCleared, hitsCabinet, hitsLink}
 use Rattle.claims.proofs.Answers.Tests.{fault-for}
 use Rattle.claims.proofs.Invariant.Facts.{Big, Mind, Ghost, Pair, Books, unaware}
-use Rattle.claims.proofs.Invariant.Whole.{Ground, Place-of, failed, faulty, Places, Inv, PairAt, NodeAt, BooksAt, workOf, awareOf, alarmOf, outOf, gotOf, GroundOf, PlacesOf, MeetsOf, ChainOf, SumsOf}
+use Rattle.claims.proofs.Invariant.Whole.{Ground, Place-of, failed, tripped, faulty, Places, Inv, PairAt, NodeAt, BooksAt, LeadAt, workOf, awareOf, alarmOf, outOf, gotOf, GroundOf, PlacesOf, MeetsOf, ChainOf, SumsOf}
 use Rattle.claims.proofs.Invariant.Logs.{resumedBy}
 use Rattle.claims.proofs.Invariant.Words.{un-works, aware-works, used-linked}
-use Rattle.claims.proofs.Invariant.Frame.{same-ghost, moved, move-pairs, move-nodes}
+use Rattle.claims.proofs.Invariant.Frame.{same-ghost, moved, move-pairs, move-nodes, move-leads}
 use Rattle.claims.proofs.Moves.Rousing.{oResumed, wait-short, roused-from, roused-to}
 use Rattle.claims.proofs.Moves.EndPairs.{bEnd, mEnd, wEnd, Done, ended-pair}
-use Rattle.claims.proofs.Moves.EndNodes.{ended-node, ended-chief, ended-books}
+use Rattle.claims.proofs.Moves.EndNodes.{ended-node, ended-chief, ended-books, ended-lead}
 
 -- ---- one place for all
 
 -- whether a place concerns a cabinet that works, or a link that stands
-module _ {work tab : ℕ → Bool} {lk sound : ℕ → ℕ → Bool} where
-  misses : (q : Place) → Place-of work tab lk sound q → (d : ℕ) → work d ≡ true → hitsCabinet q d ≡ false
+module _ {work tab knows : ℕ → Bool} {alarm : ℕ → Alarm} {lk sound : ℕ → ℕ → Bool} where
+  misses : (q : Place) → Place-of work tab knows alarm lk sound q → (d : ℕ) → work d ≡ true → hitsCabinet q d ≡ false
   misses _ (failed x t w) d e = ne-eqb d x (λ f. never e (ap work f ∙ w))
+  misses _ (tripped x k a) d e = refl
   misses _ (faulty x y l k s) d e = refl
 
-  stands : (q : Place) → Place-of work tab lk sound q → ((i j : ℕ) → sound i j ≡ sound j i) → (c d : ℕ) → sound c d ≡ true → hitsLink q c d ≡ false
+  stands : (q : Place) → Place-of work tab knows alarm lk sound q → ((i j : ℕ) → sound i j ≡ sound j i) → (c d : ℕ) → sound c d ≡ true → hitsLink q c d ≡ false
   stands _ (failed x t w) both c d e = refl
+  stands _ (tripped x k a) both c d e = refl
   stands _ (faulty x y l k s) both c d e = go (eqb c x) (eqb d y) (eqb c y) (eqb d x) refl refl refl refl
     where
       here : eqb c x ≡ true → eqb d y ≡ true → ⊥
@@ -58,7 +61,7 @@ module _ {work tab : ℕ → Bool} {lk sound : ℕ → ℕ → Bool} where
       go false q true false a b f h = refl
       go false q false u a b f h = refl
 
-hits-itself : (x : ℕ) → hitsCabinet (AtCabinet x) x ≡ true
+hits-itself : (x : ℕ) → hitsCabinet (AtFailed x) x ≡ true
 hits-itself x = eq-eqb x x refl
 
 hits-link : (x y : ℕ) → hitsLink (AtLink x y) x y ≡ true
@@ -115,7 +118,7 @@ module _ (n total : ℕ) (v : View) (γ : Ghost) (i : Inv n total v γ) (k : ℕ
   done-at : (d : ℕ) → Done b q (v .own d) (γ .mind d)
   done-at d = record { knows = all-aware d; recovered = all-recovered d; place = one-place d; ready = all-ready d }
 
-  at-place : Place-of (workOf v) (λ c. γ .mind c .tab) (λ c d. γ .wire c d .lk) (v .sound) q
+  at-place : Place-of (workOf v) (λ c. γ .mind c .tab) (awareOf v γ) (alarmOf v) (λ c d. γ .wire c d .lk) (v .sound) q
   at-place = i .places .fromOne k aw q (the-place .1)
 
   -- the tables are who works and which links stand
@@ -128,7 +131,7 @@ module _ (n total : ℕ) (v : View) (γ : Ghost) (i : Inv n total v γ) (k : ℕ
       go false e false f = refl
       go false e true f =
           let a = i .places .failedFor d f e in
-          let same : At q ≡ At (AtCabinet d) = sym (one-place (a .0) (aware-works b (v .own (a .0)) (a .1))) ∙ a .2 in
+          let same : At q ≡ At (AtFailed d) = sym (one-place (a .0) (aware-works b (v .own (a .0)) (a .1))) ∙ a .2 in
           ap (λ (x : Alarm). not (hitsAt x)) same ∙ ap not (hits-itself d)
         where
           hitsAt : Alarm → Bool
@@ -162,10 +165,19 @@ module _ (n total : ℕ) (v : View) (γ : Ghost) (i : Inv n total v γ) (k : ℕ
           same : (c < d → ⊥) → (d < c → ⊥) → d ≡ c
           same m l = omega arith
 
+  -- all tables name one coordinator
+  pub one-lead : (c d : ℕ) → workOf v c ≡ true → workOf v d ≡ true → v .own c .lead ≡ v .own d .lead
+  one-lead c d wc wd =
+      i .core .leads c .moved (all-aware c wc) q (one-place c wc) .1 ∙ sym (i .core .leads d .moved (all-aware d wd) q (one-place d wd) .1)
+
   -- ---- the ghost, and the group once the coordinator k has gone to normal
 
+  -- who leads after it
+  abbrev x′ : ℕ
+  x′ = nextOver (workOf v) k
+
   abbrev γ′ : Ghost
-  γ′ = record { big = bEnd b k; mind = λ c. mEnd (γ .mind c) (workOf v c); wire = λ c d. wEnd (v .sound c d) }
+  γ′ = record { big = bEnd b k x′; mind = λ c. mEnd (γ .mind c) (workOf v c); wire = λ c d. wEnd (v .sound c d) }
 
   sound-back : (c d : ℕ) → workOf v d ≡ true → workOf v c ≡ true → v .sound c d ≡ true → used (v .side d c) ≡ true
   sound-back c d wd wc s = in-use-at d c wd wc (i .core .ground .soundBoth d c ∙ s)
@@ -176,7 +188,7 @@ module _ (n total : ℕ) (v : View) (γ : Ghost) (i : Inv n total v γ) (k : ℕ
   -- with the fault forgotten, and the coordinator still recovered
   calmed : (c d : ℕ) → PairAt v γ′ c d
   calmed c d =
-      ended-pair b k q c d (v .own c) (γ .mind c) (v .own d) (γ .mind d) (v .side c d) (v .side d c) (v .lines c d) (γ .wire c d) (i .core .pairs c d)
+      ended-pair b k x′ q c d (v .own c) (γ .mind c) (v .own d) (γ .mind d) (v .side c d) (v .side d c) (v .lines c d) (γ .wire c d) (i .core .pairs c d)
       (done-at c) (done-at d) (v .sound c d) (tabs-at d) (links-at c d) (sound-back c d) (fresh-at c d)
 
   wk : workOf v k ≡ true
@@ -185,10 +197,10 @@ module _ (n total : ℕ) (v : View) (γ : Ghost) (i : Inv n total v γ) (k : ℕ
   recovered-k : v .own k .state ≡ Recovered
   recovered-k = all-recovered k wk
 
-  calm-end : (o : Own) → works (o .state) ≡ true → unaware (bEnd b k) o ≡ true
+  calm-end : (o : Own) → works (o .state) ≡ true → unaware (bEnd b k x′) o ≡ true
   calm-end o e = rw e
 
-  pub tabled : (c d : ℕ) → workOf v c ≡ true → (v .side c d .cab ≡ workOf v d) × (v .side c d .link ≡ v .sound c d)
+  tabled : (c d : ℕ) → workOf v c ≡ true → (v .side c d .cab ≡ workOf v d) × (v .side c d .link ≡ v .sound c d)
   tabled c d w = calmed c d .table (calm-end (v .own c) w)
 
   meets-end : (c d : ℕ) → workOf v c ≡ true → used (v .side c d) ≡ true → workOf v d ≡ true
@@ -207,30 +219,30 @@ module _ (n total : ℕ) (v : View) (γ : Ghost) (i : Inv n total v γ) (k : ℕ
   v′ = moved v k o′ s′ lines′ (v .slots)
 
   ended-from : (d : ℕ) (p : Own) (n : Mind) (t : Side) → (used (v .side k d) ≡ true → works (p .state) ≡ true)
-      → Pair (bEnd b k) k d (v .own k) (γ′ .mind k) p n (v .side k d) t (v .lines k d) (wEnd (v .sound k d))
-      → Pair (bEnd b k) k d o′ (γ′ .mind k) p n (s′ d) t (lines′ k d) (wEnd (v .sound k d))
+      → Pair (bEnd b k x′) k d (v .own k) (γ′ .mind k) p n (v .side k d) t (v .lines k d) (wEnd (v .sound k d))
+      → Pair (bEnd b k x′) k d o′ (γ′ .mind k) p n (s′ d) t (lines′ k d) (wEnd (v .sound k d))
   ended-from d p n t meets h =
-      subst (λ (f : ℕ → List Packet). Pair (bEnd b k) k d o′ (γ′ .mind k) p n (s′ d) t (f d) (wEnd (v .sound k d)))
+      subst (λ (f : ℕ → List Packet). Pair (bEnd b k x′) k d o′ (γ′ .mind k) p n (s′ d) t (f d) (wEnd (v .sound k d)))
       (sym (upd-same (v .lines) k (λ d. resumedBy (used (v .side k d)) (v .lines k d))))
-      (roused-from (bEnd b k) k d (v .own k) (γ′ .mind k) p n (v .side k d) t (v .lines k d) (wEnd (v .sound k d)) h
+      (roused-from (bEnd b k x′) k d (v .own k) (γ′ .mind k) p n (v .side k d) t (v .lines k d) (wEnd (v .sound k d)) h
       (calm-end (v .own k) wk) (wait-short h (and-intro (calm-end (v .own k) wk) (rw recovered-k))) (λ j e. never (h .closedJoined j e) refl) meets
       (v .own k .version) (used (v .side k d)) (λ e. e) (λ j e. used-linked h (calm-end (v .own k) wk) j))
 
   ended-to : (c : ℕ) (o : Own) (m : Mind) (s : Side) (l : List Packet)
-      → Pair (bEnd b k) c k o m (v .own k) (γ′ .mind k) s (v .side k c) l (wEnd (v .sound c k))
-      → Pair (bEnd b k) c k o m o′ (γ′ .mind k) s (s′ c) l (wEnd (v .sound c k))
+      → Pair (bEnd b k x′) c k o m (v .own k) (γ′ .mind k) s (v .side k c) l (wEnd (v .sound c k))
+      → Pair (bEnd b k x′) c k o m o′ (γ′ .mind k) s (s′ c) l (wEnd (v .sound c k))
   ended-to c o m s l h =
-      roused-to (bEnd b k) c k o m (v .own k) (γ′ .mind k) s (v .side k c) l (wEnd (v .sound c k)) h
+      roused-to (bEnd b k x′) c k o m (v .own k) (γ′ .mind k) s (v .side k c) l (wEnd (v .sound c k)) h
       (calm-end (v .own k) wk) refl refl refl (v .own k .version)
 
   ended-pairs : (c d : ℕ) → PairAt v′ γ′ c d
   ended-pairs c d =
       subst (λ (δ : Ghost). PairAt v′ δ c d) (same-ghost γ′ k)
-      (move-pairs v γ′ (bEnd b k) k o′ (γ′ .mind k) s′ lines′ (v .slots) (γ′ .wire)
+      (move-pairs v γ′ (bEnd b k x′) k o′ (γ′ .mind k) s′ lines′ (v .slots) (γ′ .wire)
       (λ x y n m. ap (λ (f : ℕ → List Packet). f y) (upd-other (v .lines) k (λ d. resumedBy (used (v .side k d)) (v .lines k d)) x n)) (λ x y n m. refl) (λ x y n m. calmed x y)
       (λ d n. ended-from d (v .own d) (γ′ .mind d) (v .side d k) (meets-end k d wk) (calmed k d))
       (ended-to k o′ (γ′ .mind k) (s′ k) (lines′ k k) (ended-from k (v .own k) (γ′ .mind k) (v .side k k) (meets-end k k wk) (calmed k k)))
-      (λ c n. subst (λ (f : ℕ → List Packet). Pair (bEnd b k) c k (v .own c) (γ′ .mind c) o′ (γ′ .mind k) (v .side c k) (s′ c) (f k) (wEnd (v .sound c k)))
+      (λ c n. subst (λ (f : ℕ → List Packet). Pair (bEnd b k x′) c k (v .own c) (γ′ .mind c) o′ (γ′ .mind k) (v .side c k) (s′ c) (f k) (wEnd (v .sound c k)))
       (sym (upd-other (v .lines) k (λ d. resumedBy (used (v .side k d)) (v .lines k d)) c n))
       (ended-to c (v .own c) (γ′ .mind c) (v .side c k) (v .lines c k) (calmed c k)))
       c d)
@@ -243,30 +255,36 @@ module _ (n total : ℕ) (v : View) (γ : Ghost) (i : Inv n total v γ) (k : ℕ
   nothing-got : (c : ℕ) → gotOf γ′ c ≡ 0
   nothing-got c = sum-zero (λ d. 0) 8 (λ j l. refl)
 
-  ended-book : (c : ℕ) → Books (bEnd b k) (upd (v .own) k o′ c) (γ′ .mind c) 0 0
+  ended-book : (c : ℕ) → Books (bEnd b k x′) (upd (v .own) k o′ c) (γ′ .mind c) 0 0
   ended-book c =
-      upd-elim (λ (p : Own). Books (bEnd b k) p (γ′ .mind c) 0 0) (v .own) k o′ c
-      (λ e. subst (λ (j : ℕ). Books (bEnd b k) o′ (γ′ .mind j) 0 0) (sym e)
-      (ended-books b k k (v .own k) (γ .mind k) (v .slots k) (i .core .nodes k) (all-aware k) (all-recovered k) o′ refl (λ u. wk)))
-      (λ n. ended-books b k c (v .own c) (γ .mind c) (v .slots c) (i .core .nodes c) (all-aware c) (all-recovered c) (v .own c) refl (un-works (bEnd b k) (v .own c)))
+      upd-elim (λ (p : Own). Books (bEnd b k x′) p (γ′ .mind c) 0 0) (v .own) k o′ c
+      (λ e. subst (λ (j : ℕ). Books (bEnd b k x′) o′ (γ′ .mind j) 0 0) (sym e)
+      (ended-books b k x′ k (v .own k) (γ .mind k) (v .slots k) (i .core .nodes k) (all-aware k) (all-recovered k) o′ refl (λ u. wk)))
+      (λ n. ended-books b k x′ c (v .own c) (γ .mind c) (v .slots c) (i .core .nodes c) (all-aware c) (all-recovered c) (v .own c) refl (un-works (bEnd b k x′) (v .own c)))
 
   ended-bookss : (c : ℕ) → BooksAt v′ γ′ c
   ended-bookss c =
-      subst (λ (x : ℕ). Books (bEnd b k) (upd (v .own) k o′ c) (γ′ .mind c) x (gotOf γ′ c)) (sym (nothing-out c))
-      (subst (λ (x : ℕ). Books (bEnd b k) (upd (v .own) k o′ c) (γ′ .mind c) 0 x) (sym (nothing-got c)) (ended-book c))
+      subst (λ (x : ℕ). Books (bEnd b k x′) (upd (v .own) k o′ c) (γ′ .mind c) x (gotOf γ′ c)) (sym (nothing-out c))
+      (subst (λ (x : ℕ). Books (bEnd b k x′) (upd (v .own) k o′ c) (γ′ .mind c) 0 x) (sym (nothing-got c)) (ended-book c))
 
   work-same : workOf v′ ≡ workOf v
   work-same = kept (λ (x : Own). works (x .state)) (v .own) k o′ (sym wk)
 
-  -- k is the lowest that works, and the version of who failed since the last recovery's end names its slot
-  module _ (least : (j : ℕ) → workOf v j ≡ true → k ≤ j)
+  -- every table names k, and the version of who failed since the last recovery's end names its slot
+  module _ (led : (j : ℕ) → workOf v j ≡ true → v .own j .lead ≡ k)
       (note : (d : ℕ) → γ .mind d .tab ≡ true → workOf v d ≡ false → bitOf (v .own d .version) ≡ γ .big .topv) where
     ended-nodes : (c : ℕ) → NodeAt v′ γ′ c
     ended-nodes c =
         subst (λ (δ : Ghost). NodeAt v′ δ c) (same-ghost γ′ k)
-        (move-nodes v γ′ (bEnd b k) k o′ (γ′ .mind k) s′ lines′ (v .slots) (γ′ .wire) (λ j n. refl)
-        (λ j n. ended-node b k j (v .own j) (γ .mind j) (v .slots j) (i .core .nodes j) (all-aware j) (all-recovered j) (note j) n)
-        (ended-chief b k k (v .own k) (γ .mind k) (v .slots k) (i .core .nodes k) (all-aware k) (all-recovered k) wk) c)
+        (move-nodes v γ′ (bEnd b k x′) k o′ (γ′ .mind k) s′ lines′ (v .slots) (γ′ .wire) (λ j n. refl)
+        (λ j n. ended-node b k x′ j (v .own j) (γ .mind j) (v .slots j) (i .core .nodes j) (all-aware j) (all-recovered j) (note j) n)
+        (ended-chief b k x′ k (v .own k) (γ .mind k) (v .slots k) (i .core .nodes k) (all-aware k) (all-recovered k) wk) c)
+
+    ended-leads : (c : ℕ) → LeadAt v′ γ′ c
+    ended-leads =
+        move-leads v γ′ (bEnd b k x′) k o′ (γ′ .mind k) s′ lines′ (v .slots) (γ′ .wire)
+        (λ j n. ended-lead b k x′ j (v .own j) (γ .mind j) (v .slots j) (i .core .nodes j) (all-aware j) (all-recovered j) (v .own j) refl refl refl (led j) (λ e. absurd (n e)))
+        (ended-lead b k x′ k (v .own k) (γ .mind k) (v .slots k) (i .core .nodes k) (all-aware k) (all-recovered k) o′ refl refl (sym wk) (led k) (λ e. wk))
 
     self-apart : (c : ℕ) → v .sound c c ≡ false
     self-apart c = is-false (v .sound c c) (λ e. never (i .core .ground .soundLinks c c e) (i .core .ground .linkOther c))
@@ -274,15 +292,14 @@ module _ (n total : ℕ) (v : View) (γ : Ghost) (i : Inv n total v γ) (k : ℕ
     ended-ground : GroundOf n v′ γ′
     ended-ground =
         let g = i .core .ground in
-        subst (λ (f : ℕ → Bool). Ground n k true f (workOf v) (λ c. upd (v .own) k o′ c .store) (λ c. upd (v .own) k o′ c .home) (v .sound) (v .sound)) (sym work-same)
-        (subst (λ (f : ℕ → Bool). Ground n k true (workOf v) (workOf v) f (λ c. upd (v .own) k o′ c .home) (v .sound) (v .sound)) (sym (kept (λ (x : Own). x .store) (v .own) k o′ refl))
-        (subst (λ (f : ℕ → ℕ). Ground n k true (workOf v) (workOf v) (λ c. v .own c .store) f (v .sound) (v .sound)) (sym (kept (λ (x : Own). x .home) (v .own) k o′ refl))
+        subst (λ (f : ℕ → Bool). Ground n k x′ true f (workOf v) (λ c. upd (v .own) k o′ c .store) (λ c. upd (v .own) k o′ c .home) (v .sound) (v .sound)) (sym work-same)
+        (subst (λ (f : ℕ → Bool). Ground n k x′ true (workOf v) (workOf v) f (λ c. upd (v .own) k o′ c .home) (v .sound) (v .sound)) (sym (kept (λ (x : Own). x .store) (v .own) k o′ refl))
+        (subst (λ (f : ℕ → ℕ). Ground n k x′ true (workOf v) (workOf v) (λ c. v .own c .store) f (v .sound) (v .sound)) (sym (kept (λ (x : Own). x .home) (v .own) k o′ refl))
         (record {
           most = g .most;
           within = λ c w. g .within c (i .core .nodes c .placed w);
           chiefIn = wk;
-          chiefLeast = least;
-          aliveIs = sym wk;
+          heirIs = refl;
           linkBoth = g .soundBoth;
           linkOther = self-apart;
           soundBoth = g .soundBoth;
@@ -290,6 +307,8 @@ module _ (n total : ℕ) (v : View) (γ : Ghost) (i : Inv n total v γ) (k : ℕ
           homeStores = g .homeStores;
           storeWorks = g .storeWorks;
           reach = g .reach;
+          othersWork = λ e. absurd (true≢false e);
+          othersReach = λ e. absurd (true≢false e);
         })))
 
     ended-chain : ChainOf v′ γ′
@@ -327,7 +346,7 @@ module _ (n total : ℕ) (v : View) (γ : Ghost) (i : Inv n total v γ) (k : ℕ
 
     pub ended-inv : Inv n total v′ γ′
     ended-inv = record {
-      core = record { pairs = ended-pairs; nodes = ended-nodes; books = ended-bookss; ground = ended-ground; chain = ended-chain; sums = ended-sums };
+      core = record { pairs = ended-pairs; nodes = ended-nodes; books = ended-bookss; leads = ended-leads; ground = ended-ground; chain = ended-chain; sums = ended-sums };
       places = ended-places;
       meets = ended-meets;
     }

@@ -2,30 +2,35 @@
 use Prim.Native.Nat.{ℕ, _<_}
 use mathlib.Core.Path.{_≡_, refl, sym, ap, _∙_, subst}
 use mathlib.Core.Logic.{_≢_, _⊎_, inl, inr, ⊎-elim}
-use mathlib.Core.Bool.{Bool, true, false, not, _&&_, _||_, true≢false, false≢true}
+use mathlib.Core.Bool.{Bool, true, false, cond, not, _&&_, _||_, true≢false, false≢true}
 use mathlib.Core.List.{List, [], _∷_}
-use borrow.Author.Tests.{ne-eqb}
+use borrow.Author.Tests.{ne-eqb, eq-eqb, eqb-true}
 use native.Mathlib.Omega.{arith}
 use native.Mathlib.Decide.{ℕ-discrete}
 use Rattle.packet.specs.declared.Place.{Place}
-use Rattle.packet.specs.declared.Place.the-variants.{Link as AtLink}
+use Rattle.packet.specs.declared.Place.the-variants.{Failed as AtFailed, Tripped as AtTripped, Link as AtLink}
 use Rattle.packet.specs.declared.Packet.{Packet}
 use Rattle.packet.specs.declared.Packet.the-variants.{Fault}
 use Rattle.state.specs.declared.State.{State}
 use Rattle.state.specs.declared.State.the-variants.{Failed, Normal, CheckpBegin, Checkpointing, Checkpointed, Error, Recovering, Recovered, Crashed}
+use lib.Dec.{eqb}
+use Rattle.table.specs.Table.{isAt}
+use Rattle.cabinet.specs.declared.Alarm.{Alarm}
 use Rattle.cabinet.specs.declared.Alarm.the-variants.{Fault as At}
 use Rattle.image.specs.declared.Image.{Image}
 use Rattle.state.specs.State.{isIn, works, inRecovery, isUnknown}
 use Rattle.protocol.specs.History.{History, upd}
-use Rattle.claims.proofs.State.Fun.{never, is-true, is-false, and-true, and-intro, upd-elim, upd-same, upd-other, or-right, or-left, kept-at, or-map}
+use Rattle.claims.proofs.State.Fun.{never, is-true, is-false, and-true, and-intro, and-same, upd-elim, upd-same, upd-other, or-right, or-left, kept-at, or-map}
 use Rattle.claims.proofs.State.View.{View, Own, Side, used, setSound}
+use Rattle.claims.proofs.State.Leading.{nextOver, leadOver, next-same, next-without}
 use Rattle.claims.proofs.State.Methods.{sAlarmed, hitsCabinet, hitsLink}
+use Rattle.claims.proofs.State.ViewMoves.{leadAfter}
 use Rattle.claims.proofs.Invariant.States.{place-same}
-use Rattle.claims.proofs.Invariant.Facts.{Big, Mind, Wire, Ghost, Pair, Node, Books, aware, unaware, closed, amount, Amounts}
-use Rattle.claims.proofs.Invariant.Whole.{Core, Place-of, failed, faulty, PairAt, PlacesOf, MeetsOf, ChainOf, workOf, alarmOf, awareOf, calmOf, knownOf, tabOf, lkOf}
+use Rattle.claims.proofs.Invariant.Facts.{Big, Mind, Wire, Ghost, Pair, Node, Books, Lead, aware, unaware, closed, amount, Amounts}
+use Rattle.claims.proofs.Invariant.Whole.{Core, Place-of, failed, tripped, faulty, PairAt, PlacesOf, MeetsOf, ChainOf, workOf, alarmOf, awareOf, calmOf, knownOf, tabOf, lkOf}
 use Rattle.claims.proofs.Invariant.Past.{Past}
 use Rattle.claims.proofs.Invariant.Words.{un-of, un-works, un-not-aware, aware-recovers, aware-not-un}
-use Rattle.claims.proofs.Invariant.Frame.{minded, move-pairs, move-nodes, move-books, move-ground, move-sums, same-mind}
+use Rattle.claims.proofs.Invariant.Frame.{minded, move-pairs, move-nodes, move-books, move-leads, move-ground, move-sums, same-mind}
 use Rattle.claims.proofs.Moves.FirstFault.{bFaulted, bFrozen, gBig, gFaulted, gError, fault-core}
 use Rattle.claims.proofs.Moves.ErrorSeen.{vError, erredState, erredRest, erredLine, oErred, sErred, erred, error-seen, erred-recovers, erred-works, erred-running, erred-not-begun, erred-not-restored, erred-unknown, erred-alarms, erred-sound, erred-bare, strike-used, error-works}
 
@@ -36,22 +41,33 @@ pub frozen-pair : (b : Big) (k : Bool) (c d : ℕ) (o : Own) (m : Mind) (p : Own
     → Pair b c d o m p n s t l w → Pair (bFrozen b k) c d o m p n s t l w
 frozen-pair b k c d o m p n s t l w h = search
 
-module _ (b : Big) (fault : b .faulted ≡ true) (o : Own) (q : Place) where
-  erred-aware : aware b (oErred o q) ≡ true
+pub frozen-lead : (b : Big) (k : Bool) (c : ℕ) (o : Own) → Lead b c o → Lead (bFrozen b k) c o
+frozen-lead b k c o h = record { steady = h .steady; moved = h .moved; lives = h .lives; fallen = h .fallen; blank = h .blank }
+
+-- a struck coordinator is not the one after it, nor is it where it is not struck
+next-left : (tab : ℕ → Bool) (q : Place) (k c : ℕ) → isAt q k ≡ true → c ≢ k → c < 8 → tab c ≡ true
+    → nextOver (λ d. tab d && not (hitsCabinet q d)) k ≡ nextOver tab k
+next-left tab (AtFailed x) k c e d l t =
+    ap (λ (y : ℕ). nextOver (λ d. tab d && not (eqb d y)) k) (eqb-true x k e) ∙ next-without tab k c l d t
+next-left tab (AtTripped x) k c e d l t = next-same (λ d. tab d && true) tab k (λ d m. and-same (tab d))
+next-left tab (AtLink x y) k c e d l t = absurd (false≢true e)
+
+module _ (b : Big) (fault : b .faulted ≡ true) (o : Own) (q : Place) (j : ℕ) where
+  erred-aware : aware b (oErred o q j) ≡ true
   erred-aware = and-intro fault (erred-recovers (o .version))
 
-  not-calm : {A : Type 0} → unaware b (oErred o q) ≡ true → A
-  not-calm e = absurd (un-not-aware b (oErred o q) e erred-aware)
+  not-calm : {A : Type 0} → unaware b (oErred o q j) ≡ true → A
+  not-calm e = absurd (un-not-aware b (oErred o q j) e erred-aware)
 
 module _ (b : Big) (c d : ℕ) (o : Own) (m : Mind) (p : Own) (n : Mind) (s t : Side) (l : List Packet) (w : Wire) (h : Pair b c d o m p n s t l w)
-    (fault : b .faulted ≡ true) (q : Place) where
+    (fault : b .faulted ≡ true) (q : Place) (y : ℕ) where
   abbrev s′ : Side
   s′ = sAlarmed q c d s
 
   abbrev l′ : List Packet
   l′ = erredLine (o .version) q (used (sAlarmed q c d s))
 
-  erred-from : unaware b o ≡ true → (used s′ ≡ true → works (p .state) ≡ true) → Pair b c d (oErred o q) m p n s′ t l′ w
+  pub erred-from : unaware b o ≡ true → (used s′ ≡ true → works (p .state) ≡ true) → Pair b c d (oErred o q y) m p n s′ t l′ w
   unfolding amount Amounts
   erred-from un meets =
       record {
@@ -75,7 +91,7 @@ module _ (b : Big) (c d : ℕ) (o : Own) (m : Mind) (p : Own) (n : Mind) (s t : 
         noFault = no;
         noCheckp = no;
         lastCheckp = no;
-        behindEmpty = λ e. no (and-true {s = unaware b (oErred o q)} e .0);
+        behindEmpty = λ e. no (and-true {s = unaware b (oErred o q y)} e .0);
         resumed = λ j. no;
         came = h .came;
         tailHeard = h .tailHeard;
@@ -88,8 +104,8 @@ module _ (b : Big) (c d : ℕ) (o : Own) (m : Mind) (p : Own) (n : Mind) (s t : 
         small = (h .small .0, (h .small .1 .0, rw (erred-bare (o .version) q (used s′)) tt));
       }
     where
-      no : {A : Type 0} → unaware b (oErred o q) ≡ true → A
-      no = not-calm b fault o q
+      no : {A : Type 0} → unaware b (oErred o q y) ≡ true → A
+      no = not-calm b fault o q y
 
       none : (u : Bool) → used s′ ≡ u → (works (erredState (o .version)) && (works (p .state) && u)) ≡ false → erredLine (o .version) q u ≡ []
       none true e f = absurd (never (and-intro (erred-works (o .version)) (and-intro (meets e) refl)) f)
@@ -100,8 +116,8 @@ module _ (b : Big) (c d : ℕ) (o : Own) (m : Mind) (p : Own) (n : Mind) (s t : 
       first false e = absurd (false≢true e)
 
 module _ (b : Big) (c d : ℕ) (o : Own) (m : Mind) (p : Own) (n : Mind) (s t : Side) (l : List Packet) (w : Wire) (h : Pair b c d o m p n s t l w)
-    (fault : b .faulted ≡ true) (q : Place) where
-  erred-to : unaware b p ≡ true → n .ready ≡ false → Pair b c d o m (oErred p q) n s (sAlarmed q d c t) l w
+    (fault : b .faulted ≡ true) (q : Place) (y : ℕ) where
+  pub erred-to : unaware b p ≡ true → n .ready ≡ false → Pair b c d o m (oErred p q y) n s (sAlarmed q d c t) l w
   erred-to up unready =
       record {
         table = h .table;
@@ -122,13 +138,13 @@ module _ (b : Big) (c d : ℕ) (o : Own) (m : Mind) (p : Own) (n : Mind) (s t : 
             (let k = and-true {s = used s} u in and-intro (k .0) (strike-used q d c t (k .1)))
             (un-works b p up)
             (is-false (aware b p && t .heard) (λ k. un-not-aware b p up (and-true {s = aware b p} k .0)));
-        heard = λ e. absurd (false≢true (and-true {s = aware b (oErred p q)} e .1));
-        heardOf = λ e. absurd (false≢true (and-true {s = aware b (oErred p q)} e .1));
+        heard = λ e. absurd (false≢true (and-true {s = aware b (oErred p q y)} e .1));
+        heardOf = λ e. absurd (false≢true (and-true {s = aware b (oErred p q y)} e .1));
         noFault = h .noFault;
         noCheckp = h .noCheckp;
         lastCheckp = h .lastCheckp;
         behindEmpty = h .behindEmpty;
-        resumed = λ j u e f. no (and-true {s = unaware b (oErred p q)} f .0);
+        resumed = λ j u e f. no (and-true {s = unaware b (oErred p q y)} f .0);
         came = λ j. no;
         tailHeard = λ j. no;
         stream = λ j u. no;
@@ -140,10 +156,10 @@ module _ (b : Big) (c d : ℕ) (o : Own) (m : Mind) (p : Own) (n : Mind) (s t : 
         small = h .small;
       }
     where
-      no : {A : Type 0} → unaware b (oErred p q) ≡ true → A
-      no = not-calm b fault p q
+      no : {A : Type 0} → unaware b (oErred p q y) ≡ true → A
+      no = not-calm b fault p q y
 
-      closes : closed b (oErred p q) n (sAlarmed q d c t) ≡ true → closed b p n t ≡ true
+      closes : closed b (oErred p q y) n (sAlarmed q d c t) ≡ true → closed b p n t ≡ true
       closes e = or-map (n .done) _ _ (λ k. absurd (never (and-true {s = isIn (erredState (p .version)) CheckpBegin} k .0) (erred-not-begun (p .version)))) e
 
       silences : (x y : Bool) → (x && (works (erredState (p .version)) && y)) ≡ false → (x && (works (p .state) && y)) ≡ false
@@ -157,7 +173,7 @@ frozen-node b k c o m z f h = let kn : aware b o ≡ true → isUnknown (o .vers
 pub frozen-books : (b : Big) (k : Bool) (o : Own) (m : Mind) (out got : ℕ) → Books b o m out got → Books (bFrozen b k) o m out got
 frozen-books b k o m out got h = record { bounded = h .bounded; live = h .live; atCut = h .atCut }
 
-module _ (b : Big) (c : ℕ) (o : Own) (m : Mind) (z : Bool → Image) (h : Node b c o m z) (fault : b .faulted ≡ true) (un : unaware b o ≡ true) (q : Place) where
+module _ (b : Big) (c : ℕ) (o : Own) (m : Mind) (z : Bool → Image) (h : Node b c o m z) (fault : b .faulted ≡ true) (un : unaware b o ≡ true) (q : Place) (y : ℕ) where
   unready : m .ready ≡ false
   unready = is-false (m .ready) (λ e. un-not-aware b o un (h .readyIs e .0))
 
@@ -186,7 +202,7 @@ module _ (b : Big) (c : ℕ) (o : Own) (m : Mind) (z : Bool → Image) (h : Node
       go Recovered e = recovers (ap inRecovery e)
       go Crashed e = absurd (never (ap (λ (s : State). isIn s Crashed) e) (h .running))
 
-  erred-node : Node (bFrozen b (b .frozen || not (isUnknown (o .version)))) c (oErred o q) m z
+  erred-node : Node (bFrozen b (b .frozen || not (isUnknown (o .version)))) c (oErred o q y) m z
   erred-node =
       let w = un-works b o un in
       record {
@@ -228,18 +244,21 @@ module _ (b : Big) (c : ℕ) (o : Own) (m : Mind) (z : Bool → Image) (h : Node
         sizes = h .sizes;
       }
     where
-      no : {A : Type 0} → unaware b (oErred o q) ≡ true → A
-      no = not-calm b fault o q
+      no : {A : Type 0} → unaware b (oErred o q y) ≡ true → A
+      no = not-calm b fault o q y
 
-  erred-books : (out got : ℕ) → Books b o m out got → Books (bFrozen b (b .frozen || not (isUnknown (o .version)))) (oErred o q) m out got
-  erred-books out got k = record { bounded = k .bounded; live = λ u. not-calm b fault o q u; atCut = k .atCut }
+  erred-books : (out got : ℕ) → Books b o m out got → Books (bFrozen b (b .frozen || not (isUnknown (o .version)))) (oErred o q y) m out got
+  erred-books out got k = record { bounded = k .bounded; live = λ u. not-calm b fault o q y u; atCut = k .atCut }
 
 -- ---- together
 
 module _ (n total : ℕ) (v : View) (γ : Ghost) (i : Core n total v γ) (c : ℕ) (un : unaware (γ .big) (v .own c) ≡ true) (fault : γ .big .faulted ≡ true) (q : Place)
-    (meets : (d : ℕ) → used (sAlarmed q c d (v .side c d)) ≡ true → workOf v d ≡ true) where
+    (other : isAt q c ≡ false) (meets : (d : ℕ) → used (sAlarmed q c d (v .side c d)) ≡ true → workOf v d ≡ true) where
+  abbrev y′ : ℕ
+  y′ = leadAfter v c q
+
   abbrev o′ : Own
-  o′ = oErred (v .own c) q
+  o′ = oErred (v .own c) q y′
 
   abbrev k′ : Bool
   k′ = not (isUnknown (v .own c .version))
@@ -265,13 +284,46 @@ module _ (n total : ℕ) (v : View) (γ : Ghost) (i : Core n total v γ) (c : �
   error-pairs : (a d : ℕ) → PairAt (erred v c q) δ a d
   error-pairs =
       let h = i .pairs in
-      let free = unready _ _ _ _ _ (i .nodes c) fault un q in
+      let free = unready _ _ _ _ _ (i .nodes c) fault un q y′ in
       move-pairs v γ b′ c o′ (γ .mind c) (sErred v c q) ls (v .slots) (γ .wire) (λ a d e f. row-other a d e) (λ a d e f. refl)
       (λ a d e f. frozen-pair _ _ _ _ _ _ _ _ _ _ _ _ (h a d))
-      (λ d e. rw (row-same d) (frozen-pair _ _ _ _ _ _ _ _ _ _ _ _ (erred-from _ _ _ _ _ _ _ _ _ _ _ (h c d) fault q un (meets d))))
+      (λ d e. rw (row-same d) (frozen-pair _ _ _ _ _ _ _ _ _ _ _ _ (erred-from _ _ _ _ _ _ _ _ _ _ _ (h c d) fault q y′ un (meets d))))
       (rw (row-same c) (frozen-pair _ _ _ _ _ _ _ _ _ _ _ _
-      (erred-to _ _ _ _ _ _ _ _ _ _ _ (erred-from _ _ _ _ _ _ _ _ _ _ _ (h c c) fault q un (meets c)) fault q un free)))
-      (λ a e. rw (row-other a c e) (frozen-pair _ _ _ _ _ _ _ _ _ _ _ _ (erred-to _ _ _ _ _ _ _ _ _ _ _ (h a c) fault q un free)))
+      (erred-to _ _ _ _ _ _ _ _ _ _ _ (erred-from _ _ _ _ _ _ _ _ _ _ _ (h c c) fault q y′ un (meets c)) fault q y′ un free)))
+      (λ a e. rw (row-other a c e) (frozen-pair _ _ _ _ _ _ _ _ _ _ _ _ (erred-to _ _ _ _ _ _ _ _ _ _ _ (h a c) fault q y′ un free)))
+
+  -- the coordinator that it names: where the fault is the coordinator, the one after it
+  next-lead : y′ ≡ cond (isAt q (γ .big .chief)) (γ .big .heir) (γ .big .chief)
+  next-lead =
+      ap (λ (k : ℕ). leadOver q k (λ d. sErred v c q d .cab)) (i .leads c .steady un) ∙ go (isAt q (γ .big .chief)) refl
+    where
+      go : (t : Bool) → isAt q (γ .big .chief) ≡ t
+          → cond t (nextOver (λ d. sErred v c q d .cab) (γ .big .chief)) (γ .big .chief) ≡ cond t (γ .big .heir) (γ .big .chief)
+      go true e =
+          next-same (λ d. sErred v c q d .cab) (λ d. γ .mind d .tab && not (hitsCabinet q d)) (γ .big .chief) (λ d l. ap (λ (x : Bool). x && not (hitsCabinet q d)) (i .pairs c d .table un .0))
+          ∙ next-left (tabOf γ) q (γ .big .chief) c e (λ f. never e (ap (isAt q) (sym f) ∙ other))
+          (omega (arith, i .ground .within c (i .nodes c .placed (un-works (γ .big) (v .own c) un)), i .ground .most))
+          (i .nodes c .placed (un-works (γ .big) (v .own c) un))
+          ∙ sym (i .ground .heirIs)
+      go false e = refl
+
+  error-lead : Lead b′ c o′
+  error-lead =
+      let h = i .leads c in
+      let aw = erred-aware (γ .big) fault (v .own c) q y′ in
+      record {
+        steady = λ u. not-calm (γ .big) fault (v .own c) q y′ u;
+        moved = λ a p e. (
+          ap (isAt q) (h .steady un) ∙ ap (λ (r : Place). isAt r (γ .big .chief)) (place-same e),
+          next-lead ∙ ap (λ (r : Place). cond (isAt r (γ .big .chief)) (γ .big .heir) (γ .big .chief)) (place-same e),
+        );
+        lives = λ k e. (erred-works (v .own c .version), λ a f. never (trip-at c) (ap (λ (r : Place). isAt r c) (place-same (sym f)) ∙ other));
+        fallen = λ k e. aware-not-un (γ .big) o′ aw;
+        blank = λ w e. absurd (un-not-aware (γ .big) (v .own c) un (h .blank (un-works (γ .big) (v .own c) un) e .0));
+      }
+    where
+      trip-at : (x : ℕ) → isAt (AtTripped x) x ≡ true
+      trip-at x = eq-eqb x x refl
 
   work-same : works (o′ .state) ≡ works (v .own c .state)
   work-same = erred-works (v .own c .version) ∙ sym (un-works (γ .big) (v .own c) un)
@@ -282,10 +334,10 @@ module _ (n total : ℕ) (v : View) (γ : Ghost) (i : Core n total v γ) (c : �
   -- whoever knew of a fault, or failed, is calm no more
   less-calm : (j : ℕ) → calmOf v γ j ≡ false → calmOf (erred v c q) γ j ≡ false
   less-calm j = upd-elim (λ (x : Own). calmOf v γ j ≡ false → unaware (γ .big) x ≡ false) (v .own) c o′ j
-      (λ e f. aware-not-un (γ .big) o′ (erred-aware (γ .big) fault (v .own c) q)) (λ e f. f)
+      (λ e f. aware-not-un (γ .big) o′ (erred-aware (γ .big) fault (v .own c) q y′)) (λ e f. f)
 
   error-aware : aware (γ .big) (erred v c q .own c) ≡ true
-  error-aware = subst (λ (x : Own). aware (γ .big) x ≡ true) (sym (upd-same (v .own) c o′)) (erred-aware (γ .big) fault (v .own c) q)
+  error-aware = subst (λ (x : Own). aware (γ .big) x ≡ true) (sym (upd-same (v .own) c o′)) (erred-aware (γ .big) fault (v .own c) q y′)
 
   -- no commit can follow
   abbrev Stopped : Type 0
@@ -312,7 +364,7 @@ module _ (n total : ℕ) (v : View) (γ : Ghost) (i : Core n total v γ) (c : �
           c,
           i .nodes c .placed (un-works (γ .big) (v .own c) un),
           aware-not-un (γ .big) (erred v c q .own c) error-aware,
-          unwritten _ _ _ _ _ (i .nodes c) fault un q (is-false (isUnknown (v .own c .version)) (λ x. never ek (ap not x))) s,
+          unwritten _ _ _ _ _ (i .nodes c) fault un q y′ (is-false (isUnknown (v .own c .version)) (λ x. never ek (ap not x))) s,
         )
       ]
       go false false ef ek e = absurd (false≢true e)
@@ -321,10 +373,11 @@ module _ (n total : ℕ) (v : View) (γ : Ghost) (i : Core n total v γ) (c : �
   erred-core = record {
     pairs = error-pairs;
     nodes = move-nodes v γ b′ c o′ (γ .mind c) (sErred v c q) ls (v .slots) (γ .wire) (λ j d. refl) (λ j d. frozen-node _ _ _ _ _ _ (or-left (γ .big .frozen) k′) (i .nodes j))
-        (erred-node _ _ _ _ _ (i .nodes c) fault un q);
+        (erred-node _ _ _ _ _ (i .nodes c) fault un q y′);
     books = move-books v γ b′ c o′ (γ .mind c) (sErred v c q) ls (v .slots) (γ .wire) (λ j. refl) (λ j. refl) (λ j d. frozen-books _ _ _ _ _ _ (i .books j))
-        (erred-books _ _ _ _ _ (i .nodes c) fault un q _ _ (i .books c));
-    ground = move-ground v γ c o′ (γ .mind c) (sErred v c q) ls (v .slots) (γ .wire) work-same refl (λ a d. refl) b′ refl refl refl refl (i .ground);
+        (erred-books _ _ _ _ _ (i .nodes c) fault un q y′ _ _ (i .books c));
+    leads = move-leads v γ b′ c o′ (γ .mind c) (sErred v c q) ls (v .slots) (γ .wire) (λ j d. frozen-lead _ _ _ _ (i .leads j)) error-lead;
+    ground = move-ground v γ c o′ (γ .mind c) (sErred v c q) ls (v .slots) (γ .wire) work-same refl (λ a d. refl) b′ refl refl refl refl refl (i .ground);
     chain = subst (λ (x : Ghost). ChainOf (erred v c q) x) (sym (same-mind γ b′ c (γ .wire))) error-chain;
     sums = move-sums total γ b′ c (γ .mind c) (γ .wire) refl refl refl refl (i .sums);
   }
@@ -343,17 +396,20 @@ error-meets v c q w h a d works-a uses =
     (λ e k. subst (λ (j : ℕ). used (v .side j d) ≡ true) (sym e) (strike-used q c d (v .side c d) k)) (λ n k. k)
     (ap (λ (u : View). used (u .side a d)) (sym (error-seen v c q)) ∙ uses))
 
-place-map : (work work′ tab : ℕ → Bool) (lk sound sound′ : ℕ → ℕ → Bool) → ((x : ℕ) → work′ x ≡ work x) → ((x y : ℕ) → sound x y ≡ false → sound′ x y ≡ false)
-    → (p : Place) → Place-of work tab lk sound p → Place-of work′ tab lk sound′ p
-place-map work work′ tab lk sound sound′ same worse p (failed x t w) = failed x t (same x ∙ w)
-place-map work work′ tab lk sound sound′ same worse p (faulty x y l k s) = faulty x y l k (worse x y s)
+-- who works stays as it was, whoever knew of a fault knows of the same one, and no link is mended
+pub place-map : (work work′ tab knows knows′ : ℕ → Bool) (alarm alarm′ : ℕ → Alarm) (lk sound sound′ : ℕ → ℕ → Bool) → ((x : ℕ) → work′ x ≡ work x)
+    → ((x : ℕ) → knows x ≡ true → (knows′ x ≡ true) × (alarm′ x ≡ alarm x)) → ((x y : ℕ) → sound x y ≡ false → sound′ x y ≡ false)
+    → (p : Place) → Place-of work tab knows alarm lk sound p → Place-of work′ tab knows′ alarm′ lk sound′ p
+place-map work work′ tab knows knows′ alarm alarm′ lk sound sound′ same still worse p (failed x t w) = failed x t (same x ∙ w)
+place-map work work′ tab knows knows′ alarm alarm′ lk sound sound′ same still worse p (tripped x k a) = tripped x (still x k .0) (still x k .1 ∙ a)
+place-map work work′ tab knows knows′ alarm alarm′ lk sound sound′ same still worse p (faulty x y l k s) = faulty x y l k (worse x y s)
 
 -- the fault places once c has entered error for place q; sound is which links stand then
 module _ (v : View) (γ : Ghost) (c : ℕ) (un : unaware (γ .big) (v .own c) ≡ true) (q : Place) (sound : ℕ → ℕ → Bool)
     (first : γ .big .faulted ≡ false → (j : ℕ) → inRecovery (v .own j .state) ≡ false)
     (lost : (x y : ℕ) → x < y → lkOf γ x y ≡ true → sound x y ≡ false → (v .sound x y ≡ false) ⊎ (q ≡ AtLink x y))
     (worse : (x y : ℕ) → v .sound x y ≡ false → sound x y ≡ false)
-    (place : Place-of (workOf v) (tabOf γ) (lkOf γ) sound q) (h : PlacesOf v γ) where
+    (place : Place-of (workOf v) (tabOf γ) (awareOf v γ) (alarmOf v) (lkOf γ) sound q) (h : PlacesOf v γ) where
   abbrev e′ : View
   e′ = setSound (erred v c q) sound
 
@@ -361,22 +417,28 @@ module _ (v : View) (γ : Ghost) (c : ℕ) (un : unaware (γ .big) (v .own c) �
   ε = gError (gFaulted γ) (v .own c)
 
   same-work : (j : ℕ) → workOf e′ j ≡ workOf v j
-  same-work = kept-at (λ (x : Own). works (x .state)) (v .own) c (oErred (v .own c) q) (erred-works (v .own c .version) ∙ sym (un-works (γ .big) (v .own c) un))
+  same-work = kept-at (λ (x : Own). works (x .state)) (v .own) c (oErred (v .own c) q (leadAfter v c q)) (erred-works (v .own c .version) ∙ sym (un-works (γ .big) (v .own c) un))
 
   still : (j : ℕ) → awareOf v γ j ≡ true → (awareOf e′ ε j ≡ true) × (alarmOf e′ j ≡ alarmOf v j)
-  still j a = upd-elim (λ (x : Own). (inRecovery (x .state) ≡ true) × (x .alarm ≡ v .own j .alarm)) (v .own) c (oErred (v .own c) q) j
+  still j a = upd-elim (λ (x : Own). (inRecovery (x .state) ≡ true) × (x .alarm ≡ v .own j .alarm)) (v .own) c (oErred (v .own c) q (leadAfter v c q)) j
       (λ e. absurd (un-not-aware (γ .big) (v .own c) un (subst (λ (k : ℕ). awareOf v γ k ≡ true) e a)))
       (λ n. (aware-recovers (γ .big) (v .own j) a, refl))
 
   itself : (awareOf e′ ε c ≡ true) × (alarmOf e′ c ≡ At q)
-  itself = subst (λ (x : Own). (inRecovery (x .state) ≡ true) × (x .alarm ≡ At q)) (sym (upd-same (v .own) c (oErred (v .own c) q)))
+  itself = subst (λ (x : Own). (inRecovery (x .state) ≡ true) × (x .alarm ≡ At q)) (sym (upd-same (v .own) c (oErred (v .own c) q (leadAfter v c q))))
       (erred-recovers (v .own c .version), refl)
 
-  from-one : (j : ℕ) → awareOf e′ ε j ≡ true → (p : Place) → alarmOf e′ j ≡ At p → Place-of (workOf v) (tabOf γ) (lkOf γ) sound p
-  from-one j = upd-elim (λ (x : Own). inRecovery (x .state) ≡ true → (p : Place) → x .alarm ≡ At p → Place-of (workOf v) (tabOf γ) (lkOf γ) sound p)
-      (v .own) c (oErred (v .own c) q) j
-      (λ e a p f. subst (λ (r : Place). Place-of (workOf v) (tabOf γ) (lkOf γ) sound r) (place-same f) place)
-      (λ n a p f. place-map (workOf v) (workOf v) (tabOf γ) (lkOf γ) (v .sound) sound (λ x. refl) worse p (h .fromOne j (and-intro (known-of a) a) p f))
+  -- a place as before is one after it
+  moved-on : (p : Place) (k : ℕ → ℕ → Bool) → ((x y : ℕ) → k x y ≡ false → sound x y ≡ false) → Place-of (workOf v) (tabOf γ) (awareOf v γ) (alarmOf v) (lkOf γ) k p
+      → Place-of (workOf e′) (tabOf γ) (awareOf e′ ε) (alarmOf e′) (lkOf γ) sound p
+  moved-on p k less at = place-map (workOf v) (workOf e′) (tabOf γ) (awareOf v γ) (awareOf e′ ε) (alarmOf v) (alarmOf e′) (lkOf γ) k sound same-work still less p at
+
+  from-one : (j : ℕ) → awareOf e′ ε j ≡ true → (p : Place) → alarmOf e′ j ≡ At p → Place-of (workOf e′) (tabOf γ) (awareOf e′ ε) (alarmOf e′) (lkOf γ) sound p
+  from-one j = upd-elim (λ (x : Own). inRecovery (x .state) ≡ true → (p : Place) → x .alarm ≡ At p
+      → Place-of (workOf e′) (tabOf γ) (awareOf e′ ε) (alarmOf e′) (lkOf γ) sound p)
+      (v .own) c (oErred (v .own c) q (leadAfter v c q)) j
+      (λ e a p f. subst (λ (r : Place). Place-of (workOf e′) (tabOf γ) (awareOf e′ ε) (alarmOf e′) (lkOf γ) sound r) (place-same f) (moved-on q sound (λ x y s. s) place))
+      (λ n a p f. moved-on p (v .sound) worse (h .fromOne j (and-intro (known-of a) a) p f))
     where
       known-of : inRecovery (v .own j .state) ≡ true → γ .big .faulted ≡ true
       known-of a = is-true (γ .big .faulted) (λ f. never a (first f j))
@@ -389,7 +451,7 @@ module _ (v : View) (γ : Ghost) (c : ℕ) (un : unaware (γ .big) (v .own c) �
         (λ e. let f = h .faultyFor x y l k e in let r = still (f .0) (f .1) in (f .0, r .0, r .1 ∙ f .2))
         (λ e. (c, itself .0, itself .1 ∙ ap At e)) (lost x y l k s);
     someone = λ e. (c, itself .0);
-    fromOne = λ j a p f. place-map (workOf v) (workOf e′) (tabOf γ) (lkOf γ) sound sound same-work (λ x y e. e) p (from-one j a p f);
+    fromOne = from-one;
   }
 
   pub error-places-at : PlacesOf (setSound (vError v c q) sound) (gError (gFaulted γ) (v .own c))
@@ -397,10 +459,10 @@ module _ (v : View) (γ : Ghost) (c : ℕ) (un : unaware (γ .big) (v .own c) �
 
 -- a cabinet that is not in error, recovering or recovered enters error
 pub enter-core : (n total : ℕ) (v : View) (γ : Ghost) → Core n total v γ → (γ .big .faulted ≡ false → (j : ℕ) → inRecovery (v .own j .state) ≡ false)
-    → (c : ℕ) → works (v .own c .state) ≡ true → inRecovery (v .own c .state) ≡ false → (q : Place)
+    → (c : ℕ) → works (v .own c .state) ≡ true → inRecovery (v .own c .state) ≡ false → (q : Place) → isAt q c ≡ false
     → ((d : ℕ) → used (sAlarmed q c d (v .side c d)) ≡ true → workOf v d ≡ true) → Core n total (vError v c q) (gError (gFaulted γ) (v .own c))
-enter-core n total v γ i first c w r q meets =
-    error-core n total v (gFaulted γ) (fault-core n total v γ i first) c (un-of (bFaulted (γ .big)) (v .own c) w r) refl q meets
+enter-core n total v γ i first c w r q other meets =
+    error-core n total v (gFaulted γ) (fault-core n total v γ i first) c (un-of (bFaulted (γ .big)) (v .own c) w r) refl q other meets
 
 -- the history reads nothing of it
 pub error-past : (n : ℕ) (v : View) (γ : Ghost) (h : History) (o : Own) → Past n v γ h → Past n v (gError (gFaulted γ) o) h

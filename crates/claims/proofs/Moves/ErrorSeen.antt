@@ -12,7 +12,7 @@ use Rattle.packet.specs.declared.Packet.the-variants.{Recover, Fault}
 use Rattle.state.specs.declared.State.{State}
 use Rattle.state.specs.declared.State.the-variants.{Normal, CheckpBegin, Error, Recovering, Recovered, Crashed}
 use Rattle.state.specs.declared.Version.{Version}
-use Rattle.state.specs.declared.Version.the-variants.{Known, Unknown}
+use Rattle.state.specs.declared.Version.the-variants.{Known, Unknown, Lost}
 use Rattle.cabinet.specs.declared.Alarm.the-variants.{Fault as At}
 use Rattle.state.specs.State.{isIn, works, inRecovery, isUnknown, inSaving}
 use Rattle.group.specs.declared.Group.{Group}
@@ -25,7 +25,7 @@ use Rattle.claims.proofs.State.View.{View, Own, Side, used, view}
 use Rattle.claims.proofs.State.Shape.{Shaped, Lined, Pictured, shaped}
 use Rattle.claims.proofs.State.Sim.{Fit}
 use Rattle.claims.proofs.State.Methods.{sAlarmed, hitsCabinet, hitsLink}
-use Rattle.claims.proofs.State.ViewMoves.{Room, vBroadcast, vAlarmed, vSilenced, vRecovering, oPhase, oPieces, sim-raise, sim-recover}
+use Rattle.claims.proofs.State.ViewMoves.{Room, vBroadcast, vAlarmed, vSilenced, vRecovering, oPhase, oAlarmed, leadAfter, sim-raise, sim-recover}
 use Rattle.claims.proofs.Invariant.Facts.{Ghost, Alarms, aware, amountsIn, isInvalid, count}
 use Rattle.claims.proofs.Invariant.Whole.{Core, workOf}
 use Rattle.claims.proofs.Invariant.Words.{room-aware}
@@ -44,6 +44,7 @@ vRecover v c x = vBroadcast (vRecovering v c x) c (Recover x)
 abbrev pub vKnown : View → ℕ → Version → View
 vKnown v c (Known x) = vRecover v c x
 vKnown v c (Unknown x) = v
+vKnown v c Lost = v
 
 abbrev pub vError : View → ℕ → Place → View
 vError v c q = vKnown (vRaise v c q) c (v .own c .version)
@@ -52,23 +53,26 @@ vError v c q = vKnown (vRaise v c q) c (v .own c .version)
 abbrev pub erredState : Version → State
 erredState (Known x) = Recovering
 erredState (Unknown x) = Error
+erredState Lost = Error
 
 abbrev pub erredRest : Version → List Packet
 erredRest (Known x) = Recover x ∷ []
 erredRest (Unknown x) = []
+erredRest Lost = []
 
 abbrev pub erredLine : Version → Place → Bool → List Packet
 erredLine x q u = cond u (Fault q ∷ erredRest x) []
 
-abbrev pub oErred : Own → Place → Own
-oErred o q = oPieces (oPhase o (erredState (o .version)) (o .version) (At q)) 0
+-- its coordinator from then on is k
+abbrev pub oErred : Own → Place → ℕ → Own
+oErred o q k = oPhase (oAlarmed o q k) (erredState (o .version)) (o .version) (At q)
 
 abbrev pub sErred : View → ℕ → Place → ℕ → Side
 sErred v c q d = sAlarmed q c d (v .side c d)
 
 abbrev pub erred : View → ℕ → Place → View
 erred v c q =
-    moved v c (oErred (v .own c) q) (sErred v c q)
+    moved v c (oErred (v .own c) q (leadAfter v c q)) (sErred v c q)
     (upd (v .lines) c (λ d. erredLine (v .own c .version) q (used (sErred v c q d)))) (v .slots)
 
 -- going on: recover comes last on the lines in use
@@ -91,12 +95,12 @@ recover-seen v c x = λ t. record {
   sound = v .sound;
 }
 
-abbrev raised : View → ℕ → Place → View
+abbrev pub raised : View → ℕ → Place → View
 raised v c q =
-    moved v c (oPieces (oPhase (v .own c) Error (v .own c .version) (At q)) 0) (sErred v c q)
+    moved v c (oAlarmed (v .own c) q (leadAfter v c q)) (sErred v c q)
     (upd (v .lines) c (λ d. cond (used (sErred v c q d)) (Fault q ∷ []) [])) (v .slots)
 
-raise-seen : (v : View) (c : ℕ) (q : Place) → vRaise v c q ≡ raised v c q
+pub raise-seen : (v : View) (c : ℕ) (q : Place) → vRaise v c q ≡ raised v c q
 raise-seen v c q = λ t. record {
   own = raised v c q .own;
   side = raised v c q .side;
@@ -119,7 +123,7 @@ known-seen : (v : View) (c : ℕ) (q : Place) (x : Bool) → v .own c .version �
 known-seen v c q x e = λ t. record { own = owns t; side = sides t; lines = rows t; slots = v .slots; sound = v .sound }
   where
     owns : gone-on (raised v c q) c x .own ≡ erred v c q .own
-    owns = upd-twice (v .own) c _ _ ∙ ap (upd (v .own) c) (rw (upd-same (v .own) c (oPieces (oPhase (v .own c) Error (v .own c .version) (At q)) 0), e))
+    owns = upd-twice (v .own) c _ _ ∙ ap (upd (v .own) c) (rw (upd-same (v .own) c (oAlarmed (v .own c) q (leadAfter v c q)), e))
 
     sides : gone-on (raised v c q) c x .side ≡ erred v c q .side
     sides = upd-id (upd (v .side) c (sErred v c q)) c
@@ -137,65 +141,81 @@ known-seen v c q x e = λ t. record { own = owns t; side = sides t; lines = rows
 unknown-seen : (v : View) (c : ℕ) (q : Place) (x : Bool) → v .own c .version ≡ Unknown x → raised v c q ≡ erred v c q
 unknown-seen v c q x e = rw e
 
+lost-seen : (v : View) (c : ℕ) (q : Place) → v .own c .version ≡ Lost → raised v c q ≡ erred v c q
+lost-seen v c q e = rw e
+
 pub error-seen : (v : View) (c : ℕ) (q : Place) → vError v c q ≡ erred v c q
 error-seen v c q = go (v .own c .version) refl
   where
     go : (x : Version) → v .own c .version ≡ x → vKnown (vRaise v c q) c x ≡ erred v c q
     go (Known x) e = recover-seen (vRaise v c q) c x ∙ ap (λ (u : View). gone-on u c x) (raise-seen v c q) ∙ known-seen v c q x e
     go (Unknown x) e = raise-seen v c q ∙ unknown-seen v c q x e
+    go Lost e = raise-seen v c q ∙ lost-seen v c q e
 
 -- ---- the state entered
 
 pub erred-recovers : (x : Version) → inRecovery (erredState x) ≡ true
 erred-recovers (Known x) = refl
 erred-recovers (Unknown x) = refl
+erred-recovers Lost = refl
 
 pub erred-works : (x : Version) → works (erredState x) ≡ true
 erred-works (Known x) = refl
 erred-works (Unknown x) = refl
+erred-works Lost = refl
 
 pub erred-not-normal : (x : Version) → isIn (erredState x) Normal ≡ false
 erred-not-normal (Known x) = refl
 erred-not-normal (Unknown x) = refl
+erred-not-normal Lost = refl
 
 pub erred-not-saving : (x : Version) → inSaving (erredState x) ≡ false
 erred-not-saving (Known x) = refl
 erred-not-saving (Unknown x) = refl
+erred-not-saving Lost = refl
 
 pub erred-running : (x : Version) → isIn (erredState x) Crashed ≡ false
 erred-running (Known x) = refl
 erred-running (Unknown x) = refl
+erred-running Lost = refl
 
 pub erred-not-begun : (x : Version) → isIn (erredState x) CheckpBegin ≡ false
 erred-not-begun (Known x) = refl
 erred-not-begun (Unknown x) = refl
+erred-not-begun Lost = refl
 
 pub erred-not-restored : (x : Version) → isIn (erredState x) Recovered ≡ false
 erred-not-restored (Known x) = refl
 erred-not-restored (Unknown x) = refl
+erred-not-restored Lost = refl
 
 pub erred-unknown : (x : Version) → isUnknown x ≡ isIn (erredState x) Error
 erred-unknown (Known x) = refl
 erred-unknown (Unknown x) = refl
+erred-unknown Lost = refl
 
 -- ---- its lines
 
 pub erred-alarms : (x : Version) (q : Place) (u : Bool) → Alarms x q (erredLine x q u)
 erred-alarms (Known x) q true = record { faults = true; recovers = true; value = x; is = refl; knows = λ e. refl }
 erred-alarms (Unknown x) q true = record { faults = true; recovers = false; value = x; is = refl; knows = λ e. absurd (false≢true e) }
+erred-alarms Lost q true = record { faults = true; recovers = false; value = false; is = refl; knows = λ e. absurd (false≢true e) }
 erred-alarms (Known x) q false = record { faults = false; recovers = false; value = x; is = refl; knows = λ e. absurd (false≢true e) }
 erred-alarms (Unknown x) q false = record { faults = false; recovers = false; value = x; is = refl; knows = λ e. absurd (false≢true e) }
+erred-alarms Lost q false = record { faults = false; recovers = false; value = false; is = refl; knows = λ e. absurd (false≢true e) }
 
 pub erred-sound : (x : Version) (q : Place) (u : Bool) → count isInvalid (erredLine x q u) ≡ 0
 unfolding count
 erred-sound (Known x) q true = refl
 erred-sound (Unknown x) q true = refl
+erred-sound Lost q true = refl
 erred-sound x q false = refl
 
 pub erred-bare : (x : Version) (q : Place) (u : Bool) → amountsIn (erredLine x q u) ≡ []
 unfolding amountsIn
 erred-bare (Known x) q true = refl
 erred-bare (Unknown x) q true = refl
+erred-bare Lost q true = refl
 erred-bare x q false = refl
 
 and-part : (s t x y : Bool) → ((s && x) && (t && y)) ≡ true → (s && t) ≡ true
@@ -231,6 +251,7 @@ sim-error g w c q l = go (cabinet g c .phase .version)
     go : (x : Version) → view (recoverIfKnown (raise g c q) c x) ≡ vKnown (vRaise (view g) c q) c x
     go (Known x) = sim-recover (raise g c q) fit c x l (room x) ∙ ap (λ (u : View). vRecover u c x) (sim-raise g w c q l)
     go (Unknown x) = sim-raise g w c q l
+    go Lost = sim-raise g w c q l
 
 pub sim-recover′ : (n total : ℕ) (g : Group) (γ : Ghost) → Fit g → Core n total (view g) γ → (c : ℕ) (x : Bool) → c < 8
     → aware (γ .big) (view g .own c) ≡ true → view (recoverWith g c x) ≡ vRecover (view g) c x
@@ -241,8 +262,8 @@ sim-recover′ n total g γ w i c x l aw = sim-recover g w c x l (λ b e. room-a
 
 -- ---- what is left of the group
 
-pub error-own : (v : View) (c : ℕ) (q : Place) → vError v c q .own c ≡ oErred (v .own c) q
-error-own v c q = ap (λ (u : View). u .own c) (error-seen v c q) ∙ upd-same (v .own) c (oErred (v .own c) q)
+pub error-own : (v : View) (c : ℕ) (q : Place) → vError v c q .own c ≡ oErred (v .own c) q (leadAfter v c q)
+error-own v c q = ap (λ (u : View). u .own c) (error-seen v c q) ∙ upd-same (v .own) c (oErred (v .own c) q (leadAfter v c q))
 
 pub error-knows : (v : View) (c : ℕ) (q : Place) → inRecovery (vError v c q .own c .state) ≡ true
 error-knows v c q = ap (λ (o : Own). inRecovery (o .state)) (error-own v c q) ∙ erred-recovers (v .own c .version)
@@ -259,15 +280,15 @@ error-line v c q a d n =
 pub error-works : (v : View) (c : ℕ) (q : Place) → works (v .own c .state) ≡ true → (j : ℕ) → workOf (vError v c q) j ≡ workOf v j
 error-works v c q w j =
     ap (λ (u : View). workOf u j) (error-seen v c q)
-    ∙ kept-at (λ (x : Own). works (x .state)) (v .own) c (oErred (v .own c) q) (erred-works (v .own c .version) ∙ sym w) j
+    ∙ kept-at (λ (x : Own). works (x .state)) (v .own) c (oErred (v .own c) q (leadAfter v c q)) (erred-works (v .own c .version) ∙ sym w) j
 
 -- nobody aware, and not the cabinet itself, is in normal after it
 pub error-here : (v : View) (c : ℕ) (q : Place) → isIn (vError v c q .own c .state) Normal ≡ false
 error-here v c q =
     ap (λ (u : View). isIn (u .own c .state) Normal) (error-seen v c q)
-    ∙ ap (λ (o : Own). isIn (o .state) Normal) (upd-same (v .own) c (oErred (v .own c) q)) ∙ erred-not-normal (v .own c .version)
+    ∙ ap (λ (o : Own). isIn (o .state) Normal) (upd-same (v .own) c (oErred (v .own c) q (leadAfter v c q))) ∙ erred-not-normal (v .own c .version)
 
 pub error-not-normal : (v : View) (c : ℕ) (q : Place) (j : ℕ) → isIn (v .own j .state) Normal ≡ false → isIn (vError v c q .own j .state) Normal ≡ false
 error-not-normal v c q j e =
     ap (λ (u : View). isIn (u .own j .state) Normal) (error-seen v c q)
-    ∙ upd-elim (λ (x : Own). isIn (x .state) Normal ≡ false) (v .own) c (oErred (v .own c) q) j (λ s. erred-not-normal (v .own c .version)) (λ n. e)
+    ∙ upd-elim (λ (x : Own). isIn (x .state) Normal ≡ false) (v .own) c (oErred (v .own c) q (leadAfter v c q)) j (λ s. erred-not-normal (v .own c .version)) (λ n. e)

@@ -8,19 +8,21 @@ use borrow.Author.Tests.{eqb-false, eq-eqb, ne-eqb}
 use native.Mathlib.Omega.{arith}
 use native.Mathlib.Decide.{ℕ-discrete}
 use Rattle.packet.specs.declared.Place.{Place}
-use Rattle.packet.specs.declared.Place.the-variants.{Cabinet as AtCabinet}
+use Rattle.packet.specs.declared.Place.the-variants.{Failed as AtFailed}
 use Rattle.cabinet.specs.declared.Alarm.the-variants.{Fault as At}
 use Rattle.state.specs.State.{inRecovery}
-use Rattle.claims.proofs.State.Fun.{never, is-true, and-true, and-intro, not-true-false}
+use Rattle.claims.proofs.State.Fun.{never, is-true, and-true, and-intro, and-not, not-true-false}
 use Rattle.claims.proofs.State.View.{View, Own, Side, used}
+use Rattle.table.specs.Table.{isAt}
+use Rattle.claims.proofs.State.Methods.{sAlarmed}
 use Rattle.claims.proofs.State.ViewMoves.{vFailed}
 use Rattle.claims.proofs.Invariant.States.{place-same}
 use Rattle.claims.proofs.Invariant.Facts.{Ghost, linked}
-use Rattle.claims.proofs.Invariant.Whole.{Inv, PlacesOf, MeetsOf, Place-of, failed, workOf, awareOf}
+use Rattle.claims.proofs.Invariant.Whole.{Inv, PlacesOf, MeetsOf, Place-of, failed, workOf, awareOf, alarmOf}
 use Rattle.claims.proofs.Invariant.Words.{un-of, aware-recovers, used-linked}
 use Rattle.claims.proofs.Moves.ErrorSeen.{strike-used}
 use Rattle.claims.proofs.Moves.Failing.{failed-off, failed-side, still-works, works-on, none-recovers}
-use Rattle.claims.proofs.Moves.Alarming.{Alarmed, near, gSaid, struck-not}
+use Rattle.claims.proofs.Moves.Alarming.{Alarmed, near, gSaid}
 
 -- of the first n numbers one passes a test, or none does
 pub one-or-none : (f : ℕ → Bool) (n : ℕ) → ((i : ℕ) × (i < n) × (f i ≡ true)) ⊎ ((i : ℕ) → i < n → f i ≡ false)
@@ -33,6 +35,11 @@ one-or-none f (suc n) = go (f n) refl (one-or-none f n)
     go false e r =
         ⊎-elim (λ x. inl (x .0, omega (arith, x .1), x .2))
         (λ none. inr (λ i l. elim (ℕ-discrete i n) [ yes q ↦ ap f q ∙ e | no d ↦ none i (omega arith) ])) r
+
+-- what is in use once a is struck is not a
+struck-not : (a i d : ℕ) (s : Side) → used (sAlarmed (AtFailed a) i d s) ≡ true → d ≢ a
+struck-not a i d s e q =
+    never (and-true {s = s .link && true} e .1) (and-not (s .cab) (eqb d a) (eq-eqb d a q))
 
 -- a was working, others too, and nobody knew of a fault
 module _ (n total a : ℕ) (v : View) (γ : Ghost) (i : Inv n total v γ) (unfaulted : γ .big .faulted ≡ false) (up : workOf v a ≡ true)
@@ -69,11 +76,20 @@ module _ (n total a : ℕ) (v : View) (γ : Ghost) (i : Inv n total v γ) (unfau
       and-intro (i .core .ground .soundLinks c a (x .3)) (and-intro (i .core .nodes c .placed (x .2)) (i .core .nodes a .placed up)) in
       (c, and-intro (works-on v a c (x .1) (x .2)) (ap (λ (s : ℕ → Side). used (s a)) (failed-side v a c) ∙ used-linked (i .core .pairs c a) un k))
 
-  pub failed-meets : (c d : ℕ) → workOf (vFailed v a) c ≡ true → used (vFailed v a .side c d) ≡ true → d ≢ a → workOf (vFailed v a) d ≡ true
+  failed-meets : (c d : ℕ) → workOf (vFailed v a) c ≡ true → used (vFailed v a .side c d) ≡ true → d ≢ a → workOf (vFailed v a) d ≡ true
   failed-meets c d e u nd =
       works-on v a d nd (i .meets c d (still-works v a c e .1) (ap (λ (s : ℕ → Side). used (s d)) (sym (failed-side v a c)) ∙ u))
 
-  module _ (δ : Ghost) (w : View) (h : Alarmed n total 8 a (vFailed v a) δ w) (faulted : δ .big .faulted ≡ true)
+  pub struck-meets : (c d : ℕ) → workOf (vFailed v a) c ≡ true → used (sAlarmed (AtFailed a) c d (vFailed v a .side c d)) ≡ true → workOf (vFailed v a) d ≡ true
+  struck-meets c d e u =
+      failed-meets c d e (strike-used (AtFailed a) c d (vFailed v a .side c d) u) (struck-not a c d (vFailed v a .side c d) u)
+
+  -- nobody recovers, and who works is not the failed one
+  pub failed-none : (c : ℕ) → near (vFailed v a) a c ≡ true → (inRecovery (vFailed v a .own c .state) ≡ false) × (isAt (AtFailed a) c ≡ false)
+  failed-none c e =
+      (none-recovers v a none c, ne-eqb a c (λ q. still-works v a c (and-true {s = workOf (vFailed v a) c} e .0) .0 (sym q)))
+
+  module _ (δ : Ghost) (w : View) (h : Alarmed n total 8 a (AtFailed a) (vFailed v a) δ w) (faulted : δ .big .faulted ≡ true)
       (tabs : (c : ℕ) → δ .mind c .tab ≡ γ .mind c .tab) (links : (c d : ℕ) → δ .wire c d .lk ≡ γ .wire c d .lk) where
     abbrev δ′ : Ghost
     δ′ = gSaid δ (h .said)
@@ -93,7 +109,7 @@ module _ (n total a : ℕ) (v : View) (γ : Ghost) (i : Inv n total v γ) (unfau
     off-a : workOf w a ≡ false
     off-a = h .worked a ∙ failed-off v a
 
-    aware-one : (c : ℕ) × (awareOf w δ′ c ≡ true) × (w .own c .alarm ≡ At (AtCabinet a))
+    aware-one : (c : ℕ) × (awareOf w δ′ c ≡ true) × (w .own c .alarm ≡ At (AtFailed a))
     aware-one =
         let x = alarmed-one in
         let t = h .told (x .0) (near-eight (x .0) (x .1)) (x .1) in
@@ -108,13 +124,13 @@ module _ (n total a : ℕ) (v : View) (γ : Ghost) (i : Inv n total v γ) (unfau
             | no s ↦ absurd (never (h .worked x ∙ works-on v a x s (i .core .nodes x .present unfaulted (sym (tabs x) ∙ t))) e)
           ] in
           let y = aware-one in
-          (y .0, y .1, y .2 ∙ ap (λ (z : ℕ). At (AtCabinet z)) (sym q));
+          (y .0, y .1, y .2 ∙ ap (λ (z : ℕ). At (AtFailed z)) (sym q));
       faultyFor = λ x y l k e.
           absurd (never (sym (links x y) ∙ k) (i .places .standing unfaulted x y ∙ ap (λ (s : ℕ → ℕ → Bool). s x y) (sym (h .sound)) ∙ e));
       someone = λ e. (aware-one .0, aware-one .1);
       fromOne = λ c e p al.
           let n = told-of c e in
-          subst (λ (z : Place). Place-of (workOf w) (λ c. δ .mind c .tab) (λ c d. δ .wire c d .lk) (w .sound) z)
+          subst (λ (z : Place). Place-of (workOf w) (λ c. δ .mind c .tab) (awareOf w δ′) (alarmOf w) (λ c d. δ .wire c d .lk) (w .sound) z)
           (place-same (sym (h .told c (near-eight c n) n .1) ∙ al)) (failed a tab-a off-a);
     }
 
@@ -127,8 +143,7 @@ module _ (n total a : ℕ) (v : View) (γ : Ghost) (i : Inv n total v γ) (unfau
         go : (t : Bool) → near (vFailed v a) a c ≡ t → workOf w d ≡ true
         go true f =
             let s = ap used (sym (h .told c (near-eight c f) f .2 d)) ∙ u in
-            h .worked d
-            ∙ failed-meets c d works-before (strike-used (AtCabinet a) c d (vFailed v a .side c d) s) (struck-not a c d (vFailed v a .side c d) s)
+            h .worked d ∙ struck-meets c d works-before s
         go false f =
             let s = ap (λ (x : ℕ → Side). used (x d)) (sym (h .others c (inr f) .1)) ∙ u in
             h .worked d

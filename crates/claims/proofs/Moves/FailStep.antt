@@ -13,6 +13,8 @@ use native.Mathlib.Omega.{arith}
 use native.Mathlib.Decide.{ℕ-discrete}
 use Rattle.marks.specs.Marks.{marked}
 use Rattle.marks.specs.Reach.{connected}
+use Rattle.packet.specs.declared.Place.the-variants.{Failed as AtFailed}
+use Rattle.table.specs.Table.{isAt}
 use Rattle.state.specs.declared.State.{State}
 use Rattle.state.specs.declared.State.the-variants.{Checkpointing, Checkpointed}
 use Rattle.image.specs.declared.Image.{Image}
@@ -24,6 +26,7 @@ use Rattle.protocol.specs.Moves.{markFailed, alarmTo}
 use Rattle.protocol.specs.Kinds.{failCrashes}
 use Rattle.protocol.specs.History.{Save, History, newest, passesOver, passOver, withSaves, withStanding, notePassed, noteCuts}
 use Rattle.claims.proofs.State.Fun.{never, is-false, and-true, and-not}
+use Rattle.claims.proofs.State.Methods.{sAlarmed}
 use Rattle.claims.proofs.State.Every.{ok-markFailed}
 use Rattle.claims.proofs.State.View.{View, Own, used, view}
 use Rattle.claims.proofs.State.Shape.{Shaped, Lined, Pictured, shaped}
@@ -34,13 +37,14 @@ use Rattle.claims.proofs.Invariant.States.{saving-works}
 use Rattle.claims.proofs.Invariant.Facts.{Big, Ghost}
 use Rattle.claims.proofs.Invariant.Whole.{Core, Inv, workOf}
 use Rattle.claims.proofs.Invariant.Past.{Past, Kept, no-cuts}
-use Rattle.claims.proofs.Invariant.Words.{aware-recovers, nobody-recovers}
+use Rattle.claims.proofs.Invariant.Words.{aware-recovers}
 use Rattle.claims.proofs.Invariant.Reaching.{Reach, reach-of, working-at, working-marks}
-use Rattle.claims.proofs.Moves.FirstFault.{gFaulted, gBig, flip-core}
+use Rattle.claims.proofs.Moves.FirstFault.{gFaulted, gBig}
+use Rattle.claims.proofs.Moves.Unopened as openly
 use Rattle.claims.proofs.Moves.Undoing.{gLost, gUndo}
-use Rattle.claims.proofs.Moves.Failing.{failed-own, other-own, still-works, works-on, none-recovers, failed-other, failed-chief, failed-undone}
+use Rattle.claims.proofs.Moves.Failing.{failed-own, other-own, still-works, works-on, failed-other, failed-chief, failed-undone}
 use Rattle.claims.proofs.Moves.Alarming.{Alarmed, near, gSaid, alarm-all}
-use Rattle.claims.proofs.Moves.FailPlaces.{below-eight, failed-meets, alarmed-inv}
+use Rattle.claims.proofs.Moves.FailPlaces.{below-eight, struck-meets, failed-none, alarmed-inv}
 
 -- ---- the history
 
@@ -92,10 +96,10 @@ mine-goes : (a : ℕ) (l xs : List Save) (x : Save) → l ≡ x ∷ xs → x .by
 mine-goes a l xs x e b k = rw (e, eq-eqb (x .by) a b, k)
 
 module _ (n : ℕ) (v : View) (γ : Ghost) (h : History) (p : Past n v γ h) (a : ℕ) where
-  kept-known : γ .big .adopted ≡ true → notePassed h a ≡ h
+  pub kept-known : γ .big .adopted ≡ true → notePassed h a ≡ h
   kept-known e = none-passed h a (known-stays a (h .saves) (h .start) (p .known ∙ e))
 
-  kept-other : a ≢ γ .big .chief → notePassed h a ≡ h
+  pub kept-other : a ≢ γ .big .chief → notePassed h a ≡ h
   kept-other d = go (γ .big .adopted) refl
     where
       go : (t : Bool) → γ .big .adopted ≡ t → notePassed h a ≡ h
@@ -134,7 +138,7 @@ length-working : (g : Group) → length (working g) ≡ 8
 unfolding working
 length-working g = refl
 
-fail-reach : (g : Group) (a : ℕ) → a < 8 → ((c d : ℕ) → view g .sound c d ≡ view g .sound d c) → ((c : ℕ) → workOf (view g) c ≡ true → c < 8)
+pub fail-reach : (g : Group) (a : ℕ) → a < 8 → ((c d : ℕ) → view g .sound c d ≡ view g .sound d c) → ((c : ℕ) → workOf (view g) c ≡ true → c < 8)
     → connected (rowsOf (g .sound)) (set (working g) a false) ≡ true → Reach (workOf (vFailed (view g) a)) (view g .sound)
 fail-reach g a la both below all =
     reach-of (rowsOf (g .sound)) (set (working g) a false) (workOf (vFailed (view g) a)) all
@@ -164,7 +168,7 @@ module _ (total : ℕ) (g : Group) (h : History) (γ : Ghost) (fit : Fit g) (i :
   v = view g
 
   abbrev g′ : Group
-  g′ = alarmTo 8 (markFailed g a) a
+  g′ = alarmTo 8 (markFailed g a) a (AtFailed a)
 
   abbrev h′ : History
   h′ = notePassed h a
@@ -172,23 +176,23 @@ module _ (total : ℕ) (g : Group) (h : History) (γ : Ghost) (fit : Fit g) (i :
   checks : (cabinet g a .store ≡ false) × (some (recoveringOnes g) ≡ false) × (connected (rowsOf (g .sound)) (set (working g) a false) ≡ true)
   checks = split-or (cabinet g a .store) (some (recoveringOnes g)) (connected (rowsOf (g .sound)) (set (working g) a false)) fine
 
-  pub nobody : (c : ℕ) → inRecovery (v .own c .state) ≡ false
-  nobody = nobody-recovers g fit (checks .1)
+  nobody : (c : ℕ) → inRecovery (v .own c .state) ≡ false
+  nobody = openly.nobody total g γ fit i (checks .1)
 
   unfaulted : γ .big .faulted ≡ false
-  unfaulted = is-false (γ .big .faulted) (λ e. let x = i .places .someone e in never (aware-recovers (γ .big) (v .own (x .0)) (x .1)) (nobody (x .0)))
+  unfaulted = openly.unfaulted total g γ fit i (checks .1)
+
+  present : (c : ℕ) → γ .mind c .tab ≡ true → workOf v c ≡ true
+  present = openly.present total g γ fit i (checks .1)
 
   alive : γ .big .alive ≡ true
-  alive = i .core .ground .aliveIs ∙ i .core .nodes (γ .big .chief) .present unfaulted (i .core .ground .chiefIn)
+  alive = openly.alive total g γ fit i (checks .1)
 
-  -- its home works and is another one
   another : (j : ℕ) × (j ≢ a) × (workOf v j ≡ true)
-  another =
-      let s = i .core .ground .homeStores a an in
-      (v .own a .home, (λ q. never (ap (λ (c : ℕ). v .own c .store) (sym q) ∙ s) (checks .0)), i .core .ground .storeWorks (v .own a .home) s)
+  another = openly.another total g γ fit i (checks .1) a an (checks .0)
 
   flipped : Core (g .n) total v (gFaulted γ)
-  flipped = flip-core (g .n) total v γ (i .core) nobody
+  flipped = openly.flipped total g γ fit i (checks .1)
 
   reaches : Reach (workOf (vFailed v a)) (v .sound)
   reaches = fail-reach g a la (i .core .ground .soundBoth) (below-eight (g .n) total a v γ i unfaulted up another nobody) (checks .2)
@@ -201,14 +205,15 @@ module _ (total : ℕ) (g : Group) (h : History) (γ : Ghost) (fit : Fit g) (i :
       (tabs : (c : ℕ) → δ .mind c .tab ≡ γ .mind c .tab) (links : (c d : ℕ) → δ .wire c d .lk ≡ γ .wire c d .lk)
       (left : (w : View) (t : Bool) → ((j : ℕ) → workOf w j ≡ true → workOf v j ≡ true)
       → ((j : ℕ) → isIn (w .own j .state) Checkpointed ≡ true → isIn (v .own j .state) Checkpointed ≡ true) → Past (g .n) w (gSaid δ t) h′) where
-    alarmed : Alarmed (g .n) total 8 a (vFailed v a) δ (view g′)
+    alarmed : Alarmed (g .n) total 8 a (AtFailed a) (vFailed v a) δ (view g′)
     alarmed =
-        subst (λ (u : View). Alarmed (g .n) total 8 a u δ (view g′)) seen
-        (alarm-all (g .n) total a (markFailed g a) (ok-markFailed Shaped Lined Pictured shaped g a fit) δ
+        subst (λ (u : View). Alarmed (g .n) total 8 a (AtFailed a) u δ (view g′)) seen
+        (alarm-all (g .n) total a (AtFailed a) (markFailed g a) (ok-markFailed Shaped Lined Pictured shaped g a fit) δ
         (subst (λ (u : View). Core (g .n) total u δ) (sym seen) core) faulted
-        (subst (λ (u : View). (c : ℕ) → inRecovery (u .own c .state) ≡ false) (sym seen) (none-recovers v a nobody))
-        (subst (λ (u : View). (c d : ℕ) → workOf u c ≡ true → used (u .side c d) ≡ true → d ≢ a → workOf u d ≡ true) (sym seen)
-        (failed-meets (g .n) total a v γ i unfaulted up another nobody))
+        (subst (λ (u : View). (c : ℕ) → near u a c ≡ true → (inRecovery (u .own c .state) ≡ false) × (isAt (AtFailed a) c ≡ false)) (sym seen)
+        (failed-none (g .n) total a v γ i unfaulted up another nobody))
+        (subst (λ (u : View). (c d : ℕ) → workOf u c ≡ true → used (sAlarmed (AtFailed a) c d (u .side c d)) ≡ true → workOf u d ≡ true) (sym seen)
+        (struck-meets (g .n) total a v γ i unfaulted up another nobody))
         8 (omega arith))
 
     fewer-work : (j : ℕ) → workOf (view g′) j ≡ true → workOf v j ≡ true
@@ -244,7 +249,7 @@ module _ (total : ℕ) (g : Group) (h : History) (γ : Ghost) (fit : Fit g) (i :
   pub keeps-fail : Kept total g γ g′ (noteCuts h′ g g′)
   keeps-fail = elim (ℕ-discrete a (γ .big .chief)) [
     | yes q ↦ chief (γ .big .adopted) refl q
-    | no d ↦ settled (gFaulted γ) (failed-other (g .n) total v (gFaulted γ) flipped nobody refl a (checks .0) reaches alive d)
+    | no d ↦ settled (gFaulted γ) (failed-other (g .n) total v (gFaulted γ) flipped nobody refl a (checks .0) reaches alive present d)
         refl (λ c. refl) (λ c d. refl)
         (λ w t f s. rw (kept-other (g .n) v γ h past a d) (past-big (g .n) v w γ (gSaid (gFaulted γ) t .big) h refl refl refl refl (λ e. e) f s past))
   ]
@@ -252,13 +257,13 @@ module _ (total : ℕ) (g : Group) (h : History) (γ : Ghost) (fit : Fit g) (i :
       chief : (t : Bool) → γ .big .adopted ≡ t → a ≡ γ .big .chief → Kept total g γ g′ (noteCuts h′ g g′)
       chief true e q =
           settled (gLost (gFaulted γ))
-          (failed-chief (g .n) total v (gFaulted γ) flipped nobody refl a (checks .0) reaches alive q e
+          (failed-chief (g .n) total v (gFaulted γ) flipped nobody refl a (checks .0) reaches alive present q e
           (λ j d w. i .core .chain .company j d w (inl (unfaulted, e))))
           refl (λ c. refl) (λ c d. refl)
           (λ w t f s. rw (kept-known (g .n) v γ h past a e)
           (past-big (g .n) v w γ (gSaid (gLost (gFaulted γ)) t .big) h refl refl refl refl (λ x. absurd (false≢true x)) f s past))
       chief false e q =
-          settled (gUndo (gFaulted γ)) (failed-undone (g .n) total v (gFaulted γ) flipped nobody refl a (checks .0) reaches alive q e)
+          settled (gUndo (gFaulted γ)) (failed-undone (g .n) total v (gFaulted γ) flipped nobody refl a (checks .0) reaches alive present q e)
           refl (λ c. refl) (λ c d. refl)
           (λ w t f s. past-undone (g .n) v γ h past a e q (another .0) (λ x. another .1 (x ∙ sym q)) (another .2) (λ c k. i .core .nodes c .gone k .1 e)
           (i .core .ground .within) w (λ c u. i .core .nodes c .placed (f c u)) (gSaid (gUndo (gFaulted γ)) t .big) refl refl refl)

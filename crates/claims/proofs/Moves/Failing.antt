@@ -1,27 +1,29 @@
 -- A cabinet fails: its state, its lines both ways, and what the ghost makes of it. The fault places are owed until its neighbours have
 -- entered error.
-use Prim.Native.Nat.{ℕ, _≤_}
+use Prim.Native.Nat.{ℕ}
 use mathlib.Core.Path.{_≡_, refl, sym, ap, _∙_, subst}
 use mathlib.Core.Logic.{_≢_, _⊎_, inl, inr, ⊎-elim}
 use mathlib.Core.Bool.{Bool, true, false, not, _&&_, _||_, false≢true, true≢false}
 use mathlib.Core.List.{List, []}
-use lib.Dec.{eqb, ltb}
-use borrow.Author.Tests.{eqb-true, eq-eqb, ltb-false}
+use lib.Dec.{eqb}
+use borrow.Author.Tests.{eqb-false, ne-eqb}
 use native.Mathlib.Omega.{arith}
 use native.Mathlib.Decide.{ℕ-discrete}
 use Rattle.packet.specs.declared.Packet.{Packet}
 use Rattle.state.specs.declared.State.the-variants.{Failed}
+use Rattle.state.specs.declared.Version.the-variants.{Lost}
 use Rattle.image.specs.declared.Image.{Image}
 use Rattle.state.specs.State.{works, inRecovery, isUnknown}
-use Rattle.claims.proofs.State.Fun.{never, is-false, and-true, cond-elim, upd-elim, upd-same, upd-other, upd-id, kept}
+use Rattle.claims.proofs.State.Fun.{never, is-false, and-true, and-intro, not-true-false, upd-case, upd-elim, upd-same, upd-other, upd-id, kept}
 use Rattle.claims.proofs.State.View.{View, Own, Side}
 use Rattle.claims.proofs.State.ViewMoves.{vFailed, oPhase}
-use Rattle.claims.proofs.Invariant.Facts.{Big, Mind, Wire, Ghost, Pair, Node, Books, aware, unaware, amountsIn, Amounts, amount, count, checkpLast}
+use Rattle.claims.proofs.Invariant.Facts.{Big, Mind, Wire, Ghost, Pair, Node, Books, Lead, aware, unaware, amountsIn, Amounts, amount, count, checkpLast}
 use Rattle.claims.proofs.Invariant.Whole.{Ground, Core, PairAt, NodeAt, BooksAt, workOf, calmOf, knownOf, storeOf, homeOf, tabOf, lkOf}
-use Rattle.claims.proofs.Invariant.Words.{un-of, aware-recovers}
-use Rattle.claims.proofs.Invariant.Reaching.{Reach}
+use Rattle.claims.proofs.Invariant.Words.{un-of, un-works, aware-recovers, lead-lost}
+use Rattle.claims.proofs.Invariant.Reaching.{Reach, reach-more}
 use Rattle.claims.proofs.Invariant.Frame.{same-ghost, move-pairs, move-nodes, move-books}
-use Rattle.claims.proofs.Moves.Undoing.{bLost, bUndo, gLost, gUndo, Waiting, lost-pair, lost-node, lost-books, undone-pair, undone-node, undone-books}
+use Rattle.claims.proofs.Moves.Emptying.{line-from, line-to, line-aside}
+use Rattle.claims.proofs.Moves.Undoing.{bLost, bUndo, gLost, gUndo, Waiting, Tripped, lost-pair, lost-node, lost-books, undone-pair, undone-node, undone-books}
 
 abbrev pub oFailed : Own → Own
 oFailed o = oPhase o Failed (o .version) (o .alarm)
@@ -194,32 +196,13 @@ module _ (n total : ℕ) (v : View) (γ : Ghost) (i : Core n total v γ) (none :
   lines′ = vFailed v a .lines
 
   from-empty : (j : ℕ) → lines′ a j ≡ []
-  from-empty j =
-      cond-elim (λ (x : List Packet). x ≡ []) (ltb a 8 && eqb j a) (λ e. refl)
-      (λ e. ap (λ (f : ℕ → List Packet). f j) (upd-same (v .lines) a (λ b. [])))
-
-  -- numbers from 8 on are no cabinets
-  past-eight : (c : ℕ) → 8 ≤ c → workOf v c ≡ false
-  past-eight c l =
-      is-false (workOf v c) (λ e. omega (arith, i .ground .within c (i .nodes c .placed e), i .ground .most))
+  from-empty j = line-from n total v γ i a (λ b. []) j (λ e. refl)
 
   to-empty : (c : ℕ) → c ≢ a → lines′ c a ≡ []
-  to-empty c d =
-      cond-elim (λ (x : List Packet). x ≡ []) (ltb c 8 && eqb a a) (λ e. refl)
-      (λ e. ap (λ (f : ℕ → List Packet). f a) (upd-other (v .lines) a (λ b. []) c d)
-      ∙ i .pairs c a .silent (first-off _ _ (past-eight c (ltb-false c 8 (first (ltb c 8) (eq-eqb a a refl) e)))))
-    where
-      first : (s : Bool) {t : Bool} → t ≡ true → (s && t) ≡ false → s ≡ false
-      first true e f = absurd (never e f)
-      first false e f = refl
-
-      first-off : (s t : Bool) → s ≡ false → (s && t) ≡ false
-      first-off s t e = rw e
+  to-empty = line-to n total v γ i a (λ b. [])
 
   others-stay : (c d : ℕ) → c ≢ a → d ≢ a → lines′ c d ≡ v .lines c d
-  others-stay c d nc nd =
-      cond-elim (λ (x : List Packet). x ≡ v .lines c d) (ltb c 8 && eqb d a) (λ e. absurd (nd (eqb-true d a (and-true {s = ltb c 8} e .1))))
-      (λ e. ap (λ (f : ℕ → List Packet). f d) (upd-other (v .lines) a (λ b. []) c nc))
+  others-stay = line-aside n total v γ i a (λ b. [])
 
   -- no store owes nothing
   bare : (d : ℕ) → v .side a d .owed ≡ false
@@ -255,16 +238,17 @@ module _ (n total : ℕ) (v : View) (γ : Ghost) (i : Core n total v γ) (none :
       (fail-books _ _ _ _ _ (i .books a)) c)
 
   -- who works, by the check of the fail
-  failed-ground : Reach (workOf (vFailed v a)) (v .sound) → (alive : Bool) → alive ≡ workOf (vFailed v a) (γ .big .chief)
-      → Ground n (γ .big .chief) alive (workOf (vFailed v a)) (tabOf γ) (storeOf (vFailed v a)) (homeOf (vFailed v a)) (lkOf γ) (v .sound)
-  failed-ground reach alive is =
+  failed-ground : Reach (workOf (vFailed v a)) (v .sound) → (alive : Bool)
+      → (alive ≡ false → (c : ℕ) → tabOf γ c ≡ true → c ≢ γ .big .chief → workOf (vFailed v a) c ≡ true)
+      → (alive ≡ false → Reach (λ c. tabOf γ c && not (eqb c (γ .big .chief))) (lkOf γ))
+      → Ground n (γ .big .chief) (γ .big .heir) alive (workOf (vFailed v a)) (tabOf γ) (storeOf (vFailed v a)) (homeOf (vFailed v a)) (lkOf γ) (v .sound)
+  failed-ground reach alive others left =
       let g = i .ground in
       rw (kept (λ (x : Own). x .home) (v .own) a o′ refl, kept (λ (x : Own). x .store) (v .own) a o′ refl) (record {
         most = g .most;
         within = g .within;
         chiefIn = g .chiefIn;
-        chiefLeast = g .chiefLeast;
-        aliveIs = is;
+        heirIs = g .heirIs;
         linkBoth = g .linkBoth;
         linkOther = g .linkOther;
         soundBoth = g .soundBoth;
@@ -272,22 +256,36 @@ module _ (n total : ℕ) (v : View) (γ : Ghost) (i : Core n total v γ) (none :
         homeStores = g .homeStores;
         storeWorks = λ c e. works-on v a c (λ q. never (ap (λ (x : ℕ). v .own x .store) (sym q) ∙ e) no-store) (g .storeWorks c e);
         reach = reach;
+        othersWork = others;
+        othersReach = left;
       })
+
+  no-version : (c : ℕ) → works (v .own c .state) ≡ true → v .own c .version ≡ Lost → ⊥
+  no-version c w e = never (aware-recovers (γ .big) (v .own c) (i .leads c .blank w e .0)) (none c)
 
   -- whoever was not calm is not
   calm-less : (b : Big) → b .faulted ≡ γ .big .faulted → (c : ℕ) → calmOf v γ c ≡ false → unaware b (vFailed v a .own c) ≡ false
   calm-less b e c f =
       upd-elim (λ (o : Own). unaware b o ≡ false) (v .own) a o′ c (λ q. refl) (λ d. rw e f)
 
-  module _ (reach : Reach (workOf (vFailed v a)) (v .sound)) (alive : γ .big .alive ≡ true) where
+  module _ (reach : Reach (workOf (vFailed v a)) (v .sound)) (alive : γ .big .alive ≡ true) (all : (c : ℕ) → γ .mind c .tab ≡ true → workOf v c ≡ true) where
+    lead-failed : a ≢ γ .big .chief → Lead (γ .big) a o′
+    lead-failed other = record {
+      steady = λ u. absurd (false≢true u);
+      moved = λ e. absurd (never (aware-recovers (γ .big) o′ e) refl);
+      lives = λ k. absurd (other k);
+      fallen = λ k. absurd (other k);
+      blank = λ w. absurd (false≢true w);
+    }
+
     -- another cabinet than the coordinator fails
     pub failed-other : a ≢ γ .big .chief → Core n total (vFailed v a) γ
     failed-other other = record {
       pairs = failed-pairs;
       nodes = failed-nodes;
       books = failed-books;
-      ground = failed-ground reach (γ .big .alive)
-          (i .ground .aliveIs ∙ ap (λ (o : Own). works (o .state)) (sym (other-own v a (γ .big .chief) (λ q. other (sym q)))));
+      leads = λ c. upd-case (λ k o. Lead (γ .big) k o) (v .own) a o′ (lead-failed other) (λ k d. i .leads k) c;
+      ground = failed-ground reach (γ .big .alive) (λ e. absurd (never alive e)) (λ e. absurd (never alive e));
       chain = record {
         noCommit = λ f.
             ⊎-elim (λ e. inl (calm-less (γ .big) refl _ e)) (λ e. inr (e .0, e .1, calm-less (γ .big) refl _ (e .2), e .3)) (i .chain .noCommit f);
@@ -300,8 +298,23 @@ module _ (n total : ℕ) (v : View) (γ : Ghost) (i : Core n total v γ) (none :
 
     -- the coordinator fails
     module _ (chief : a ≡ γ .big .chief) where
-      fallen : false ≡ workOf (vFailed v a) (γ .big .chief)
-      fallen = sym (ap (workOf (vFailed v a)) (sym chief) ∙ failed-off v a)
+      -- it is lost: the others work, and are reached without it
+      rest-works : (c : ℕ) → γ .mind c .tab ≡ true → c ≢ γ .big .chief → workOf (vFailed v a) c ≡ true
+      rest-works c t d = works-on v a c (λ q. d (q ∙ chief)) (all c t)
+
+      pub rest-reached : Reach (λ c. tabOf γ c && not (eqb c (γ .big .chief))) (lkOf γ)
+      rest-reached =
+          reach-more (workOf (vFailed v a)) (λ c. tabOf γ c && not (eqb c (γ .big .chief))) (v .sound) (lkOf γ)
+          (λ c w. let x = still-works v a c w in and-intro (i .nodes c .placed (x .1)) (ap not (ne-eqb c (γ .big .chief) (λ q. x .0 (q ∙ sym chief)))))
+          (λ c e. let x = and-true {s = tabOf γ c} e in rest-works c (x .0) (eqb-false c (γ .big .chief) (not-true-false (x .1))))
+          (i .ground .soundLinks) reach
+
+      leads-lost : (b : Big) → b .alive ≡ false → b .chief ≡ γ .big .chief → (c : ℕ) → Lead b c (vFailed v a .own c)
+      leads-lost b dead same =
+          upd-case (λ k o. Lead b k o) (v .own) a o′
+          (lead-lost b a o′ refl dead (λ k. refl) (λ w. absurd (false≢true w)) (λ w. absurd (false≢true w)))
+          (λ k d. lead-lost b k (v .own k) (none k) dead (λ q. absurd (d (q ∙ same ∙ sym chief)))
+          (λ w. i .leads k .steady (un-of (γ .big) (v .own k) w (none k)) ∙ sym same) (no-version k))
 
       no-calm : (b : Big) → unaware b (vFailed v a .own (γ .big .chief)) ≡ false
       no-calm b = ap (λ (c : ℕ). unaware b (vFailed v a .own c)) (sym chief) ∙ ap (unaware b) (failed-own v a)
@@ -314,7 +327,8 @@ module _ (n total : ℕ) (v : View) (γ : Ghost) (i : Core n total v γ) (none :
         pairs = λ c d. lost-pair _ _ _ _ _ _ _ _ _ _ _ (failed-pairs c d);
         nodes = λ c. lost-node _ _ _ _ _ (failed-nodes c);
         books = λ c. lost-books _ _ _ _ _ (failed-books c);
-        ground = failed-ground reach false fallen;
+        leads = leads-lost (bLost (γ .big)) refl refl;
+        ground = failed-ground reach false (λ e. rest-works) (λ e. rest-reached);
         chain = record {
           noCommit = λ f. inl (no-calm (bLost (γ .big)));
           lives = λ e. absurd (never adopted e);
@@ -329,15 +343,18 @@ module _ (n total : ℕ) (v : View) (γ : Ghost) (i : Core n total v γ) (none :
       }
 
       -- the others wait for the resume of the save that the coordinator alone knows of
-      waiting : γ .big .adopted ≡ false → (c : ℕ) → Waiting c (γ .big .chief) (vFailed v a .own c) (γ .mind c)
-      waiting fresh c e =
-          let x = still-works v a c e in
+      waiting : γ .big .adopted ≡ false → (c : ℕ) → Waiting (γ .big) c (vFailed v a .own c) (γ .mind c)
+      waiting fresh c u =
+          let x = still-works v a c (un-works (γ .big) (vFailed v a .own c) u) in
           let nc : c ≢ γ .big .chief = λ q. x .0 (q ∙ sym chief) in
           let y = i .nodes c .waits fresh nc (x .1) in
           (nc, y .0, ap (λ (o : Own). o .state) (other-own v a c (x .0)) ∙ y .1 (un-of (γ .big) (v .own c) (x .1) (none c)))
 
+      not-tripped : (c : ℕ) → Tripped (γ .big) (vFailed v a .own c)
+      not-tripped c e = absurd (never (aware-recovers (γ .big) (vFailed v a .own c) e) (none-recovers v a none c))
+
       -- nor has the coordinator its cut in a new one: it would work alone, and be a store
-      uncut : γ .big .adopted ≡ false → γ .mind (γ .big .chief) .done ≡ false
+      pub uncut : γ .big .adopted ≡ false → γ .mind (γ .big .chief) .done ≡ false
       uncut fresh =
           let k = γ .big .chief in
           let home = v .own k .home in
@@ -350,11 +367,11 @@ module _ (n total : ℕ) (v : View) (γ : Ghost) (i : Core n total v γ) (none :
         pairs = λ c d. undone-pair _ _ _ _ _ _ _ _ _ _ _ (failed-pairs c d) (waiting fresh c) (waiting fresh d)
             (failed-nodes c .placed) (failed-nodes d .placed)
             (λ e. i .nodes d .joinedTab (i .nodes d .doneJoined (i .nodes d .wroteDone e)));
-        nodes = λ c. undone-node _ _ _ _ _ (failed-nodes c) (waiting fresh c)
-            (λ e. un-of (γ .big) (vFailed v a .own c) e (none-recovers v a none c)) fresh
+        nodes = λ c. undone-node _ _ _ _ _ (failed-nodes c) (waiting fresh c) (not-tripped c) fresh
             (λ q. ap (λ (k : ℕ). γ .mind k .tab) q ∙ i .ground .chiefIn) (λ q. ap (λ (k : ℕ). γ .mind k .done) q ∙ uncut fresh);
         books = λ c. undone-books _ _ _ _ _ (failed-books c);
-        ground = failed-ground reach false fallen;
+        leads = leads-lost (bUndo (γ .big)) refl refl;
+        ground = failed-ground reach false (λ e. rest-works) (λ e. rest-reached);
         chain = record {
           noCommit = λ f. inl (no-calm (bUndo (γ .big)));
           lives = λ e. absurd (true≢false e);

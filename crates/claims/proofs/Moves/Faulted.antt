@@ -5,8 +5,10 @@ use mathlib.Core.Path.{_≡_, refl, sym, ap, _∙_, subst}
 use mathlib.Core.Logic.{_≢_}
 use mathlib.Core.Bool.{Bool, true, false}
 use mathlib.Core.List.{List, _∷_}
+use borrow.Author.Tests.{ne-eqb}
+use Rattle.table.specs.Table.{isAt}
 use Rattle.packet.specs.declared.Place.{Place}
-use Rattle.packet.specs.declared.Place.the-variants.{Cabinet as AtCabinet, Link as AtLink}
+use Rattle.packet.specs.declared.Place.the-variants.{Failed as AtFailed, Link as AtLink}
 use Rattle.packet.specs.declared.Packet.{Packet}
 use Rattle.packet.specs.declared.Packet.the-variants.{Fault}
 use Rattle.line.specs.Line.{oldest}
@@ -19,32 +21,32 @@ use Rattle.group.specs.Group.{cabinet, stateOf, line}
 use Rattle.protocol.specs.Receive.{serving}
 use Rattle.protocol.specs.Moves.{enterError, hear}
 use Rattle.protocol.specs.History.{History, upd, noteCuts}
-use Rattle.claims.proofs.State.Fun.{and-intro, upd-elim, upd-same, upd-other, kept, kept-at, upd-swap}
+use Rattle.claims.proofs.State.Fun.{never, and-intro, upd-elim, upd-same, upd-other, kept, kept-at, upd-swap}
 use Rattle.claims.proofs.State.Every.{ok-enterError}
 use Rattle.claims.proofs.State.View.{View, Own, used, view, setLine}
 use Rattle.claims.proofs.State.Shape.{Shaped, Lined, Pictured, shaped}
 use Rattle.claims.proofs.State.Sim.{Fit}
-use Rattle.claims.proofs.State.ViewMoves.{vHear, sim-hear, view-off}
+use Rattle.claims.proofs.State.ViewMoves.{vHear, leadAfter, sim-hear, view-off}
 use Rattle.claims.proofs.Invariant.States.{serving-calm, place-same}
 use Rattle.claims.proofs.Invariant.Facts.{Ghost, aware, unaware}
-use Rattle.claims.proofs.Invariant.Whole.{Core, Inv, Place-of, PlacesOf, MeetsOf, workOf, alarmOf, awareOf, tabOf, lkOf}
+use Rattle.claims.proofs.Invariant.Whole.{Core, Inv, Place-of, failed, tripped, faulty, PlacesOf, MeetsOf, workOf, alarmOf, awareOf, tabOf, lkOf}
 use Rattle.claims.proofs.Invariant.Past.{Past, Kept, aware-not-normal, past-turn}
 use Rattle.claims.proofs.Invariant.Words.{un-of, un-works, un-not-aware, aware-faulted}
 use Rattle.claims.proofs.Moves.FirstFault.{gError}
 use Rattle.claims.proofs.Moves.ErrorSeen.{vError, oErred, sErred, erredLine, erred, error-seen, strike-used, sim-error, erred-recovers, erred-works, erred-not-normal, erred-not-saving}
-use Rattle.claims.proofs.Moves.Erring.{error-core, error-meets}
+use Rattle.claims.proofs.Moves.Erring.{error-core, error-meets, place-map}
 use Rattle.claims.proofs.Moves.Hearing.{vHeard, fault-aware, fault-place, hear-inv, off, left-of, off-fit, off-line}
 use Rattle.claims.proofs.Moves.Recovering.{frozen-past}
 
 -- ---- entering error for a place that is one already
 
 module _ (n total : ℕ) (v : View) (γ : Ghost) (i : Inv n total v γ) (b : ℕ) (un : unaware (γ .big) (v .own b) ≡ true) (fault : γ .big .faulted ≡ true)
-    (q : Place) (place : Place-of (workOf v) (tabOf γ) (lkOf γ) (v .sound) q) where
+    (q : Place) (place : Place-of (workOf v) (tabOf γ) (awareOf v γ) (alarmOf v) (lkOf γ) (v .sound) q) where
   abbrev δ : Ghost
   δ = gError γ (v .own b)
 
   abbrev o′ : Own
-  o′ = oErred (v .own b) q
+  o′ = oErred (v .own b) q (leadAfter v b q)
 
   same-work : workOf (erred v b q) ≡ workOf v
   same-work = kept (λ (x : Own). works (x .state)) (v .own) b o′ (erred-works (v .own b .version) ∙ sym (un-works (γ .big) (v .own b) un))
@@ -61,23 +63,41 @@ module _ (n total : ℕ) (v : View) (γ : Ghost) (i : Inv n total v γ) (b : ℕ
       let same = same-own (k .0) (k .1) in
       (k .0, ap (λ (o : Own). aware (γ .big) o) same ∙ k .1, ap (λ (o : Own). o .alarm) same ∙ k .2)
 
-  one-place : (c : ℕ) → awareOf (erred v b q) δ c ≡ true → (p : Place) → alarmOf (erred v b q) c ≡ At p → Place-of (workOf v) (tabOf γ) (lkOf γ) (v .sound) p
+  -- it is another cabinet's fault: a failed one does not work, a tripped one is aware
+  elsewhere : isAt q b ≡ false
+  elsewhere = at-other q place
+    where
+      at-other : (p : Place) → Place-of (workOf v) (tabOf γ) (awareOf v γ) (alarmOf v) (lkOf γ) (v .sound) p → isAt p b ≡ false
+      at-other _ (failed x t w) = ne-eqb x b (λ e. never (ap (workOf v) e ∙ un-works (γ .big) (v .own b) un) w)
+      at-other _ (tripped x k a) = ne-eqb x b (λ e. un-not-aware (γ .big) (v .own b) un (ap (awareOf v γ) (sym e) ∙ k))
+      at-other _ (faulty x y l k e) = refl
+
+  still : (p : Place) → Place-of (workOf v) (tabOf γ) (awareOf v γ) (alarmOf v) (lkOf γ) (v .sound) p
+      → Place-of (workOf (erred v b q)) (tabOf γ) (awareOf (erred v b q) δ) (alarmOf (erred v b q)) (lkOf γ) (v .sound) p
+  still p =
+      place-map (workOf v) (workOf (erred v b q)) (tabOf γ) (awareOf v γ) (awareOf (erred v b q) δ) (alarmOf v) (alarmOf (erred v b q)) (lkOf γ) (v .sound) (v .sound)
+      (λ x. ap (λ (f : ℕ → Bool). f x) same-work)
+      (λ x e. (ap (λ (o : Own). aware (γ .big) o) (same-own x e) ∙ e, ap (λ (o : Own). o .alarm) (same-own x e))) (λ x y e. e) p
+
+  one-place : (c : ℕ) → awareOf (erred v b q) δ c ≡ true → (p : Place) → alarmOf (erred v b q) c ≡ At p
+      → Place-of (workOf v) (tabOf γ) (awareOf v γ) (alarmOf v) (lkOf γ) (v .sound) p
   one-place c =
-      upd-elim (λ (o : Own). aware (γ .big) o ≡ true → (p : Place) → o .alarm ≡ At p → Place-of (workOf v) (tabOf γ) (lkOf γ) (v .sound) p) (v .own) b o′ c
-      (λ x e p f. subst (Place-of (workOf v) (tabOf γ) (lkOf γ) (v .sound)) (place-same f) place) (λ x. i .places .fromOne c)
+      upd-elim (λ (o : Own). aware (γ .big) o ≡ true → (p : Place) → o .alarm ≡ At p
+      → Place-of (workOf v) (tabOf γ) (awareOf v γ) (alarmOf v) (lkOf γ) (v .sound) p) (v .own) b o′ c
+      (λ x e p f. subst (Place-of (workOf v) (tabOf γ) (awareOf v γ) (alarmOf v) (lkOf γ) (v .sound)) (place-same f) place) (λ x. i .places .fromOne c)
 
   entered-places : PlacesOf (erred v b q) δ
   entered-places = record {
     standing = i .places .standing;
-    failedFor = λ x t w. knower (AtCabinet x) (i .places .failedFor x t (ap (λ (f : ℕ → Bool). f x) (sym same-work) ∙ w));
+    failedFor = λ x t w. knower (AtFailed x) (i .places .failedFor x t (ap (λ (f : ℕ → Bool). f x) (sym same-work) ∙ w));
     faultyFor = λ x y l k s. knower (AtLink x y) (i .places .faultyFor x y l k s);
     someone = λ e. let k = i .places .someone e in (k .0, ap (λ (o : Own). aware (γ .big) o) (same-own (k .0) (k .1)) ∙ k .1);
-    fromOne = λ c e p f. rw same-work (one-place c e p f);
+    fromOne = λ c e p f. still p (one-place c e p f);
   }
 
   pub entered-inv : Inv n total (erred v b q) δ
   entered-inv = record {
-    core = subst (λ (x : View). Core n total x δ) (error-seen v b q) (error-core n total v γ (i .core) b un fault q
+    core = subst (λ (x : View). Core n total x δ) (error-seen v b q) (error-core n total v γ (i .core) b un fault q elsewhere
         (λ d u. i .meets b d (un-works (γ .big) (v .own b) un) (strike-used q b d (v .side b d) u)));
     places = entered-places;
     meets = subst MeetsOf (error-seen v b q) (error-meets v b q (un-works (γ .big) (v .own b) un) (i .meets));
@@ -134,7 +154,7 @@ module _ (total : ℕ) (g : Group) (h : History) (γ : Ghost) (w : Fit g) (i : I
   error-inv = entered-inv (g .n) total (view g) γ i b calm is-faulted q (i .places .fromOne a a-aware q a-place)
 
   abbrev o2 : Own
-  o2 = oErred (view g .own b) q
+  o2 = oErred (view g .own b) q (leadAfter (view g) b q)
 
   at-b : v2 .own b ≡ o2
   at-b = upd-same (view g .own) b o2

@@ -11,10 +11,8 @@ use native.Mathlib.Omega.{arith}
 use Rattle.packet.specs.declared.Packet.{Packet}
 use Rattle.state.specs.declared.State.{State}
 use Rattle.state.specs.declared.State.the-variants.{Normal, CheckpBegin, Checkpointing, Error, Recovering, Recovered}
-use Rattle.state.specs.declared.Version.{Version}
-use Rattle.state.specs.declared.Version.the-variants.{Known, Unknown}
 use Rattle.image.specs.declared.Image.{Image}
-use Rattle.state.specs.State.{isIn, works, inRestoring, isUnknown, bitOf}
+use Rattle.state.specs.State.{isIn, works, inRestoring, bitOf}
 use Rattle.image.specs.Image.{withPiece}
 use Rattle.registers.specs.Registers.{startRegisters}
 use Rattle.cabinet.specs.Cabinet.{withImage, withPieces, withRegisters, withState, fetched}
@@ -30,13 +28,13 @@ use Rattle.claims.proofs.State.Sim.{Fit, view-cabinet}
 use Rattle.claims.proofs.State.Methods.{sFresh, side-fetched}
 use Rattle.claims.proofs.State.ViewMoves.{oImage, oPhase, oPieces}
 use Rattle.claims.proofs.Answers.Tests.{in-state}
-use Rattle.claims.proofs.Invariant.States.{restoring-works, other-state}
+use Rattle.claims.proofs.Invariant.States.{known-is-known, restoring-works, other-state}
 use Rattle.claims.proofs.Invariant.Facts.{Big, Mind, Wire, Ghost, Pair, Node, Books, SameTo, aware, unaware, behind, closed}
 use Rattle.claims.proofs.Invariant.Whole.{Inv, PairAt}
 use Rattle.claims.proofs.Invariant.Past.{Past, Kept, Stays, aware-not-normal, past-turn}
-use Rattle.claims.proofs.Invariant.Words.{un-not-aware, aware-works, aware-not-un}
-use Rattle.claims.proofs.Invariant.Frame.{same-ghost, minded, move-pairs, move-nodes, move-books, move-ground, move-places, move-meets, move-chain, move-sums, quiet-inv}
-use Rattle.claims.proofs.Moves.Waking.{gAdopted, adopted-pair, adopted-node, adopted-books}
+use Rattle.claims.proofs.Invariant.Words.{un-not-aware, aware-works, aware-not-un, lead-same}
+use Rattle.claims.proofs.Invariant.Frame.{same-ghost, minded, move-pairs, move-nodes, move-books, move-leads, move-ground, move-places, move-meets, move-chain, move-sums, quiet-inv}
+use Rattle.claims.proofs.Moves.Waking.{gAdopted, adopted-pair, adopted-node, adopted-books, adopted-lead}
 use Rattle.claims.proofs.Moves.Pieces.{piece-more, all-pieces}
 use Rattle.claims.proofs.Moves.Adopting.{past-adopted}
 
@@ -48,6 +46,7 @@ adopted-inv n total v γ faulted i = record {
     pairs = λ c d. adopted-pair _ _ _ _ _ _ _ _ _ _ _ (i .core .pairs c d);
     nodes = λ c. adopted-node _ _ _ _ _ (i .core .nodes c);
     books = λ c. adopted-books _ _ _ _ _ (i .core .books c);
+    leads = λ c. adopted-lead _ _ _ (i .core .leads c);
     ground = i .core .ground;
     chain = record {
       noCommit = i .core .chain .noCommit;
@@ -113,7 +112,7 @@ module _ (n total : ℕ) (v : View) (γ : Ghost) (i : Inv n total v γ) (c : ℕ
   pieced-inv =
       subst (λ (δ : Ghost). Inv n total (pieced v c k x) δ) (same-ghost γ c)
       (quiet-inv n total v γ i c o′ (γ .mind c) (v .side c) (v .lines) (v .slots) (γ .wire)
-      (refl, refl, refl, refl, refl) (refl, refl, refl, refl, refl, refl, refl) (λ j d. refl) (λ d. refl)
+      (refl, refl, refl, refl, refl, refl, refl) (refl, refl, refl, refl, refl, refl, refl) (λ j d. refl) (λ d. refl)
       pieced-pairs
       (move-nodes v γ (γ .big) c o′ (γ .mind c) (v .side c) (v .lines) (v .slots) (γ .wire) (λ j d. refl) (λ j d. i .core .nodes j)
       (piece-node _ _ _ _ _ (i .core .nodes c) aw state k x l e))
@@ -321,8 +320,10 @@ module _ (n total : ℕ) (v : View) (γ : Ghost) (i : Inv n total v γ) (c : ℕ
           (last-node _ _ _ _ _ (i .core .nodes c) aw state adopted x same);
       books = move-books v γ (γ .big) c o″ (γ .mind c) s″ (v .lines) (v .slots) (γ .wire) (λ j. refl) (λ j. refl) (λ j d. i .core .books j)
           (last-books _ _ _ _ _ (i .core .nodes c) aw state adopted x _ _ (i .core .books c));
+      leads = move-leads v γ (γ .big) c o″ (γ .mind c) s″ (v .lines) (v .slots) (γ .wire) (λ j d. i .core .leads j)
+          (lead-same (γ .big) c (v .own c) o″ (i .core .leads c) work-same aware-same refl refl refl (λ e. e));
       ground = move-ground v γ c o″ (γ .mind c) s″ (v .lines) (v .slots) (γ .wire) work-same refl (λ j d. refl) (γ .big)
-          refl refl refl refl (i .core .ground);
+          refl refl refl refl refl (i .core .ground);
       chain = move-chain v γ c o″ (γ .mind c) s″ (v .lines) (v .slots) (γ .wire) work-same calm-same refl refl refl refl refl (i .core .chain);
       sums = move-sums total γ (γ .big) c (γ .mind c) (γ .wire) refl refl refl refl (i .core .sums);
     };
@@ -359,12 +360,9 @@ module _ (total : ℕ) (g : Group) (h : History) (γ : Ghost) (w : Fit g) (i : I
 
   -- the home's version is known, so it names the save that the rule gives
   home-version : bitOf (cabinet g home .phase .version) ≡ γ .big .topv
-  home-version = go (v .own home .version) refl
-    where
-      go : (y : Version) → v .own home .version ≡ y → bitOf y ≡ γ .big .topv
-      go (Known x) e = i .core .nodes home .known (aware-works (γ .big) (v .own home) home-aware) x e
-      go (Unknown x) e =
-          absurd (true≢false (ap isUnknown (sym e) ∙ i .core .nodes home .unknownAware home-aware ∙ restoring-works (stateOf g home) home-restores .1))
+  home-version =
+      i .core .nodes home .known (aware-works (γ .big) (v .own home) home-aware) (bitOf (v .own home .version))
+      (known-is-known (v .own home .version) (i .core .nodes home .unknownAware home-aware ∙ restoring-works (stateOf g home) home-restores .1))
 
   abbrev k : ℕ
   k = cabinet g a .noted .pieces

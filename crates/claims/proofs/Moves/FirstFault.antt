@@ -11,17 +11,17 @@ use Rattle.image.specs.declared.Image.{Image}
 use Rattle.state.specs.State.{isIn, inRecovery, isUnknown}
 use Rattle.claims.proofs.State.Fun.{never, is-false, and-true, and-intro, or-map}
 use Rattle.claims.proofs.State.View.{View, Own, Side}
-use Rattle.claims.proofs.Invariant.Facts.{Big, Mind, Wire, Ghost, Pair, Node, Books, aware, unaware, behind, closed}
+use Rattle.claims.proofs.Invariant.Facts.{Big, Mind, Wire, Ghost, Pair, Node, Books, Lead, aware, unaware, behind, closed}
 use Rattle.claims.proofs.Invariant.Whole.{Core, ChainOf, calmOf}
 use Rattle.claims.proofs.Invariant.Words.{un-of, un-works, aware-recovers}
 
 -- ---- the ghost
 
 abbrev pub bFaulted : Big → Big
-bFaulted b = record { faulted = true; topv = b .topv; adopted = b .adopted; chief = b .chief; alive = b .alive; begun = b .begun; frozen = b .frozen; calm = b .calm; clean = b .clean }
+bFaulted b = record { faulted = true; topv = b .topv; adopted = b .adopted; chief = b .chief; heir = b .heir; alive = b .alive; begun = b .begun; frozen = b .frozen; calm = b .calm; clean = b .clean }
 
 abbrev pub bFrozen : Big → Bool → Big
-bFrozen b t = record { faulted = b .faulted; topv = b .topv; adopted = b .adopted; chief = b .chief; alive = b .alive; begun = b .begun; frozen = t; calm = b .calm; clean = b .clean }
+bFrozen b t = record { faulted = b .faulted; topv = b .topv; adopted = b .adopted; chief = b .chief; heir = b .heir; alive = b .alive; begun = b .begun; frozen = t; calm = b .calm; clean = b .clean }
 
 abbrev pub gBig : Ghost → Big → Ghost
 gBig γ b = record { big = b; mind = γ .mind; wire = γ .wire }
@@ -153,6 +153,15 @@ flip-node b c o m z h r =
 flip-books : (b : Big) (o : Own) (m : Mind) (out got : ℕ) → Books b o m out got → inRecovery (o .state) ≡ false → Books (bFaulted b) o m out got
 flip-books b o m out got h r = record { bounded = h .bounded; live = λ u. h .live (calm-before b o r u); atCut = h .atCut }
 
+flip-lead : (b : Big) (c : ℕ) (o : Own) → Lead b c o → inRecovery (o .state) ≡ false → Lead (bFaulted b) c o
+flip-lead b c o h r = record {
+  steady = λ u. h .steady (calm-before b o r u);
+  moved = none-aware b o r;
+  lives = λ k e. (h .lives k e .0, none-aware b o r);
+  fallen = λ k e. is-false (unaware (bFaulted b) o) (λ u. never (calm-before b o r u) (h .fallen k e));
+  blank = λ w e. none-before b o r (h .blank w e .0);
+}
+
 module _ (n total : ℕ) (v : View) (γ : Ghost) (i : Core n total v γ) (none : (c : ℕ) → inRecovery (v .own c .state) ≡ false) where
   flip-calm : (c : ℕ) → calmOf v γ c ≡ false → calmOf v (gFaulted γ) c ≡ false
   flip-calm c e = is-false (calmOf v (gFaulted γ) c) (λ u. never (calm-before (γ .big) (v .own c) (none c) u) e)
@@ -172,6 +181,7 @@ module _ (n total : ℕ) (v : View) (γ : Ghost) (i : Core n total v γ) (none :
     pairs = λ c d. flip-pair _ _ _ _ _ _ _ _ _ _ _ (i .pairs c d) (none c) (none d);
     nodes = λ c. flip-node _ _ _ _ _ (i .nodes c) (none c);
     books = λ c. flip-books _ _ _ _ _ (i .books c) (none c);
+    leads = λ c. flip-lead _ _ _ (i .leads c) (none c);
     ground = i .ground;
     chain = flip-chain;
     sums = i .sums;
@@ -188,6 +198,7 @@ fault-core n total v γ i first = go (γ .big .faulted) refl
       topv = γ .big .topv;
       adopted = γ .big .adopted;
       chief = γ .big .chief;
+      heir = γ .big .heir;
       alive = γ .big .alive;
       begun = γ .big .begun;
       frozen = γ .big .frozen;

@@ -17,12 +17,12 @@ use Rattle.state.specs.State.{isIn, works, isUnknown}
 use Rattle.protocol.specs.History.{upd}
 use Rattle.claims.proofs.State.Fun.{never, is-false, and-true, and-intro, upd-elim, upd-same, upd-other, kept-at, or-map}
 use Rattle.claims.proofs.State.View.{View, Own, Side, used}
-use Rattle.claims.proofs.Invariant.States.{known-same, known-not-unknown}
+use Rattle.claims.proofs.Invariant.States.{known-same, known-not-unknown, known-not-lost}
 use Rattle.claims.proofs.Invariant.Facts.{Big, Mind, Wire, Ghost, Pair, Node, Books, Alarms, aware, unaware, closed, amountsIn, isFault, isInvalid, count}
 use Rattle.claims.proofs.Invariant.Whole.{Core, PairAt, ChainOf, workOf, calmOf, knownOf}
 use Rattle.claims.proofs.Invariant.Logs.{count-snoc, amounts-plain}
-use Rattle.claims.proofs.Invariant.Words.{un-not-aware, aware-faulted, aware-works, aware-not-un}
-use Rattle.claims.proofs.Invariant.Frame.{minded, move-pairs, move-nodes, move-books, move-ground, move-sums, same-ghost}
+use Rattle.claims.proofs.Invariant.Words.{un-not-aware, aware-faulted, aware-works, aware-not-un, lead-same}
+use Rattle.claims.proofs.Invariant.Frame.{minded, move-pairs, move-nodes, move-books, move-leads, move-ground, move-sums, same-ghost}
 use Rattle.claims.proofs.Moves.ErrorSeen.{vRecover, oGoes, goesLine, gone-on, recover-seen}
 
 -- ---- its lines
@@ -257,7 +257,9 @@ module _ (n total : ℕ) (v : View) (γ : Ghost) (i : Core n total v γ) (c : �
     nodes = move-nodes v γ (γ .big) c goer (γ .mind c) (v .side c) wents (v .slots) (γ .wire) (λ j d. refl) (λ j d. i .nodes j)
         (goes-node _ _ _ _ _ (i .nodes c) aw err froze);
     books = move-books v γ (γ .big) c goer (γ .mind c) (v .side c) wents (v .slots) (γ .wire) (λ j. refl) (λ j. refl) (λ j d. i .books j) (goes-books _ _ (i .books c));
-    ground = move-ground v γ c goer (γ .mind c) (v .side c) wents (v .slots) (γ .wire) goes-work refl (λ a d. refl) (γ .big) refl refl refl refl (i .ground);
+    leads = move-leads v γ (γ .big) c goer (γ .mind c) (v .side c) wents (v .slots) (γ .wire) (λ j d. i .leads j)
+        (lead-same (γ .big) c (v .own c) goer (i .leads c) goes-work (goes-aware (γ .big) (v .own c) top aw ∙ sym aw) refl refl refl (λ e. absurd (known-not-lost e)));
+    ground = move-ground v γ c goer (γ .mind c) (v .side c) wents (v .slots) (γ .wire) goes-work refl (λ a d. refl) (γ .big) refl refl refl refl refl (i .ground);
     chain = subst (λ (x : Ghost). ChainOf (gone-on v c top) x) (sym (same-ghost γ c)) recover-chain;
     sums = move-sums total γ (γ .big) c (γ .mind c) (γ .wire) refl refl refl refl (i .sums);
   }

@@ -188,7 +188,7 @@ module _ (n total : ℕ) (v : View) (γ : Ghost) (i : Inv n total v γ) (a b : �
 
   heard-inv : Inv n total (vHeard v a b k) γ′
   heard-inv = quiet-inv n total v γ i b (v .own b) (γ .mind b) s′ l′ (v .slots) (γ .wire)
-      (refl, refl, refl, refl, refl) (refl, refl, refl, refl, refl, refl, refl) (λ i j. refl) same-use
+      (refl, refl, refl, refl, refl, refl, refl) (refl, refl, refl, refl, refl, refl, refl) (λ i j. refl) same-use
       (move-pairs v γ (γ .big) b (v .own b) (γ .mind b) s′ l′ (v .slots) (γ .wire) (λ c d x y. line-to c d y) (λ c d x y. refl)
       (λ c d x y. i .core .pairs c d) from self to)
       (move-nodes v γ (γ .big) b (v .own b) (γ .mind b) s′ l′ (v .slots) (γ .wire) (λ j d. refl) (λ j d. i .core .nodes j) (i .core .nodes b))

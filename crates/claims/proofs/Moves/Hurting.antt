@@ -96,6 +96,7 @@ bHurt b x = record {
   topv = b .topv;
   adopted = b .adopted;
   chief = b .chief;
+  heir = b .heir;
   alive = b .alive;
   begun = b .begun;
   frozen = b .frozen;
@@ -128,6 +129,7 @@ uncalm-inv n total v γ i nobody x still = record {
     pairs = λ c d. stained (γ .big) x still c d _ _ _ _ _ _ _ _ (i .core .pairs c d);
     nodes = λ c. stained-node (γ .big) x still c _ _ _ (nobody c) (i .core .nodes c);
     books = λ c. let h = i .core .books c in record { bounded = h .bounded; live = h .live; atCut = h .atCut };
+    leads = λ c. let h = i .core .leads c in record { steady = h .steady; moved = h .moved; lives = h .lives; fallen = h .fallen; blank = h .blank };
     ground = i .core .ground;
     chain = let h = i .core .chain in record { noCommit = h .noCommit; lives = h .lives; alone = h .alone; company = h .company };
     sums = i .core .sums;
@@ -303,7 +305,7 @@ module _ (n total : ℕ) (v : View) (γ : Ghost) (i : Inv n total v γ) (a b : �
   moved-inv : Inv n total v′ δ
   moved-inv =
       quiet-inv n total v γ i b (v .own b) (γ .mind b) sides lines′ (v .slots) w′
-      (refl, refl, refl, refl, refl) (refl, refl, refl, refl, refl, refl, refl) (wire-kept (λ (y : Wire). y .lk) γ a b wire′ refl)
+      (refl, refl, refl, refl, refl, refl, refl) (refl, refl, refl, refl, refl, refl, refl) (wire-kept (λ (y : Wire). y .lk) γ a b wire′ refl)
       (kept-at used (v .side b) a toA refl)
       (move-pairs v γ (γ .big) b (v .own b) (γ .mind b) sides lines′ (v .slots) w′ (λ c d n m. pair-other (v .lines) a b l c d (λ y z. m z))
       (λ c d n m. pair-other (γ .wire) a b wire′ c d (λ y z. m z)) (λ c d n m. i .core .pairs c d) hit-from hit-self hit-to)

@@ -17,12 +17,12 @@ use Rattle.protocol.specs.History.{upd}
 use Rattle.claims.proofs.State.Fun.{never, is-false, and-true, and-intro, cond-elim, upd-elim, upd-same, upd-other, and-false, or-right, kept}
 use Rattle.claims.proofs.State.View.{View, Own, Side, used}
 use Rattle.claims.proofs.State.Methods.{sBegun}
-use Rattle.claims.proofs.State.ViewMoves.{oPhase, oPieces, vPut, vJoin}
-use Rattle.claims.proofs.Invariant.Facts.{Big, Mind, Wire, Ghost, Pair, Stream, Node, Books, aware, unaware, linked, behind, closed, amountsIn, count, isFault, isSafe, isInvalid, checkpLast, resumeFirst}
+use Rattle.claims.proofs.State.ViewMoves.{oPhase, oBare, vPut, vJoin}
+use Rattle.claims.proofs.Invariant.Facts.{Big, Mind, Wire, Ghost, Pair, Stream, Node, Books, Lead, aware, unaware, linked, behind, closed, amountsIn, count, isFault, isSafe, isInvalid, checkpLast, resumeFirst}
 use Rattle.claims.proofs.Invariant.Whole.{Inv, PairAt, ChainOf}
 use Rattle.claims.proofs.Invariant.Logs.{count-snoc, resume-more, checkp-last, amounts-plain}
-use Rattle.claims.proofs.Invariant.Words.{un-of, un-works, un-not-aware, used-linked}
-use Rattle.claims.proofs.Invariant.Frame.{minded, move-pairs, move-nodes, move-books, move-ground, move-places, move-meets, move-sums}
+use Rattle.claims.proofs.Invariant.Words.{un-of, un-works, un-not-aware, used-linked, lead-calm}
+use Rattle.claims.proofs.Invariant.Frame.{minded, move-pairs, move-nodes, move-books, move-leads, move-ground, move-places, move-meets, move-sums}
 
 -- ---- the ghost
 
@@ -33,6 +33,7 @@ bBegun b = record {
   topv = b .topv;
   adopted = b .adopted;
   chief = b .chief;
+  heir = b .heir;
   alive = b .alive;
   begun = true;
   frozen = b .frozen;
@@ -58,7 +59,7 @@ abbrev pub gJoin : Ghost → ℕ → Ghost
 gJoin γ c = minded γ (bBegun (γ .big)) c (mJoined (γ .mind c)) (γ .wire)
 
 abbrev pub oBegun : Own → Own
-oBegun o = oPieces (oPhase o CheckpBegin (o .version) (o .alarm)) 0
+oBegun o = oBare (oPhase o CheckpBegin (o .version) (o .alarm))
 
 -- who may join: the coordinator of no save under way, or another cabinet once that one has, and all know of the save before
 abbrev pub Joins : Big → ℕ → Type 0
@@ -344,6 +345,10 @@ begun-books b o m out got h = record { bounded = h .bounded; live = h .live; atC
 join-books : (b : Big) (o : Own) (m : Mind) (out got : ℕ) → unaware b o ≡ true → Books b o m out got → Books (bBegun b) (oBegun o) (mJoined m) out got
 join-books b o m out got un h = record { bounded = h .bounded; live = λ u. h .live un; atCut = h .atCut }
 
+-- who leads does not hang on the save
+begun-lead : (b : Big) (c : ℕ) (o : Own) → Lead b c o → Lead (bBegun b) c o
+begun-lead b c o h = record { steady = h .steady; moved = h .moved; lives = h .lives; fallen = h .fallen; blank = h .blank }
+
 -- ---- together
 
 module _ (n total : ℕ) (v : View) (γ : Ghost) (i : Inv n total v γ) (c : ℕ) (un : unaware (γ .big) (v .own c) ≡ true)
@@ -407,6 +412,13 @@ module _ (n total : ℕ) (v : View) (γ : Ghost) (i : Inv n total v γ) (c : ℕ
       grows : (j : ℕ) → γ .mind j .joined ≡ true → upd (γ .mind) c m′ j .joined ≡ true
       grows j e = upd-elim (λ (x : Mind). x .joined ≡ true) (γ .mind) c m′ j (λ q. refl) (λ d. e)
 
+  -- its version is not lost, since it is not aware of a fault
+  join-lead : Lead (γ .big) c o′
+  join-lead =
+      let h = i .core .leads c in
+      lead-calm (γ .big) c (v .own c) o′ h un (un-of (γ .big) o′ refl refl) refl
+      (λ e. un-not-aware (γ .big) (v .own c) un (h .blank (un-works (γ .big) (v .own c) un) e .0))
+
   pub join-inv : Inv n total (vJoin v c) (gJoin γ c)
   join-inv = record {
     core = record {
@@ -415,8 +427,9 @@ module _ (n total : ℕ) (v : View) (γ : Ghost) (i : Inv n total v γ) (c : ℕ
           (λ j d. begun-node _ c _ _ _ _ (i .core .nodes j) joins d) (join-node _ _ _ _ _ (i .core .nodes c) un normal joins);
       books = move-books v γ (bBegun (γ .big)) c o′ m′ s′ lines′ (v .slots) (γ .wire) (λ j. refl) (λ j. refl)
           (λ j d. begun-books _ _ _ _ _ (i .core .books j)) (join-books _ _ _ _ _ un (i .core .books c));
+      leads = move-leads v γ (bBegun (γ .big)) c o′ m′ s′ lines′ (v .slots) (γ .wire) (λ j d. begun-lead _ _ _ (i .core .leads j)) (begun-lead _ _ _ join-lead);
       ground = move-ground v γ c o′ m′ s′ lines′ (v .slots) (γ .wire) works-on refl (λ i j. refl) (bBegun (γ .big))
-          refl refl refl refl (i .core .ground);
+          refl refl refl refl refl (i .core .ground);
       chain = join-chain;
       sums = move-sums total γ (bBegun (γ .big)) c m′ (γ .wire) refl refl refl refl (i .core .sums);
     };

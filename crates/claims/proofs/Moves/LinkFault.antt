@@ -8,6 +8,8 @@ use mathlib.Core.List.{List, _∷_}
 use borrow.Author.Tests.{eq-eqb, ne-eqb, lt-ltb, le-ltb}
 use native.Mathlib.Omega.{arith}
 use native.Mathlib.Decide.{ℕ-discrete, decLt}
+use lib.Dec.{ltb}
+use Rattle.table.specs.Table.{isAt}
 use Rattle.marks.specs.Marks.{marked}
 use Rattle.marks.specs.Reach.{Rows, mark, struck, connected}
 use Rattle.marks.specs.ReachLaws.{struck-there, struck-back, struck-other, length-struck}
@@ -28,16 +30,16 @@ use Rattle.group.specs.Group.{cabinet, stateOf, outgoing, line, slot, withOutgo
 use Rattle.protocol.specs.History.{History, upd, noteCuts}
 use Rattle.protocol.specs.Moves.{enterError}
 use Rattle.protocol.specs.Receive.{serving}
-use Rattle.claims.proofs.State.Fun.{never, is-false, and-true, and-intro, upd-other, upd-swap}
+use Rattle.claims.proofs.State.Fun.{never, is-false, and-true, and-intro, cond-elim, upd-other, upd-swap}
 use Rattle.claims.proofs.State.Every.{with-line}
 use Rattle.claims.proofs.State.View.{View, Side, used, content, view, setLine, setSound}
 use Rattle.claims.proofs.State.Shape.{Shaped, Lined, Pictured, shaped}
 use Rattle.claims.proofs.State.Sim.{Fit, in-use}
 use Rattle.claims.proofs.State.Methods.{hitsLink, sAlarmed}
-use Rattle.claims.proofs.State.ViewMoves.{sim-off, view-off}
+use Rattle.claims.proofs.State.ViewMoves.{leadAfter, sim-off, view-off}
 use Rattle.claims.proofs.Invariant.States.{serving-calm}
 use Rattle.claims.proofs.Invariant.Facts.{Ghost, aware, unaware, count, isInvalid}
-use Rattle.claims.proofs.Invariant.Whole.{Core, Inv, GroundOf, Place-of, faulty, workOf, tabOf, lkOf}
+use Rattle.claims.proofs.Invariant.Whole.{Core, Inv, GroundOf, Place-of, faulty, workOf, awareOf, alarmOf, tabOf, lkOf}
 use Rattle.claims.proofs.Invariant.Past.{Past, Kept, aware-not-normal, past-turn}
 use Rattle.claims.proofs.Invariant.Words.{un-of, un-not-aware}
 use Rattle.claims.proofs.Invariant.Reaching.{Reach, reach-group, length-rows, view-sound}
@@ -48,6 +50,10 @@ use Rattle.claims.proofs.Moves.ErrorSeen.{vError, erred, erredLine, sEr
 use Rattle.claims.proofs.Moves.Erring.{error-meets, error-past, error-places-at, enter-core}
 
 -- ---- a link's place
+
+-- a link is no cabinet
+link-at : (a b k : ℕ) → isAt (linkPlace a b) k ≡ false
+link-at a b k = cond-elim (λ (p : Place). isAt p k ≡ false) (ltb a b) (λ e. refl) (λ e. refl)
 
 place-up : (a b : ℕ) → a < b → linkPlace a b ≡ AtLink a b
 place-up a b l = rw (lt-ltb a b l)
@@ -148,12 +154,12 @@ module _ (n total : ℕ) (v : View) (γ : Ghost) (i : Inv n total v γ) (a b : �
   linked-here : lkOf γ b a ≡ true
   linked-here = sym (i .core .pairs b a .table un .1) ∙ and-true {s = v .side b a .link} uses .0
 
-  place : Place-of (workOf v) (tabOf γ) (lkOf γ) sound q
+  place : Place-of (workOf v) (tabOf γ) (awareOf v γ) (alarmOf v) (lkOf γ) sound q
   place = elim (decLt a b) [
-    | yes l ↦ subst (λ (r : Place). Place-of (workOf v) (tabOf γ) (lkOf γ) sound r) (sym (place-up a b l))
+    | yes l ↦ subst (λ (r : Place). Place-of (workOf v) (tabOf γ) (awareOf v γ) (alarmOf v) (lkOf γ) sound r) (sym (place-up a b l))
         (faulty a b l (i .core .ground .linkBoth a b ∙ linked-here) there)
     | no m ↦ let l : b < a = omega arith in
-        subst (λ (r : Place). Place-of (workOf v) (tabOf γ) (lkOf γ) sound r) (sym (place-down a b l)) (faulty b a l linked-here back)
+        subst (λ (r : Place). Place-of (workOf v) (tabOf γ) (awareOf v γ) (alarmOf v) (lkOf γ) sound r) (sym (place-down a b l)) (faulty b a l linked-here back)
   ]
 
   lost : (x y : ℕ) → x < y → lkOf γ x y ≡ true → sound x y ≡ false → (v .sound x y ≡ false) ⊎ (q ≡ AtLink x y)
@@ -163,7 +169,7 @@ module _ (n total : ℕ) (v : View) (γ : Ghost) (i : Inv n total v γ) (a b : �
       (pairings x y)
 
   entered : Core n total (vError v b q) δ
-  entered = enter-core n total v γ (i .core) first b wb rb q (λ d u. i .meets b d wb (strike-used q b d (v .side b d) u))
+  entered = enter-core n total v γ (i .core) first b wb rb q (link-at a b b) (λ d u. i .meets b d wb (strike-used q b d (v .side b d) u))
 
   grounded : GroundOf n (setSound (vError v b q) sound) δ
   grounded =
@@ -173,8 +179,7 @@ module _ (n total : ℕ) (v : View) (γ : Ghost) (i : Inv n total v γ) (a b : �
         most = h .most;
         within = h .within;
         chiefIn = h .chiefIn;
-        chiefLeast = h .chiefLeast;
-        aliveIs = h .aliveIs;
+        heirIs = h .heirIs;
         linkBoth = h .linkBoth;
         linkOther = h .linkOther;
         soundBoth = sound-both (v .sound) sound a b other there back elsewhere (i .core .ground .soundBoth);
@@ -184,11 +189,13 @@ module _ (n total : ℕ) (v : View) (γ : Ghost) (i : Inv n total v γ) (a b : �
         storeWorks = h .storeWorks;
         reach = λ P passes x wx px y wy.
             reach P (λ c d pc wc wd s. passes c d pc (same c ∙ wc) (same d ∙ wd) s) x (sym (same x) ∙ wx) px y (sym (same y) ∙ wy);
+        othersWork = h .othersWork;
+        othersReach = h .othersReach;
       }
 
   struck-inv : Inv n total (setSound (vError v b q) sound) δ
   struck-inv = record {
-    core = record { pairs = entered .pairs; nodes = entered .nodes; books = entered .books; ground = grounded; chain = entered .chain; sums = entered .sums };
+    core = record { pairs = entered .pairs; nodes = entered .nodes; books = entered .books; leads = entered .leads; ground = grounded; chain = entered .chain; sums = entered .sums };
     places = error-places-at v γ b un q sound first lost (worse (v .sound) sound a b other there back elsewhere) place (i .places);
     meets = error-meets v b q wb (i .meets);
   }
@@ -295,7 +302,7 @@ module _ (total : ℕ) (g : Group) (h : History) (γ : Ghost) (w : Fit g) (i : I
     keeps-link-fault = record {
       ghost = gError (gFaulted γ) (view g .own b);
       inv = subst (λ (x : View). Inv (g .n) total x (gError (gFaulted γ) (view g .own b))) (sym seen) inv-after;
-      past = past-turn g g′ b (oErred (view g .own b) (linkPlace a b))
+      past = past-turn g g′ b (oErred (view g .own b) (linkPlace a b) (leadAfter (view g) b (linkPlace a b)))
           (λ c. ap (λ (u : View). u .own c .state) seen ∙ ap (λ (u : View). u .own c .state) (error-seen (view g) b (linkPlace a b)))
           (erred-works (cabinet g b .phase .version) ∙ sym (calm .0)) (erred-not-saving (cabinet g b .phase .version))
           (error-past (g .n) (view g) γ h (view g .own b) past);

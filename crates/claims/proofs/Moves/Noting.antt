@@ -83,7 +83,7 @@ module _ (n total : ℕ) (v : View) (γ : Ghost) (c : ℕ) (x : Image) (i : Inv 
 
   pub noted-inv : Inv n total (noted v c x) γ′
   noted-inv = quiet-inv n total v γ i c o′ (γ .mind c) (v .side c) (v .lines) (v .slots) (γ .wire)
-      (refl, refl, refl, refl, refl) (refl, refl, refl, refl, refl, refl, refl) (λ i j. refl) (λ d. refl)
+      (refl, refl, refl, refl, refl, refl, refl) (refl, refl, refl, refl, refl, refl, refl) (λ i j. refl) (λ d. refl)
       noted-pairs
       (move-nodes v γ (γ .big) c o′ (γ .mind c) (v .side c) (v .lines) (v .slots) (γ .wire) (λ j d. refl) (λ j d. i .core .nodes j)
       (image-node _ _ _ _ _ (i .core .nodes c) un normal x))

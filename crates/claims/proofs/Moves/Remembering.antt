@@ -8,7 +8,7 @@ use mathlib.Core.List.{List}
 use native.Mathlib.Omega.{arith}
 use borrow.Author.Tests.{eqb-true}
 use Rattle.packet.specs.declared.Place.{Place}
-use Rattle.packet.specs.declared.Place.the-variants.{Cabinet as AtCabinet}
+use Rattle.packet.specs.declared.Place.the-variants.{Failed as AtFailed}
 use Rattle.packet.specs.declared.Packet.{Packet}
 use Rattle.state.specs.declared.Version.{Version}
 use Rattle.cabinet.specs.declared.Alarm.{Alarm}
@@ -25,9 +25,9 @@ use Rattle.claims.proofs.State.Sim.{Fit}
 use Rattle.claims.proofs.State.Methods.{hitsCabinet}
 use Rattle.claims.proofs.State.ViewMoves.{oVersion, sim-version}
 use Rattle.claims.proofs.Invariant.States.{failed-state}
-use Rattle.claims.proofs.Invariant.Facts.{Big, Mind, Wire, Ghost, Pair, Node, Alarms, aware, unaware}
-use Rattle.claims.proofs.Invariant.Whole.{Place-of, failed, faulty, Inv, PairAt, NodeAt, BooksAt, workOf, awareOf, calmOf, knownOf, GroundOf, PlacesOf, ChainOf}
-use Rattle.claims.proofs.Invariant.Frame.{moved, same-ghost, move-pairs, move-nodes, move-books, move-ground, move-places, move-meets}
+use Rattle.claims.proofs.Invariant.Facts.{Big, Mind, Wire, Ghost, Pair, Node, Lead, Alarms, aware, unaware}
+use Rattle.claims.proofs.Invariant.Whole.{Place-of, failed, tripped, faulty, Inv, PairAt, NodeAt, BooksAt, workOf, awareOf, alarmOf, calmOf, knownOf, GroundOf, PlacesOf, ChainOf}
+use Rattle.claims.proofs.Invariant.Frame.{moved, same-ghost, move-pairs, move-nodes, move-books, move-leads, move-ground, move-places, move-meets}
 
 -- ---- a cabinet that has failed since the last recovery's end
 
@@ -143,14 +143,20 @@ module _ (n total : ℕ) (v : View) (γ : Ghost) (i : Inv n total v γ) (x : ℕ
       h : ChainOf v γ
       h = i .core .chain
 
+  version-lead : Lead (γ .big) x o′
+  version-lead =
+      let h = i .core .leads x in
+      record { steady = h .steady; moved = h .moved; lives = h .lives; fallen = h .fallen; blank = λ w. absurd (never w gone) }
+
   pub version-inv : Inv n total v′ γ
   version-inv = record {
     core = record {
       pairs = version-pairs;
       nodes = version-nodes;
       books = version-books;
+      leads = move-leads v γ (γ .big) x o′ (γ .mind x) (v .side x) (v .lines) (v .slots) (γ .wire) (λ c d. i .core .leads c) version-lead;
       ground = subst (GroundOf n v′) (same-ghost γ x)
-          (move-ground v γ x o′ (γ .mind x) (v .side x) (v .lines) (v .slots) (γ .wire) refl refl (λ a b. refl) (γ .big) refl refl refl refl (i .core .ground));
+          (move-ground v γ x o′ (γ .mind x) (v .side x) (v .lines) (v .slots) (γ .wire) refl refl (λ a b. refl) (γ .big) refl refl refl refl refl (i .core .ground));
       chain = version-chain;
       sums = i .core .sums;
     };
@@ -173,14 +179,15 @@ module _ (total : ℕ) (g : Group) (γ : Ghost) (w : Fit g) (i : Inv (g .n) tota
   abbrev Noted : Place → Group → Type 0
   Noted q g′ = Remembered (g .n) total (view g) γ k q (view g′)
 
-  at-place : (q : Place) → Place-of (workOf (view g)) (λ c. γ .mind c .tab) (λ c d. γ .wire c d .lk) (view g .sound) q → Noted q (noteAt q g y₀)
+  at-place : (q : Place) → Place-of (workOf (view g)) (λ c. γ .mind c .tab) (awareOf (view g) γ) (alarmOf (view g)) (λ c d. γ .wire c d .lk) (view g .sound) q → Noted q (noteAt q g y₀)
   at-place _ (failed x tab gone) =
       let below : x < 8 = omega (arith, i .core .ground .within x tab, i .core .ground .most) in
       let o : Own = oVersion (view g .own x) y₀ in
-      subst (Remembered (g .n) total (view g) γ k (AtCabinet x)) (sym (sim-version g w x y₀ below)) (record {
+      subst (Remembered (g .n) total (view g) γ k (AtFailed x)) (sym (sim-version g w x y₀ below)) (record {
         inv = version-inv (g .n) total (view g) γ i x y₀ gone tab;
         note = λ c e. ap (λ (j : ℕ). upd (view g .own) x o j .version) (eqb-true c x e) ∙ ap (λ (a : Own). a .version) (upd-same (view g .own) x o);
       })
+  at-place _ (tripped x f e) = record { inv = i; note = λ c e. absurd (false≢true e) }
   at-place _ (faulty x y l f e) = record { inv = i; note = λ c e. absurd (false≢true e) }
 
   pub remembered : awareOf (view g) γ k ≡ true → (q : Place) → cabinet g k .phase .alarm ≡ At q → Noted q (noteLost g k)

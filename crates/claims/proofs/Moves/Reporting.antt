@@ -65,7 +65,7 @@ module _ (n total : ℕ) (v : View) (γ : Ghost) (i : Inv n total v γ) (a : ℕ
   told-inv =
       subst (λ (x : View). Inv n total x (gTold γ a)) (same-view v a)
       (quiet-inv n total v γ i a (v .own a) m′ (v .side a) (v .lines) (v .slots) (γ .wire)
-      (refl, refl, refl, refl, refl) (refl, refl, refl, refl, refl, refl, refl) (λ i j. refl) (λ d. refl)
+      (refl, refl, refl, refl, refl, refl, refl) (refl, refl, refl, refl, refl, refl, refl) (λ i j. refl) (λ d. refl)
       told-pairs
       (move-nodes v γ (γ .big) a (v .own a) m′ (v .side a) (v .lines) (v .slots) (γ .wire) (λ j d. refl) (λ j d. i .core .nodes j)
       (told-node _ _ _ _ _ wrote (i .core .nodes a)))

@@ -1,5 +1,5 @@
 -- Kind 8, restored: the report alone keeps the invariant, and where it ends the recovery demand 3 holds.
-use Prim.Native.Nat.{ℕ, _<_, _≤_}
+use Prim.Native.Nat.{ℕ, _<_}
 use mathlib.Core.Path.{_≡_, refl, sym, ap, _∙_, subst}
 use mathlib.Core.Logic.{_≢_, _⊎_, inl, inr, ⊎-elim}
 use mathlib.Core.Bool.{Bool, true, false, cond, not, _&&_, true≢false, false≢true}
@@ -8,7 +8,7 @@ use lib.ListN.{length, List·getD-eq-default}
 use native.Mathlib.Omega.{arith}
 use native.Mathlib.Decide.{ℕ-discrete, decLt}
 use Rattle.marks.specs.Marks.{Marks, marked, covers}
-use Rattle.marks.specs.MarksLaws.{covers-has, lowest-le-marked}
+use Rattle.marks.specs.MarksLaws.{covers-has}
 use Rattle.packet.specs.declared.Place.{Place}
 use Rattle.cabinet.specs.declared.Alarm.the-variants.{Fault as At}
 use Rattle.state.specs.declared.State.{State}
@@ -25,9 +25,10 @@ use Rattle.protocol.specs.Moves.{endRecovery, noteLost}
 use Rattle.protocol.specs.Kinds.{mayReport, restoredRefusal, reportRestored, endIfAll}
 use Rattle.protocol.specs.History.{Cut, History, latest, imageIn, lostNow, noteEnd, noteCuts, ends, goes}
 use Rattle.protocol.specs.Restored.{Restored, counted, amperes}
-use Rattle.claims.proofs.State.Fun.{never, is-true, is-false, and-true, and-intro, cond-elim, upd-elim, upd-same, upd-other, sum-cong, kept-at}
+use Rattle.claims.proofs.State.Fun.{never, is-true, is-false, and-true, and-intro, cond-elim, upd-same, upd-other, sum-cong, kept-at}
 use Rattle.claims.proofs.State.Every.{passed, with-cabinet, ok-noteLost}
 use Rattle.claims.proofs.State.View.{View, Own, Side, view, used}
+use Rattle.claims.proofs.State.Leading.{nextOver}
 use Rattle.claims.proofs.State.Shape.{Shaped, Lined, Pictured, shaped}
 use Rattle.claims.proofs.State.Sim.{Fit, in-use}
 use Rattle.claims.proofs.State.Methods.{sCleared, hitsCabinet}
@@ -43,7 +44,7 @@ use Rattle.claims.proofs.Moves.Rousing.{oResumed, roused, seen-roused}
 use Rattle.claims.proofs.Moves.Restoring.{gReady, ready-inv, marked-inv, mReady}
 use Rattle.claims.proofs.Moves.EndPairs.{bEnd, mEnd, wEnd}
 use Rattle.claims.proofs.Moves.Remembering.{Remembered, remembered}
-use Rattle.claims.proofs.Moves.Ending.{the-place, tabs-at, tabled, ended-inv, all-aware, all-recovered}
+use Rattle.claims.proofs.Moves.Ending.{the-place, tabs-at, one-lead, ended-inv, all-aware, all-recovered}
 
 past-row : (m : Marks) (j : ℕ) → length m ≡ 8 → marked m j ≡ true → j < 8
 past-row m j e t = elim (decLt j 8) [ yes l ↦ l | no n ↦ absurd (never t (List·getD-eq-default m false {n = j} (omega arith))) ]
@@ -115,12 +116,6 @@ module _ (total : ℕ) (g : Group) (h : History) (γ : Ghost) (w : Fit g) (i : I
   past1 : Past (g .n) (view g1) γ1 h
   past1 = past-same state1 (past-mind (g .n) (view g) γ h past a (mReady (γ .mind a)) refl refl refl refl refl refl)
 
-  cab1 : (c j : ℕ) → view g1 .side c j .cab ≡ view g .side c j .cab
-  cab1 c j =
-      ap (λ (x : View). x .side c j .cab) seen1
-      ∙ upd-elim (λ (f : ℕ → Side). f j .cab ≡ view g .side c j .cab) (view g .side) k _ c
-      (λ e. kept-at (λ (s : Side). s .cab) (view g .side k) a _ refl j ∙ ap (λ (x : ℕ). view g .side x j .cab) (sym e)) (λ n. refl)
-
   fit1 : Fit g1
   unfolding reportRestored
   fit1 = with-cabinet Shaped Lined Pictured shaped g k _ (shaped .restoredFor (cabinet g k) a (w .cabs k)) w
@@ -187,9 +182,6 @@ module _ (total : ℕ) (g : Group) (h : History) (γ : Ghost) (w : Fit g) (i : I
     pastN : Past (g .n) (view gN) γ1 h
     pastN = past-same state-1 past1
 
-    cabN : (c j : ℕ) → view gN .side c j .cab ≡ view g .side c j .cab
-    cabN c j = ap (λ (s : Side). s .cab) (seenN .sides c j) ∙ cab1 c j
-
     recovered-k : stateOf gN k ≡ Recovered
     recovered-k = state-1 k ∙ recovered-1
 
@@ -211,14 +203,16 @@ module _ (total : ℕ) (g : Group) (h : History) (γ : Ghost) (w : Fit g) (i : I
         hit-of : γ1 .mind d .tab ≡ true → (γ1 .mind d .tab && not (hitsCabinet (at .0) d)) ≡ false → hitsCabinet (at .0) d ≡ true
         hit-of t f = is-true (hitsCabinet (at .0) d) (λ n. never (and-intro t (ap not n)) f)
 
-    tabledN : (c d : ℕ) → workOf (view gN) c ≡ true → view gN .side c d .cab ≡ workOf (view gN) d
-    tabledN c d x = tabled (g .n) total (view gN) γ1 invN k awareN all-reported c d x .0
-
     work-a : workOf (view gN) a ≡ true
     work-a = ap works (stateN a) ∙ works-a
 
-    least : (j : ℕ) → workOf (view gN) j ≡ true → k ≤ j
-    least j x = lowest-le-marked (cabinet g a .table .cabinets) j (sym (cabN a j) ∙ tabledN a j work-a ∙ x)
+    lead-a : view gN .own a .lead ≡ k
+    lead-a =
+        ap (λ (o : Own). o .lead) (seenN .own a .1) ∙ ap (λ (x : View). x .own a .lead) seen1
+        ∙ kept-at (λ (o : Own). o .lead) (view g .own) k (view g .own k) refl a
+
+    led : (j : ℕ) → workOf (view gN) j ≡ true → view gN .own j .lead ≡ k
+    led j x = one-lead (g .n) total (view gN) γ1 invN k awareN all-reported j a x work-a ∙ lead-a
 
     work-k : workOf (view gN) k ≡ true
     work-k = rw recovered-k
@@ -239,12 +233,12 @@ module _ (total : ℕ) (g : Group) (h : History) (γ : Ghost) (w : Fit g) (i : I
     seen2 = sim-resume gN fitN k x lk roomN ∙ seen-roused (view gN) k x
 
     abbrev γ2 : Ghost
-    γ2 = record { big = bEnd (γ .big) k; mind = λ c. mEnd (γ1 .mind c) (workOf (view gN) c); wire = λ c d. wEnd (view gN .sound c d) }
+    γ2 = record { big = bEnd (γ .big) k (nextOver (workOf (view gN)) k); mind = λ c. mEnd (γ1 .mind c) (workOf (view gN) c); wire = λ c d. wEnd (view gN .sound c d) }
 
     inv2 : Inv (g .n) total (view g2) γ2
     inv2 =
         subst (λ (y : View). Inv (g .n) total y γ2) (sym seen2)
-        (ended-inv (g .n) total (view gN) γ1 invN k awareN all-reported least note)
+        (ended-inv (g .n) total (view gN) γ1 invN k awareN all-reported led note)
 
     state2 : (c : ℕ) → c ≢ k → stateOf g2 c ≡ stateOf g c
     state2 c d = ap (λ (y : View). y .own c .state) seen2 ∙ ap (λ (o : Own). o .state) (upd-other (view gN .own) k (oResumed (view gN .own k) x) c d) ∙ stateN c

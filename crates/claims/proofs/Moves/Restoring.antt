@@ -64,7 +64,7 @@ module _ (n total : ℕ) (v : View) (γ : Ghost) (i : Inv n total v γ) (a : ℕ
   ready-inv =
       subst (λ (x : View). Inv n total x (gReady γ a)) (same-view v a)
       (quiet-inv n total v γ i a (v .own a) m′ (v .side a) (v .lines) (v .slots) (γ .wire)
-      (refl, refl, refl, refl, refl) (refl, refl, refl, refl, refl, refl, refl) (λ i j. refl) (λ d. refl)
+      (refl, refl, refl, refl, refl, refl, refl) (refl, refl, refl, refl, refl, refl, refl) (λ i j. refl) (λ d. refl)
       ready-pairs
       (move-nodes v γ (γ .big) a (v .own a) m′ (v .side a) (v .lines) (v .slots) (γ .wire) (λ j d. refl) (λ j d. i .core .nodes j)
       (ready-node _ _ _ _ _ aw rec (i .core .nodes a)))

@@ -3,7 +3,7 @@
 use Prim.Native.Nat.{ℕ, _<_}
 use mathlib.Core.Path.{_≡_, refl, sym, ap, _∙_, subst}
 use mathlib.Core.Logic.{_≢_, ⊎-elim}
-use mathlib.Core.Bool.{Bool, true, false, not, false≢true, true≢false}
+use mathlib.Core.Bool.{Bool, true, false, not, false≢true}
 use mathlib.Core.List.{List, _∷_}
 use lib.Dec.{eqb}
 use borrow.Author.Tests.{ne-eqb}
@@ -15,8 +15,8 @@ use Rattle.line.specs.Line.{oldest, rest}
 use Rattle.state.specs.declared.State.{State}
 use Rattle.state.specs.declared.State.the-variants.{Normal, Checkpointed, Recovered}
 use Rattle.state.specs.declared.Version.{Version}
-use Rattle.state.specs.declared.Version.the-variants.{Known, Unknown}
-use Rattle.state.specs.State.{isIn, works, isUnknown}
+use Rattle.state.specs.declared.Version.the-variants.{Known}
+use Rattle.state.specs.State.{isIn, works, bitOf}
 use Rattle.cabinet.specs.Cabinet.{coordinator}
 use Rattle.group.specs.declared.Group.{Group}
 use Rattle.group.specs.Group.{cabinet, stateOf, line, withLine}
@@ -30,6 +30,7 @@ use Rattle.claims.proofs.State.Shape.{Shaped, Lined, Pictured, shaped}
 use Rattle.claims.proofs.State.Sim.{Fit}
 use Rattle.claims.proofs.State.ViewMoves.{Room, vPut, vBroadcast, vResumed, sim-resume, sim-off, view-off}
 use Rattle.claims.proofs.Answers.Tests.{in-state}
+use Rattle.claims.proofs.Invariant.States.{known-is-known}
 use Rattle.claims.proofs.Invariant.Facts.{Ghost, aware, unaware, linked, behind, isFault}
 use Rattle.claims.proofs.Invariant.Whole.{Inv}
 use Rattle.claims.proofs.Invariant.Past.{Past, Kept, past-turn}
@@ -112,11 +113,9 @@ module _ (total : ℕ) (g : Group) (h : History) (γ : Ghost) (w : Fit g) (i : I
         ∙ in-state (stateOf g b) Checkpointed .1 (i .core .nodes b .waits e not-chief working .1 calm)))
 
     same-version : v .own b .version ≡ Known (γ .big .topv)
-    same-version = go (v .own b .version) refl
-      where
-        go : (y : Version) → v .own b .version ≡ y → y ≡ Known (γ .big .topv)
-        go (Known x) e = ap Known (i .core .nodes b .known working x e)
-        go (Unknown x) e = absurd (true≢false (ap isUnknown (sym e) ∙ i .core .nodes b .unknownAt calm ∙ rw recovered))
+    same-version =
+        let k = known-is-known (v .own b .version) (i .core .nodes b .unknownAt calm ∙ rw recovered) in
+        k ∙ ap Known (i .core .nodes b .known working (bitOf (v .own b .version)) k)
 
     abbrev g′ : Group
     g′ = endRecovery g1 b

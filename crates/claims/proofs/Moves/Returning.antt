@@ -97,7 +97,7 @@ abbrev pub vReturned : View → Point → View
 vReturned v p = record { own = λ c. oImage (v .own c) (imageAt p c); side = v .side; lines = v .lines; slots = λ c x. imageAt p c; sound = v .sound }
 
 abbrev bSet : Big → Big
-bSet b = record { faulted = b .faulted; topv = b .topv; adopted = true; chief = b .chief; alive = b .alive; begun = b .begun; frozen = b .frozen; calm = b .calm; clean = b .clean }
+bSet b = record { faulted = b .faulted; topv = b .topv; adopted = true; chief = b .chief; heir = b .heir; alive = b .alive; begun = b .begun; frozen = b .frozen; calm = b .calm; clean = b .clean }
 
 abbrev mSet : Mind → Image → Mind
 mSet m x = record { tab = m .tab; joined = m .joined; done = m .done; wrote = m .wrote; told = m .told; ready = m .ready; cut = m .cut; base = x; top = x; prev = m .prev }
@@ -348,6 +348,7 @@ module _ (total : ℕ) (g : Group) (h : History) (γ : Ghost) (w : Fit g) (i : I
       pairs = λ c d. set-pair (imageAt p c) (imageAt p d) (no-line total g h γ w i past q c d) (i .core .pairs c d);
       nodes = λ c. set-node (imageAt p c) (held .sized c) (not-joined total g h γ w i past q c) (i .core .nodes c);
       books = set-books;
+      leads = λ c. let l = i .core .leads c in record { steady = l .steady; moved = l .moved; lives = l .lives; fallen = l .fallen; blank = l .blank };
       ground = i .core .ground;
       chain = record {
         noCommit = i .core .chain .noCommit;

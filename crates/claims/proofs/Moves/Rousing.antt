@@ -1,7 +1,11 @@
--- A cabinet goes to normal and puts resume on lines out of it: what that leaves of the facts about the pairs from it and to it.
+-- A cabinet goes to normal and puts resume on lines out of it: what that leaves of the facts about the pairs from it and to it, and of the
+-- fault places.
 use Prim.Native.Nat.{ℕ}
 use Rattle.state.specs.State.{works}
+use Rattle.cabinet.specs.declared.Alarm.{Alarm}
 use Rattle.cabinet.specs.declared.Alarm.the-variants.{Quiet}
+use Rattle.image.specs.declared.Image.{Image}
+use Rattle.packet.specs.declared.Place.{Place}
 use Rattle.state.specs.declared.State.the-variants.{Normal}
 use Rattle.state.specs.declared.Version.{Version}
 use Rattle.packet.specs.declared.Packet.the-variants.{Resume}
@@ -14,11 +18,12 @@ use mathlib.Core.List.{List, [], _++_}
 use mathlib.Core.Logic.{inl, ⊎-elim, inr}
 use mathlib.Core.Path.{_≡_, refl, sym, ap, _∙_, subst, fun-ext}
 use native.Mathlib.Omega.{arith}
-use Rattle.claims.proofs.State.Fun.{never, and-true, and-intro, upd-same, is-false}
+use Rattle.claims.proofs.State.Fun.{never, and-true, and-intro, upd-elim, upd-same, is-false, kept}
 use Rattle.claims.proofs.State.View.{View, Own, Side, used}
 use Rattle.claims.proofs.State.Methods.{sCleared}
-use Rattle.claims.proofs.State.ViewMoves.{oPhase, oPieces, vPut, vBroadcast, vResumed}
-use Rattle.claims.proofs.Invariant.Facts.{Big, Mind, Wire, Pair, Stream, aware, unaware, linked, behind, closed, amountsIn, resumeFirst, Amounts, Differ, amount}
+use Rattle.claims.proofs.State.ViewMoves.{oPhase, oBare, vPut, vBroadcast, vResumed}
+use Rattle.claims.proofs.Invariant.Facts.{Big, Mind, Wire, Ghost, Pair, Stream, aware, unaware, linked, behind, closed, amountsIn, resumeFirst, Amounts, Differ, amount}
+use Rattle.claims.proofs.Invariant.Whole.{Place-of, failed, tripped, faulty, Places, PlacesOf}
 use Rattle.claims.proofs.Invariant.Logs.{no-checkp-end, Short, Bare, resumedBy, short-bare, short-first}
 use Rattle.claims.proofs.Invariant.Words.{un-of, un-not-aware, un-works}
 use Rattle.claims.proofs.Invariant.Frame.{moved}
@@ -31,7 +36,7 @@ wait-short h wait = ⊎-elim (λ e. inl e) (λ e. inr (e .0, e .2)) (h .behindEm
 
 -- it goes on in normal, with a version
 abbrev pub oResumed : Own → Version → Own
-oResumed o x = oPieces (oPhase o Normal x Quiet) 0
+oResumed o x = oBare (oPhase o Normal x Quiet)
 
 module _ (b : Big) (o : Own) (x : Version) where
   pub resumed-un : unaware b (oResumed o x) ≡ true
@@ -173,6 +178,41 @@ module _ (b : Big) (c d : ℕ) (o : Own) (m : Mind) (p : Own) (n : Mind) (s t : 
     noMore = h .noMore;
     small = h .small;
   }
+
+-- ---- the fault places: the cabinet is not aware of one, so its alarm is no matter
+
+places-alarm : (faulted : Bool) (work tab knows : ℕ → Bool) (alarm alarm′ : ℕ → Alarm) (lk sound : ℕ → ℕ → Bool)
+    → ((c : ℕ) → knows c ≡ true → alarm′ c ≡ alarm c) → Places faulted work tab knows alarm lk sound → Places faulted work tab knows alarm′ lk sound
+places-alarm faulted work tab knows alarm alarm′ lk sound same p = record {
+  standing = p .standing;
+  failedFor = λ x t w. let f = p .failedFor x t w in (f .0, f .1, same (f .0) (f .1) ∙ f .2);
+  faultyFor = λ x y l t w. let f = p .faultyFor x y l t w in (f .0, f .1, same (f .0) (f .1) ∙ f .2);
+  someone = p .someone;
+  fromOne = λ c k q e. place q (p .fromOne c k q (sym (same c k) ∙ e));
+}
+  where
+    place : (q : Place) → Place-of work tab knows alarm lk sound q → Place-of work tab knows alarm′ lk sound q
+    place _ (failed x t w) = failed x t w
+    place _ (tripped x k a) = tripped x k (same x k ∙ a)
+    place _ (faulty x y l k s) = faulty x y l k s
+
+module _ (v : View) (γ : Ghost) (c : ℕ) (x : Version) (calm : unaware (γ .big) (v .own c) ≡ true) (s : ℕ → Side) (l : ℕ → ℕ → List Packet)
+    (z : ℕ → Bool → Image) where
+  abbrev own′ : Own
+  own′ = oResumed (v .own c) x
+
+  aware-same : aware (γ .big) own′ ≡ aware (γ .big) (v .own c)
+  aware-same = is-false _ (resumed-not-aware (γ .big) (v .own c) x) ∙ sym (is-false _ (un-not-aware (γ .big) (v .own c) calm))
+
+  pub roused-places : PlacesOf v γ → PlacesOf (moved v c own′ s l z) γ
+  roused-places p =
+      places-alarm _ _ _ _ (λ j. v .own j .alarm) _ _ _
+      (λ j e. upd-elim (λ (y : Own). aware (γ .big) y ≡ true → y .alarm ≡ v .own j .alarm) (v .own) c own′ j
+      (λ d a. resumed-not-aware (γ .big) (v .own c) x a) (λ d a. refl) e)
+      (rw (
+        kept (λ (y : Own). aware (γ .big) y) (v .own) c own′ aware-same,
+        kept (λ (y : Own). works (y .state)) (v .own) c own′ (sym (un-works (γ .big) (v .own c) calm)),
+      ) p)
 
 -- ---- the whole group, as the move leaves it
 

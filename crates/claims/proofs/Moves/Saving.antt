@@ -27,7 +27,7 @@ use Rattle.claims.proofs.State.Every.{passed, ok-reportSaved}
 use Rattle.claims.proofs.State.View.{View, Own, Side, used, view}
 use Rattle.claims.proofs.State.Shape.{Shaped, Lined, Pictured, shaped}
 use Rattle.claims.proofs.State.Sim.{Fit}
-use Rattle.claims.proofs.State.ViewMoves.{Room, vBroadcast, vResumed, sim-resume}
+use Rattle.claims.proofs.State.ViewMoves.{Room, vBroadcast, vResumed, sim-resume, view-forget}
 use Rattle.claims.proofs.Invariant.States.{known-is-known, saving-works}
 use Rattle.claims.proofs.Invariant.Facts.{Ghost, aware, unaware, linked, Mind}
 use Rattle.claims.proofs.Invariant.Whole.{Inv, NodeAt, workOf}
@@ -45,7 +45,8 @@ pub sim-commit : (g : Group) → Fit g → (k : ℕ) → k < 8 → (x : Bool) �
     → view (commit g k) ≡ vBroadcast (vResumed (view g) k (Known (not x))) k Resume
 unfolding commit
 sim-commit g w k l x e room =
-    ap (λ (y : Version). view (resumeWith g k y)) (ap flipped e)
+    view-forget (resumeWith g k (flipped (cabinet g k .phase .version)))
+    ∙ ap (λ (y : Version). view (resumeWith g k y)) (ap flipped e)
     ∙ sim-resume g w k (Known (not x)) l (λ b us. room b (sym (ap (λ (f : ℕ → Side). used (f b)) (upd-same (view g .side) k _)) ∙ us))
 
 -- ---- the commit in the history

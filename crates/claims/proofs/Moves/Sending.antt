@@ -258,7 +258,7 @@ module _ (n total : ℕ) (v : View) (γ : Ghost) (i : Inv n total v γ) (a b : �
   moved-inv =
       let links : (c d : ℕ) → w′ c d .lk ≡ γ .wire c d .lk = wire-kept (λ (w : Wire). w .lk) γ a b wire′ refl in
       quiet-inv n total v γ i a o′ (γ .mind a) sides lines′ (v .slots) w′
-      (refl, refl, refl, refl, refl) (refl, refl, refl, refl, refl, refl, refl) links (λ d. upd-elim (λ (s : Side). used s ≡ used (v .side a d)) (v .side a) b toB d (λ e. rw e) (λ e. refl))
+      (refl, refl, refl, refl, refl, refl, refl) (refl, refl, refl, refl, refl, refl, refl) links (λ d. upd-elim (λ (s : Side). used s ≡ used (v .side a d)) (v .side a) b toB d (λ e. rw e) (λ e. refl))
       sent-pairs
       (move-nodes v γ (γ .big) a o′ (γ .mind a) sides lines′ (v .slots) w′ (λ j d. refl) (λ j d. i .core .nodes j)
       (image-node _ _ _ _ _ (i .core .nodes a) un normal x))

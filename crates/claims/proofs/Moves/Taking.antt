@@ -303,7 +303,7 @@ module _ (n total : ℕ) (v : View) (γ : Ghost) (i : Inv n total v γ) (a b : �
     moved-inv =
         let links : (c d : ℕ) → w′ c d .lk ≡ γ .wire c d .lk = wire-kept (λ (w : Wire). w .lk) γ a b wire′ refl in
         quiet-inv n total v γ i b o′ (γ .mind b) sides lines′ (v .slots) w′
-        (refl, refl, refl, refl, refl) (refl, refl, refl, refl, refl, refl, refl) links (λ d. upd-elim (λ (s : Side). used s ≡ used (v .side b d)) (v .side b) a toA d (λ e. rw e) (λ e. refl))
+        (refl, refl, refl, refl, refl, refl, refl) (refl, refl, refl, refl, refl, refl, refl) links (λ d. upd-elim (λ (s : Side). used s ≡ used (v .side b d)) (v .side b) a toA d (λ e. rw e) (λ e. refl))
         taken-pairs
         (move-nodes v γ (γ .big) b o′ (γ .mind b) sides lines′ (v .slots) w′ (λ j d. refl) (λ j d. i .core .nodes j)
         (added-node _ _ _ _ _ (i .core .nodes b) un take-undone x))

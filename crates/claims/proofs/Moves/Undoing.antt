@@ -1,4 +1,4 @@
--- The coordinator fails. While it alone knew of the newest save the commit is undone: that save is the one under way again, written by
+-- The coordinator fails or trips. While it alone knew of the newest save the commit is undone: that save is the one under way again, written by
 -- all, and the rule gives the one before. Facts about a pair and about one cabinet.
 use Prim.Native.Nat.{ℕ, _*_}
 use mathlib.Core.Path.{_≡_, refl, sym, ap, _∙_, subst}
@@ -9,15 +9,16 @@ use borrow.Author.Tests.{ne-eqb}
 use native.Mathlib.Omega.{arith}
 use Rattle.packet.specs.declared.Packet.{Packet}
 use Rattle.state.specs.declared.State.{State}
-use Rattle.state.specs.declared.State.the-variants.{Normal, CheckpBegin, Checkpointing, Checkpointed, Recovered}
+use Rattle.state.specs.declared.State.the-variants.{Normal, CheckpBegin, Checkpointing, Checkpointed, Error, Recovered}
+use Rattle.state.specs.declared.Version.the-variants.{Unknown, Lost}
 use Rattle.image.specs.declared.Image.{Image}
 use Rattle.state.specs.State.{isIn, works, isUnknown}
 use Rattle.claims.proofs.State.Fun.{never, is-false, and-true, and-intro, or-right}
 use Rattle.claims.proofs.State.View.{Own, Side}
 use Rattle.claims.proofs.Answers.Tests.{in-state}
-use Rattle.claims.proofs.Invariant.States.{other-state}
-use Rattle.claims.proofs.Invariant.Facts.{Big, Mind, Wire, Ghost, Pair, Node, Books, Stream, SameTo, unaware, linked, behind, closed, count, isCheckp, checkpLast}
-use Rattle.claims.proofs.Invariant.Words.{un-works, un-not-aware, aware-works}
+use Rattle.claims.proofs.Invariant.States.{other-state, unknown-not-lost}
+use Rattle.claims.proofs.Invariant.Facts.{Big, Mind, Wire, Ghost, Pair, Node, Books, Stream, SameTo, aware, unaware, linked, behind, closed, count, isCheckp, checkpLast}
+use Rattle.claims.proofs.Invariant.Words.{un-works, un-or-aware}
 
 abbrev pub bLost : Big → Big
 bLost b = record {
@@ -25,6 +26,7 @@ bLost b = record {
   topv = b .topv;
   adopted = b .adopted;
   chief = b .chief;
+  heir = b .heir;
   alive = false;
   begun = b .begun;
   frozen = b .frozen;
@@ -38,6 +40,7 @@ bUndo b = record {
   topv = not (b .topv);
   adopted = true;
   chief = b .chief;
+  heir = b .heir;
   alive = false;
   begun = true;
   frozen = b .frozen;
@@ -65,7 +68,7 @@ gLost γ = record { big = bLost (γ .big); mind = γ .mind; wire = γ .wire }
 abbrev pub gUndo : Ghost → Ghost
 gUndo γ = record { big = bUndo (γ .big); mind = λ c. mUndo (γ .mind c); wire = γ .wire }
 
--- ---- only the coordinator's work ends
+-- ---- only the coordinator is lost
 
 pub lost-pair : (b : Big) (c d : ℕ) (o : Own) (m : Mind) (p : Own) (n : Mind) (s t : Side) (l : List Packet) (w : Wire)
     → Pair b c d o m p n s t l w → Pair (bLost b) c d o m p n s t l w
@@ -85,18 +88,21 @@ lost-books b o m out got h = record { bounded = h .bounded; live = h .live; atCu
 
 -- ---- the commit is undone
 
--- whoever works waits for the resume
-abbrev pub Waiting : ℕ → ℕ → Own → Mind → Type 0
-Waiting c k o m = works (o .state) ≡ true → (c ≢ k) × (m .joined ≡ false) × (o .state ≡ Checkpointed)
+-- whoever is not aware of the fault waits for the resume; the coordinator has failed, or is in error with its version lost
+abbrev pub Waiting : Big → ℕ → Own → Mind → Type 0
+Waiting b c o m = unaware b o ≡ true → (c ≢ b .chief) × (m .joined ≡ false) × (o .state ≡ Checkpointed)
+
+abbrev pub Tripped : Big → Own → Type 0
+Tripped b o = aware b o ≡ true → (o .state ≡ Error) × (o .version ≡ Lost)
 
 module _ (b : Big) (c d : ℕ) (o : Own) (m : Mind) (p : Own) (n : Mind) (s t : Side) (l : List Packet) (w : Wire) (h : Pair b c d o m p n s t l w)
-    (here : Waiting c (b .chief) o m) (there : Waiting d (b .chief) p n)
+    (here : Waiting b c o m) (there : Waiting b d p n)
     (tab : works (o .state) ≡ true → m .tab ≡ true) (tab′ : works (p .state) ≡ true → n .tab ≡ true)
     (wrote : n .wrote ≡ true → n .tab ≡ true) where
   -- a cabinet that waits has put nothing on its lines
   none-put : unaware b o ≡ true → l ≡ []
   none-put un =
-      let x = here (un-works b o un) in
+      let x = here un in
       ⊎-elim (λ e. e) (λ e. absurd (other-state (x .2) refl (in-state (o .state) Recovered .0 (e .1))))
       (h .behindEmpty (and-intro un (waits _ _ _ (in-state (o .state) Checkpointed .1 (x .2)) (x .1))))
     where
@@ -106,7 +112,7 @@ module _ (b : Big) (c d : ℕ) (o : Own) (m : Mind) (p : Own) (n : Mind) (s t : 
   not-behind : behind b p (mUndo n) ≡ true → ⊥
   not-behind e =
       let u = and-true {s = unaware b p} e in
-      let x = there (un-works b p (u .0)) in
+      let x = there (u .0) in
       never (u .1) (neither (isIn (p .state) Checkpointed) _ _ (tab′ (un-works b p (u .0)))
       (is-false _ (λ r. other-state (x .2) refl (in-state (p .state) Recovered .0 r))))
     where
@@ -118,8 +124,8 @@ module _ (b : Big) (c d : ℕ) (o : Own) (m : Mind) (p : Own) (n : Mind) (s t : 
   undone-stream : linked m n w ≡ true → unaware b o ≡ true → unaware b p ≡ true
       → Stream (m .tab && not (n .tab && t .come)) (t .hurt) (s .put) (t .took) w l
   undone-stream k un up =
-      let x = here (un-works b o un) in
-      let y = there (un-works b p up) in
+      let x = here un in
+      let y = there up in
       let co : t .come ≡ true = h .came k up (or-right (isIn (p .state) Checkpointing) _ (in-state (p .state) Checkpointed .1 (y .2))) in
       subst (λ (q : Bool). Stream q (t .hurt) (s .put) (t .took) w l)
       (ap (λ (q : Bool). q && not (n .joined && t .come)) (x .1) ∙ sym (rw (tab (un-works b o un), tab′ (un-works b p up), co)))
@@ -136,8 +142,8 @@ module _ (b : Big) (c d : ℕ) (o : Own) (m : Mind) (p : Own) (n : Mind) (s t : 
     apart = h .apart;
     owes = λ e. (wrote (h .owes e .0), refl, h .owes e .2);
     owesHome = h .owesHome;
-    reported = λ e i u. absurd (here (un-works b o u) .0 e);
-    begunBare = λ e i u. absurd (here (un-works b o u) .0 e);
+    reported = λ e i u. absurd (here u .0 e);
+    begunBare = λ e i u. absurd (here u .0 e);
     readied = h .readied;
     readyHeard = h .readyHeard;
     silent = h .silent;
@@ -161,15 +167,20 @@ module _ (b : Big) (c d : ℕ) (o : Own) (m : Mind) (p : Own) (n : Mind) (s t : 
     small = h .small;
   }
 
-module _ (b : Big) (c : ℕ) (o : Own) (m : Mind) (z : Bool → Image) (h : Node b c o m z) (here : Waiting c (b .chief) o m)
-    (calm : works (o .state) ≡ true → unaware b o ≡ true) (not-yet : b .adopted ≡ false) (chief : c ≡ b .chief → m .tab ≡ true) (uncut : c ≡ b .chief → m .done ≡ false) where
+module _ (b : Big) (c : ℕ) (o : Own) (m : Mind) (z : Bool → Image) (h : Node b c o m z) (here : Waiting b c o m)
+    (lost : Tripped b o) (not-yet : b .adopted ≡ false) (chief : c ≡ b .chief → m .tab ≡ true) (uncut : c ≡ b .chief → m .done ≡ false) where
   not-in : (s : State) → isIn Checkpointed s ≡ false → unaware b o ≡ true → o .state ≡ s → ⊥
-  not-in s f u e = other-state (here (un-works b o u) .2) f e
+  not-in s f u e = other-state (here u .2) f e
 
   in-doubt : works (o .state) ≡ true → isUnknown (o .version) ≡ true
   in-doubt e =
-      let x = here e in
-      h .unknownAt (calm e) ∙ and-intro (in-state (o .state) Checkpointed .1 (x .2)) (ap not (ne-eqb c (b .chief) (x .0)))
+      ⊎-elim (λ u. let x = here u in
+      h .unknownAt u ∙ and-intro (in-state (o .state) Checkpointed .1 (x .2)) (ap not (ne-eqb c (b .chief) (x .0))))
+      (λ a. ap isUnknown (lost a .1)) (un-or-aware b o e)
+
+  -- whoever has an old version waits
+  old-waits : works (o .state) ≡ true → (v : Bool) → o .version ≡ Unknown v → unaware b o ≡ true
+  old-waits e v k = ⊎-elim (λ u. u) (λ a. absurd (unknown-not-lost (sym k ∙ lost a .1))) (un-or-aware b o e)
 
   pub undone-node : Node (bUndo b) c o (mUndo m) z
   undone-node = record {
@@ -185,8 +196,8 @@ module _ (b : Big) (c : ℕ) (o : Own) (m : Mind) (z : Bool → Image) (h : Node
     chiefSaved = λ u e k. h .placed (un-works b o u);
     inRecovered = λ u e. absurd (not-in Recovered refl u e);
     inError = h .inError;
-    inRecovering = λ a. absurd (un-not-aware b o (calm (aware-works b o a)) a);
-    restored = λ a. absurd (un-not-aware b o (calm (aware-works b o a)) a);
+    inRecovering = λ a e. absurd (other-state (lost a .0) refl e);
+    restored = λ a e. absurd (other-state (lost a .0) refl e);
     readyIs = h .readyIs;
     toldWrote = λ e. absurd (false≢true e);
     wroteDone = λ e. e;
@@ -197,7 +208,7 @@ module _ (b : Big) (c : ℕ) (o : Own) (m : Mind) (z : Bool → Image) (h : Node
     known = λ e v k. absurd (never (in-doubt e) (ap isUnknown k));
     unknownAt = h .unknownAt;
     unknownAware = h .unknownAware;
-    oldJoined = λ e v k j. (h .placed e, h .oldBefore e v k (here e .1));
+    oldJoined = λ e v k j. (h .placed e, h .oldBefore e v k (here (old-waits e v k) .1));
     oldBefore = λ e v k j. absurd (never (h .placed e) j);
     knows = h .knows;
     waits = λ e. absurd (true≢false e);

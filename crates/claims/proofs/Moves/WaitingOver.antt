@@ -1,40 +1,42 @@
--- Kind 9, wait over: all working cabinets are in error and unsure of their version, and the coordinator failed. One of them has joined the
--- save under way, and what passes over sound links makes that all: so the old version names the save that the rule gives.
+-- Kind 9, wait over: all working cabinets are in error and unsure of their version, and the coordinator is lost. One of the others has joined
+-- the save under way, and what passes over the links of the last recovery's end makes that all but the coordinator: so the old version
+-- names the save that the rule gives.
 use Prim.Native.Nat.{ℕ, _<_}
 use mathlib.Core.Path.{_≡_, refl, sym, ap, _∙_}
 use mathlib.Core.Logic.{_≢_, inl, inr, ⊎-elim}
 use mathlib.Core.Bool.{Bool, true, false, not, _&&_, false≢true}
-use lib.Dec.{ltb}
-use borrow.Author.Tests.{ltb-true, ne-eqb}
+use lib.Dec.{eqb}
+use borrow.Author.Tests.{eqb-true, eqb-false, ne-eqb}
 use native.Mathlib.Omega.{arith}
-use native.Mathlib.Decide.{ℕ-discrete}
 use Rattle.marks.specs.Marks.{covers}
-use Rattle.marks.specs.MarksLaws.{lowest-le-marked, covers-has}
-use Rattle.packet.specs.declared.Place.the-variants.{Cabinet as AtCabinet, Link as AtLink}
+use Rattle.marks.specs.MarksLaws.{covers-has}
+use Rattle.packet.specs.declared.Place.{Place}
+use Rattle.packet.specs.declared.Place.the-variants.{Failed as AtFailed, Tripped as AtTripped, Link as AtLink}
 use Rattle.state.specs.declared.State.the-variants.{Error}
+use Rattle.state.specs.declared.Version.the-variants.{Unknown}
 use Rattle.cabinet.specs.declared.Alarm.{Alarm}
 use Rattle.cabinet.specs.declared.Alarm.the-variants.{Quiet, Fault as At}
 use Rattle.cabinet.specs.declared.Cabinet.{Cabinet}
 use Rattle.state.specs.State.{isIn, works, isUnknown, bitOf}
-use Rattle.cabinet.specs.Cabinet.{coordinator}
+use Rattle.table.specs.Table.{isAt}
 use Rattle.group.specs.declared.Group.{Group}
 use Rattle.group.specs.Group.{cabinet, stateOf, working, unsure}
 use Rattle.protocol.specs.Moves.{recoverWith}
-use Rattle.protocol.specs.Kinds.{need, waitOverRefusal, lostCoordinator}
+use Rattle.protocol.specs.Kinds.{need, waitOverRefusal, lostCoordinator, joinedTo}
 use Rattle.protocol.specs.History.{History, noteCuts}
-use Rattle.claims.proofs.State.Fun.{never, is-true, and-true, and-intro}
+use Rattle.claims.proofs.State.Fun.{never, is-true, is-false, and-true, and-intro, not-true-false}
 use Rattle.claims.proofs.State.Every.{passed}
 use Rattle.claims.proofs.State.View.{View, view}
+use Rattle.claims.proofs.State.Methods.{hitsLink}
 use Rattle.claims.proofs.State.Sim.{Fit}
 use Rattle.claims.proofs.Answers.Tests.{in-state, those-marked}
 use Rattle.claims.proofs.Invariant.States.{unknown-old}
 use Rattle.claims.proofs.Invariant.Facts.{Ghost, aware, unaware}
-use Rattle.claims.proofs.Invariant.Whole.{Core, Inv, Place-of, failed}
+use Rattle.claims.proofs.Invariant.Whole.{Core, Inv, Place-of, failed, tripped, faulty, workOf, awareOf, alarmOf, tabOf, lkOf}
 use Rattle.claims.proofs.Invariant.Past.{Past, Kept}
-use Rattle.claims.proofs.Invariant.Words.{failed-not-un}
 use Rattle.claims.proofs.Moves.FirstFault.{gFrozen}
 use Rattle.claims.proofs.Moves.ErrorSeen.{vRecover, sim-recover′}
-use Rattle.claims.proofs.Moves.Erring.{frozen-pair, frozen-node, frozen-books}
+use Rattle.claims.proofs.Moves.Erring.{frozen-pair, frozen-node, frozen-books, frozen-lead}
 use Rattle.claims.proofs.Moves.Recovering.{frozen-past, recover-inv, keeps-going}
 
 -- ---- what the two checks say
@@ -47,14 +49,10 @@ all-unsure g e c l w =
     sym (those-marked (λ c. isIn (c .phase .state) Error && isUnknown (c .phase .version)) g c l)
     ∙ covers-has (unsure g) (working g) e c l (those-marked (λ c. works (c .phase .state)) g c l ∙ w)
 
--- the place is a cabinet below the coordinator of the table
-pub lost-one : (m : Alarm) (c : Cabinet) → lostCoordinator m c ≡ true → (x : ℕ) × (m ≡ At (AtCabinet x)) × (x < coordinator c)
+-- the fault was the coordinator, and a link joins the cabinet to the place
+pub lost-one : (m : Alarm) (c : Cabinet) → lostCoordinator m c ≡ true → (q : Place) × (m ≡ At q) × (c .noted .former ≡ true) × (joinedTo q c ≡ true)
 lost-one Quiet c e = absurd (false≢true e)
-lost-one (At (AtCabinet x)) c e = (x, refl, ltb-true x (coordinator c) (and-true {s = ltb x (coordinator c)} e .0))
-lost-one (At (AtLink x y)) c e = absurd (false≢true e)
-
-place-failed : {work tab : ℕ → Bool} {lk sound : ℕ → ℕ → Bool} {x : ℕ} → Place-of work tab lk sound (AtCabinet x) → (tab x ≡ true) × (work x ≡ false)
-place-failed (failed x t w) = (t, w)
+lost-one (At q) c e = let p = and-true {s = c .noted .former} e in (q, refl, p .0, p .1)
 
 -- ---- the old version names the save that the rule gives
 
@@ -86,56 +84,85 @@ module _ (total : ℕ) (g : Group) (γ : Ghost) (i : Inv (g .n) total (view g) �
       let below = i .core .ground .within c (i .core .nodes c .placed w) in
       and-true {s = isIn (stateOf g c) Error} (all-unsure g (checks .1) c (omega (arith, below, i .core .ground .most)) w) .1
 
-  abbrev lost : (x : ℕ) × (cabinet g a .phase .alarm ≡ At (AtCabinet x)) × (x < coordinator (cabinet g a))
+  abbrev lost : (q : Place) × (cabinet g a .phase .alarm ≡ At q) × (cabinet g a .noted .former ≡ true) × (joinedTo q (cabinet g a) ≡ true)
   lost = lost-one (cabinet g a .phase .alarm) (cabinet g a) (and-true {s = isIn (stateOf g a) Error} (checks .0) .1)
 
-  lost-failed : (γ .mind (lost .0) .tab ≡ true) × (works (stateOf g (lost .0)) ≡ false)
-  lost-failed = place-failed (i .places .fromOne a a-aware (AtCabinet (lost .0)) (lost .1))
+  abbrev k : ℕ
+  k = γ .big .chief
 
-  -- the one that failed was the coordinator
-  chief-lost : γ .big .chief ≡ lost .0
-  chief-lost = elim (ℕ-discrete (γ .big .chief) (lost .0)) [
-    | yes e ↦ e
-    | no d ↦
-        let tab : γ .mind (γ .big .chief) .tab ≡ true = i .core .ground .chiefIn in
-        let cab = i .core .pairs a (γ .big .chief) .struck a-aware (AtCabinet (lost .0)) (lost .1) .0 in
-        let has : view g .side a (γ .big .chief) .cab ≡ true = cab ∙ and-intro tab (ap not (ne-eqb (γ .big .chief) (lost .0) d)) in
-        let least = lowest-le-marked (cabinet g a .table .cabinets) (γ .big .chief) has in
-        let above = i .core .ground .chiefLeast (lost .0) (lost-failed .0) in
-        absurd (omega (arith, lost .2, least, above))
-  ]
+  -- the fault is the coordinator of the last recovery's end
+  at-chief : isAt (lost .0) k ≡ true
+  at-chief = sym (i .core .leads a .moved a-aware (lost .0) (lost .1) .0) ∙ lost .2
 
-  pub chief-failed : works (stateOf g (γ .big .chief)) ≡ false
-  chief-failed = ap (λ (x : ℕ). works (stateOf g x)) chief-lost ∙ lost-failed .1
+  -- which is lost
+  pub chief-lost : γ .big .alive ≡ false
+  chief-lost = is-false (γ .big .alive) (λ e. alive-not (lost .0) at-chief (i .places .fromOne a a-aware (lost .0) (lost .1)) e)
+    where
+      alive-not : (q : Place) → isAt q k ≡ true → Place-of (workOf (view g)) (tabOf γ) (awareOf (view g) γ) (alarmOf (view g)) (lkOf γ) (view g .sound) q
+          → γ .big .alive ≡ true → ⊥
+      alive-not _ at (failed x t w) e = never (i .core .leads k .lives refl e .0) (ap (λ (c : ℕ). works (stateOf g c)) (sym (eqb-true x k at)) ∙ w)
+      alive-not _ at (tripped x y m) e =
+          let q : x ≡ k = eqb-true x k at in
+          i .core .leads k .lives refl e .1 (ap (awareOf (view g) γ) (sym q) ∙ y)
+          (ap (alarmOf (view g)) (sym q) ∙ m ∙ ap (λ (c : ℕ). At (AtTripped c)) q)
+      alive-not _ at (faulty x y l m s) e = absurd (false≢true at)
 
-  not-chief : a ≢ γ .big .chief
-  not-chief e = never a-works (ap (λ (x : ℕ). works (stateOf g x)) e ∙ chief-failed)
+  pub chief-uncalm : unaware (γ .big) (view g .own k) ≡ false
+  chief-uncalm = i .core .leads k .fallen refl chief-lost
+
+  -- no link joins a cabinet to itself
+  not-chief : a ≢ k
+  not-chief e =
+      never (linked-place (lost .0) at-chief (lost .3))
+      (i .core .pairs a k .struck a-aware (lost .0) (lost .1) .1 ∙ ap (λ (t : Bool). t && not (hitsLink (lost .0) a k)) self)
+    where
+      self : γ .wire a k .lk ≡ false
+      self = ap (λ (c : ℕ). γ .wire a c .lk) (sym e) ∙ i .core .ground .linkOther a
+
+      linked-place : (q : Place) → isAt q k ≡ true → joinedTo q (cabinet g a) ≡ true → view g .side a k .link ≡ true
+      linked-place (AtFailed x) at j = ap (λ (c : ℕ). view g .side a c .link) (sym (eqb-true x k at)) ∙ j
+      linked-place (AtTripped x) at j = ap (λ (c : ℕ). view g .side a c .link) (sym (eqb-true x k at)) ∙ j
+      linked-place (AtLink x y) at j = absurd (false≢true at)
+
+  -- another than the coordinator has its old version
+  old-one : (c : ℕ) → works (stateOf g c) ≡ true → c ≢ k → (v : Bool) × (cabinet g c .phase .version ≡ Unknown v)
+  old-one c w d = unknown-old (cabinet g c .phase .version) (is-unsure c w) (λ e. d (i .core .leads c .blank w e .1 chief-lost))
 
   -- a cabinet that has joined is written
-  joined-done : (c : ℕ) → works (stateOf g c) ≡ true → γ .mind c .joined ≡ true → γ .mind c .done ≡ true
-  joined-done c w j =
-      let o = unknown-old (cabinet g c .phase .version) (is-unsure c w) in
+  joined-done : (c : ℕ) → works (stateOf g c) ≡ true → c ≢ k → γ .mind c .joined ≡ true → γ .mind c .done ≡ true
+  joined-done c w d j =
+      let o = old-one c w d in
       i .core .nodes c .wroteDone (i .core .nodes c .oldJoined w (o .0) (o .1) j .0)
 
-  spreads : (c d : ℕ) → γ .mind c .joined ≡ true → works (stateOf g c) ≡ true → works (stateOf g d) ≡ true → view g .sound c d ≡ true → γ .mind d .joined ≡ true
-  spreads c d j wc wd s =
-      let lk : γ .wire d c .lk ≡ true = i .core .ground .linkBoth d c ∙ i .core .ground .soundLinks c d s in
-      let done : γ .mind c .done ≡ true = joined-done c wc j in
-      i .core .pairs d c .closedJoined (and-intro lk (and-intro (i .core .nodes d .placed wd) (i .core .nodes c .placed wc))) (rw done)
+  -- those in use at the last recovery's end, but the coordinator
+  abbrev rest : ℕ → Bool
+  rest c = γ .mind c .tab && not (eqb c k)
+
+  in-rest : (c : ℕ) → works (stateOf g c) ≡ true → c ≢ k → rest c ≡ true
+  in-rest c w d = and-intro (i .core .nodes c .placed w) (ap not (ne-eqb c k d))
+
+  spreads : (c d : ℕ) → γ .mind c .joined ≡ true → rest c ≡ true → rest d ≡ true → γ .wire c d .lk ≡ true → γ .mind d .joined ≡ true
+  spreads c d j rc rd l =
+      let tc = and-true {s = γ .mind c .tab} rc in
+      let nc : c ≢ k = eqb-false c k (not-true-false (tc .1)) in
+      let done : γ .mind c .done ≡ true = joined-done c (i .core .ground .othersWork chief-lost c (tc .0) nc) nc j in
+      i .core .pairs d c .closedJoined (and-intro (i .core .ground .linkBoth d c ∙ l) (and-intro (and-true {s = γ .mind d .tab} rd .0) (tc .0))) (rw done)
 
   a-joined : γ .mind a .joined ≡ true
   a-joined =
-      let dead : γ .big .alive ≡ false = i .core .ground .aliveIs ∙ chief-failed in
-      let one = i .core .chain .company a not-chief a-works (inr dead) in
-      let its : γ .mind (one .0) .joined ≡ true = ⊎-elim (λ k. absurd (never k (ap not (is-unsure (one .0) (one .2))))) (λ j. j) (one .3) in
-      i .core .ground .reach (λ c. γ .mind c .joined) spreads (one .0) (one .2) its a a-works
+      let one = i .core .chain .company a not-chief a-works (inr chief-lost) in
+      let its : γ .mind (one .0) .joined ≡ true = ⊎-elim (λ x. absurd (never x (ap not (is-unsure (one .0) (one .2))))) (λ j. j) (one .3) in
+      i .core .ground .othersReach chief-lost (λ c. γ .mind c .joined) spreads (one .0) (in-rest (one .0) (one .2) (one .1)) its a (in-rest a a-works not-chief)
 
-  pub old-is-top : bitOf (cabinet g a .phase .version) ≡ γ .big .topv
-  old-is-top =
-      let o = unknown-old (cabinet g a .phase .version) (is-unsure a a-works) in
-      ap bitOf (o .1) ∙ i .core .nodes a .oldJoined a-works (o .0) (o .1) a-joined .1
+  pub waits-by-old : (v : Bool) × (cabinet g a .phase .version ≡ Unknown v) × (v ≡ γ .big .topv)
+  waits-by-old =
+      let o = old-one a a-works not-chief in
+      (o .0, o .1, i .core .nodes a .oldJoined a-works (o .0) (o .1) a-joined .1)
 
--- ---- no commit can follow a coordinator's fail
+  old-is-top : bitOf (cabinet g a .phase .version) ≡ γ .big .topv
+  old-is-top = ap bitOf (waits-by-old .1) ∙ waits-by-old .2
+
+-- ---- no commit can follow a lost coordinator
 
 -- a coordinator that is not unaware commits nothing
 pub freeze-core : (n total : ℕ) (v : View) (γ : Ghost) → Core n total v γ → unaware (γ .big) (v .own (γ .big .chief)) ≡ false → Core n total v (gFrozen γ)
@@ -143,6 +170,7 @@ freeze-core n total v γ i e = record {
   pairs = λ c d. frozen-pair _ _ _ _ _ _ _ _ _ _ _ _ (i .pairs c d);
   nodes = λ c. frozen-node _ _ _ _ _ _ (λ f. refl) (i .nodes c);
   books = λ c. frozen-books _ _ _ _ _ _ (i .books c);
+  leads = λ c. frozen-lead _ _ _ _ (i .leads c);
   ground = i .ground;
   chain = record { noCommit = λ f. inl e; lives = i .chain .lives; alone = i .chain .alone; company = i .chain .company };
   sums = i .sums;
@@ -160,7 +188,7 @@ module _ (total : ℕ) (g : Group) (h : History) (γ : Ghost) (w : Fit g) (i : I
 
   frozen-inv : Inv (g .n) total (view g) (gFrozen γ)
   frozen-inv =
-      freeze-inv (g .n) total (view g) γ i (failed-not-un (γ .big) (view g .own (γ .big .chief)) (chief-failed total g γ i a fine))
+      freeze-inv (g .n) total (view g) γ i (chief-uncalm total g γ i a fine)
 
   seen : view g′ ≡ vRecover (view g) a (γ .big .topv)
   seen =

@@ -14,21 +14,20 @@ use Rattle.state.specs.declared.State.{State}
 use Rattle.state.specs.declared.State.the-variants.{Normal, CheckpBegin, Checkpointing, Checkpointed, Recovered}
 use Rattle.state.specs.declared.Version.{Version}
 use Rattle.state.specs.declared.Version.the-variants.{Known}
-use Rattle.cabinet.specs.declared.Alarm.{Alarm}
 use Rattle.image.specs.declared.Image.{Image}
 use Rattle.state.specs.State.{isIn, works}
 use Rattle.protocol.specs.History.{upd}
 use Rattle.claims.proofs.State.Fun.{never, is-false, and-true, upd-elim, upd-same, upd-other, upd-id, kept, upd-swap}
 use Rattle.claims.proofs.State.View.{View, Own, Side, used, setLine}
 use Rattle.claims.proofs.State.Methods.{sCleared}
-use Rattle.claims.proofs.Invariant.States.{known-same, known-not-unknown, other-state}
-use Rattle.claims.proofs.Invariant.Facts.{Big, Mind, Wire, Ghost, Pair, Node, Books, aware, unaware, linked, behind}
-use Rattle.claims.proofs.Invariant.Whole.{Places, Inv, PairAt, NodeAt, BooksAt, GroundOf, PlacesOf, ChainOf, SumsOf}
+use Rattle.claims.proofs.Invariant.States.{known-same, known-not-unknown, known-not-lost, other-state}
+use Rattle.claims.proofs.Invariant.Facts.{Big, Mind, Wire, Ghost, Pair, Node, Books, Lead, aware, unaware, linked, behind}
+use Rattle.claims.proofs.Invariant.Whole.{Inv, PairAt, NodeAt, BooksAt, LeadAt, GroundOf, PlacesOf, ChainOf, SumsOf}
 use Rattle.claims.proofs.Invariant.Logs.{resumedBy, no-resume}
-use Rattle.claims.proofs.Invariant.Words.{un-of, un-works, un-not-aware, un-or-aware, live-line, linked-used}
-use Rattle.claims.proofs.Invariant.Frame.{moved, minded, move-pairs, move-nodes, move-books, move-ground, move-meets}
+use Rattle.claims.proofs.Invariant.Words.{un-of, un-works, un-not-aware, un-or-aware, live-line, linked-used, lead-calm}
+use Rattle.claims.proofs.Invariant.Frame.{moved, minded, move-pairs, move-nodes, move-books, move-leads, move-ground, move-meets}
 use Rattle.claims.proofs.Moves.Dropping.{drop-inv}
-use Rattle.claims.proofs.Moves.Rousing.{oResumed, resumed-un, resumed-not-aware, resumed-not-behind, wait-short, roused-from, roused-to}
+use Rattle.claims.proofs.Moves.Rousing.{oResumed, resumed-un, resumed-not-aware, resumed-not-behind, wait-short, roused-from, roused-to, roused-places}
 
 -- ---- the save that the rule gives is known to some other cabinet
 
@@ -38,6 +37,7 @@ bAdopted b = record {
   topv = b .topv;
   adopted = true;
   chief = b .chief;
+  heir = b .heir;
   alive = b .alive;
   begun = b .begun;
   frozen = b .frozen;
@@ -51,6 +51,7 @@ adopted-same b e = λ i. record {
   topv = b .topv;
   adopted = sym e i;
   chief = b .chief;
+  heir = b .heir;
   alive = b .alive;
   begun = b .begun;
   frozen = b .frozen;
@@ -74,6 +75,10 @@ adopted-node b c o m z h =
 
 pub adopted-books : (b : Big) (o : Own) (m : Mind) (out got : ℕ) → Books b o m out got → Books (bAdopted b) o m out got
 adopted-books b o m out got h = record { bounded = h .bounded; live = h .live; atCut = h .atCut }
+
+-- who leads does not hang on the save
+pub adopted-lead : (b : Big) (c : ℕ) (o : Own) → Lead b c o → Lead (bAdopted b) c o
+adopted-lead b c o h = record { steady = h .steady; moved = h .moved; lives = h .lives; fallen = h .fallen; blank = h .blank }
 
 module _ (b : Big) (o : Own) (m : Mind) (wait : behind b o m ≡ true) where
   pub wait-un : unaware b o ≡ true
@@ -146,17 +151,6 @@ module _ (b : Big) (c : ℕ) (o : Own) (m : Mind) (z : Bool → Image) (h : Node
 
 -- ---- the group
 
--- the alarm of a cabinet that is not aware is no matter
-pub places-alarm : (faulted : Bool) (work tab knows : ℕ → Bool) (alarm alarm′ : ℕ → Alarm) (lk sound : ℕ → ℕ → Bool)
-    → ((c : ℕ) → knows c ≡ true → alarm′ c ≡ alarm c) → Places faulted work tab knows alarm lk sound → Places faulted work tab knows alarm′ lk sound
-places-alarm faulted work tab knows alarm alarm′ lk sound same p = record {
-  standing = p .standing;
-  failedFor = λ x t w. let f = p .failedFor x t w in (f .0, f .1, same (f .0) (f .1) ∙ f .2);
-  faultyFor = λ x y l t w. let f = p .faultyFor x y l t w in (f .0, f .1, same (f .0) (f .1) ∙ f .2);
-  someone = p .someone;
-  fromOne = λ c k q e. p .fromOne c k q (sym (same c k) ∙ e);
-}
-
 -- the lines once a resume is put on those asked for
 abbrev pub wokenLines : View → ℕ → (ℕ → Bool) → ℕ → ℕ → List Packet
 wokenLines v c r = upd (v .lines) c (λ d. resumedBy (r d) (v .lines c d))
@@ -187,9 +181,6 @@ module _ (n total : ℕ) (v : View) (γ : Ghost) (i : Inv n total v γ) (c : ℕ
 
   calm-same : unaware (γ .big) own′ ≡ unaware (γ .big) (v .own c)
   calm-same = resumed-un (γ .big) (v .own c) x ∙ sym calm
-
-  aware-same : aware (γ .big) own′ ≡ aware (γ .big) (v .own c)
-  aware-same = is-false _ (resumed-not-aware (γ .big) (v .own c) x) ∙ sym (is-false _ (un-not-aware (γ .big) (v .own c) calm))
 
   work-same : works (own′ .state) ≡ works (v .own c .state)
   work-same = sym (un-works (γ .big) (v .own c) calm)
@@ -234,10 +225,16 @@ module _ (n total : ℕ) (v : View) (γ : Ghost) (i : Inv n total v γ) (c : ℕ
       move-books v γ (bAdopted (γ .big)) c own′ (γ .mind c) side′ (wokenLines v c r) (v .slots) (γ .wire) (λ j. refl) (λ j. refl)
       (λ j e. adopted-books _ _ _ _ _ (i .core .books j)) (wake-books _ _ _ _ _ (i .core .nodes c) wait fresh _ _ (i .core .books c))
 
+  woken-leads : (j : ℕ) → LeadAt (woken v c x r) γ′ j
+  woken-leads =
+      move-leads v γ (bAdopted (γ .big)) c own′ (γ .mind c) side′ (wokenLines v c r) (v .slots) (γ .wire)
+      (λ j e. adopted-lead _ _ _ (i .core .leads j))
+      (adopted-lead _ _ _ (lead-calm (γ .big) c (v .own c) own′ (i .core .leads c) calm (resumed-un (γ .big) (v .own c) x) refl known-not-lost))
+
   woken-ground : GroundOf n (woken v c x r) γ′
   woken-ground =
       move-ground v γ c own′ (γ .mind c) side′ (wokenLines v c r) (v .slots) (γ .wire) work-same refl (λ j k. refl) (bAdopted (γ .big))
-      refl refl refl refl (i .core .ground)
+      refl refl refl refl refl (i .core .ground)
 
   same : γ′ ≡ gAdopted γ
   same = λ t. record { big = bAdopted (γ .big); mind = upd-id (γ .mind) c t; wire = γ .wire }
@@ -259,28 +256,18 @@ module _ (n total : ℕ) (v : View) (γ : Ghost) (i : Inv n total v γ) (c : ℕ
       let f = i .core .sums in
       record { least = f .least; bases = f .bases; tops = f .tops; prevs = λ e. absurd (true≢false e) }
 
-  woken-places : PlacesOf (woken v c x r) γ′
-  woken-places =
-      places-alarm _ _ _ _ (λ j. v .own j .alarm) _ _ _
-      (λ j e. upd-elim (λ (y : Own). aware (γ .big) y ≡ true → y .alarm ≡ v .own j .alarm) (v .own) c own′ j
-      (λ d a. resumed-not-aware (γ .big) (v .own c) x a) (λ d a. refl) e)
-      (rw (
-        kept (λ (y : Own). aware (γ .big) y) (v .own) c own′ aware-same,
-        kept (λ (y : Own). works (y .state)) (v .own) c own′ work-same,
-        kept (λ (y : Mind). y .tab) (γ .mind) c (γ .mind c) refl,
-      ) (i .places))
-
   pub woken-inv : Inv n total (woken v c x r) (gAdopted γ)
   woken-inv = subst (λ (δ : Ghost). Inv n total (woken v c x r) δ) same (record {
     core = record {
       pairs = woken-pairs;
       nodes = woken-nodes;
       books = woken-books;
+      leads = woken-leads;
       ground = woken-ground;
       chain = subst (λ (δ : Ghost). ChainOf (woken v c x r) δ) (sym same) woken-chain;
       sums = subst (λ (δ : Ghost). SumsOf total δ) (sym same) woken-sums;
     };
-    places = woken-places;
+    places = subst (λ (δ : Ghost). PlacesOf (woken v c x r) δ) (sym same) (roused-places v γ c x calm side′ (wokenLines v c r) (v .slots) (i .places));
     meets = move-meets v c own′ side′ (wokenLines v c r) (v .slots) work-same (λ d. refl)
         (i .meets);
   })

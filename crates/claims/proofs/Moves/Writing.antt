@@ -13,7 +13,7 @@ use Rattle.packet.specs.declared.Packet.{Packet}
 use Rattle.state.specs.declared.State.{State}
 use Rattle.state.specs.declared.State.the-variants.{Normal, CheckpBegin, Checkpointing, Checkpointed, Error, Recovering}
 use Rattle.state.specs.declared.Version.{Version}
-use Rattle.state.specs.declared.Version.the-variants.{Known, Unknown}
+use Rattle.state.specs.declared.Version.the-variants.{Known, Unknown, Lost}
 use Rattle.image.specs.declared.Image.{Image}
 use Rattle.cabinet.specs.declared.Cabinet.{Cabinet}
 use Rattle.state.specs.State.{isIn, works, inRecovery, isUnknown, bitOf, doubted}
@@ -31,12 +31,12 @@ use Rattle.claims.proofs.State.Sim.{Fit, view-cabinet, view-slot}
 use Rattle.claims.proofs.State.Methods.{sOwed}
 use Rattle.claims.proofs.State.ViewMoves.{oPieces, vOwe, sim-owe}
 use Rattle.claims.proofs.Answers.Tests.{in-state}
-use Rattle.claims.proofs.Invariant.States.{known-is-known, other-state}
+use Rattle.claims.proofs.Invariant.States.{known-is-known, known-not-lost, unknown-not-lost, other-state}
 use Rattle.claims.proofs.Invariant.Facts.{Big, Mind, Wire, Ghost, Pair, Node, Books, SameTo, aware, unaware, behind, closed}
 use Rattle.claims.proofs.Invariant.Whole.{Inv, PairAt, NodeAt, ChainOf, workOf, calmOf, knownOf, tabOf, outOf, gotOf}
 use Rattle.claims.proofs.Invariant.Past.{Past, Kept, no-cuts, past-view, aware-not-normal}
-use Rattle.claims.proofs.Invariant.Words.{un-works, un-not-aware, un-of, chief-of}
-use Rattle.claims.proofs.Invariant.Frame.{same-ghost, moved, minded, move-pairs, move-nodes, move-books, move-ground, move-places, move-meets, move-sums, quiet-inv}
+use Rattle.claims.proofs.Invariant.Words.{un-works, un-not-aware, un-of, chief-of, lead-same}
+use Rattle.claims.proofs.Invariant.Frame.{same-ghost, moved, minded, move-pairs, move-nodes, move-books, move-leads, move-ground, move-places, move-meets, move-sums, quiet-inv}
 use Rattle.claims.proofs.Invariant.Marking.{mark-inv, past-mind}
 use Rattle.claims.proofs.Moves.Pieces.{piece-more, all-pieces}
 
@@ -56,7 +56,7 @@ module _ (b : Big) (c d : ℕ) (o : Own) (m : Mind) (p : Own) (n : Mind) (s t : 
 -- ---- the last piece
 
 abbrev pub oWritten : Own → Version → Own
-oWritten o x = record { state = Checkpointed; version = x; alarm = o .alarm; pieces = 4; image = o .image; home = o .home; store = o .store }
+oWritten o x = record { state = Checkpointed; version = x; alarm = o .alarm; pieces = 4; image = o .image; home = o .home; store = o .store; lead = o .lead; former = o .former }
 
 abbrev pub mWrote : Mind → Mind
 mWrote m = record { tab = m .tab; joined = m .joined; done = m .done; wrote = true; told = m .told; ready = m .ready; cut = m .cut; base = m .base; top = m .top; prev = m .prev }
@@ -306,7 +306,7 @@ module _ (n total : ℕ) (v : View) (γ : Ghost) (a : ℕ) (i : Inv n total v γ
   part-inv few more =
       subst (λ (δ : Ghost). Inv n total (moved v a part (v .side a) (v .lines) z′) δ) (same-ghost γ a)
       (quiet-inv n total v γ i a part (γ .mind a) (v .side a) (v .lines) z′ (γ .wire)
-      (refl, refl, refl, refl, refl) (refl, refl, refl, refl, refl, refl, refl) (λ i j. refl) (λ d. refl)
+      (refl, refl, refl, refl, refl, refl, refl) (refl, refl, refl, refl, refl, refl, refl) (λ i j. refl) (λ d. refl)
       part-pairs
       (move-nodes v γ (γ .big) a part (γ .mind a) (v .side a) (v .lines) z′ (γ .wire) (stored-there v a (not (γ .big .topv)) x) (λ j d. i .core .nodes j)
       (part-node _ _ _ _ (v .slots a) (z′ a) node un at (stored-other v a (γ .big .topv) x) few
@@ -382,6 +382,13 @@ module _ (n total : ℕ) (v : View) (γ : Ghost) (a : ℕ) (i : Inv n total v γ
           company = λ j d w e. let c = h .company j d (sym (work-at j) ∙ w) e in (c .0, c .1, work-at (c .0) ∙ c .2, last-knows (c .0) (c .3));
         }
 
+    -- it is the known one, or the old one is kept
+    not-lost : y ≡ Lost → ⊥
+    not-lost e = elim (ℕ-discrete a (γ .big .chief)) [
+      | yes q ↦ known-not-lost (sym (mine q) ∙ e)
+      | no d ↦ unknown-not-lost (sym (other d) ∙ e)
+    ]
+
     pub last-inv : (γ .big .alive ≡ true → x ≡ γ .mind a .cut) → Inv n total vw γw
     last-inv all = record {
       core = record {
@@ -392,7 +399,9 @@ module _ (n total : ℕ) (v : View) (γ : Ghost) (a : ℕ) (i : Inv n total v γ
             (λ e. stored-here v a (not (γ .big .topv)) x ∙ all e));
         books = move-books v γ (γ .big) a last (mWrote (γ .mind a)) (v .side a) (v .lines) z′ (γ .wire) (λ j. refl) (λ j. refl) (λ j d. i .core .books j)
             (last-books _ _ _ _ _ y un (i .core .books a));
-        ground = move-ground v γ a last (mWrote (γ .mind a)) (v .side a) (v .lines) z′ (γ .wire) work-kept refl (λ i j. refl) (γ .big) refl refl refl refl (i .core .ground);
+        leads = move-leads v γ (γ .big) a last (mWrote (γ .mind a)) (v .side a) (v .lines) z′ (γ .wire) (λ j d. i .core .leads j)
+            (lead-same (γ .big) a (v .own a) last (i .core .leads a) work-kept aware-kept refl refl refl (λ e. absurd (not-lost e)));
+        ground = move-ground v γ a last (mWrote (γ .mind a)) (v .side a) (v .lines) z′ (γ .wire) work-kept refl (λ i j. refl) (γ .big) refl refl refl refl refl (i .core .ground);
         chain = last-chain;
         sums = move-sums total γ (γ .big) a (mWrote (γ .mind a)) (γ .wire) refl refl refl refl (i .core .sums);
       };

@@ -1,5 +1,5 @@
 -- No step changes how many cabinets a group has.
-use Prim.Native.Nat.{ℕ, zero, suc, _-_}
+use Prim.Native.Nat.{ℕ, zero, suc, _+_, _-_}
 use mathlib.Core.Path.{_≡_, refl, sym, _∙_}
 use mathlib.Core.Bool.{Bool, true, false, not, _&&_, _||_}
 use mathlib.Core.List.{List}
@@ -8,14 +8,14 @@ use lib.Dec.{eqb, ltb}
 use Rattle.marks.specs.Marks.{marked, covers}
 use Rattle.marks.specs.Reach.{struck, connected}
 use Rattle.packet.specs.declared.Place.{Place}
-use Rattle.packet.specs.declared.Place.the-variants.{Cabinet as AtCabinet, Link as AtLink}
+use Rattle.packet.specs.declared.Place.the-variants.{Failed as AtFailed, Tripped as AtTripped, Link as AtLink}
 use Rattle.packet.specs.declared.Packet.{Packet}
 use Rattle.packet.specs.declared.Packet.the-variants.{Empty, Normal as NormalPacket, Checkp, Resume, Recover, Fault, Invalid}
 use Rattle.packet.specs.Packet.{isNormal, sameCheck, startCheck, linkPlace, damaged}
 use Rattle.line.specs.Line.{oldest, rest, packetAt, replaced}
 use Rattle.state.specs.declared.State.the-variants.{Normal, CheckpBegin, Checkpointed, Error, Recovered}
 use Rattle.state.specs.declared.Version.{Version}
-use Rattle.state.specs.declared.Version.the-variants.{Known, Unknown}
+use Rattle.state.specs.declared.Version.the-variants.{Known, Unknown, Lost}
 use Rattle.cabinet.specs.declared.Alarm.{Alarm}
 use Rattle.cabinet.specs.declared.Alarm.the-variants.{Quiet, Fault as At}
 use Rattle.cabinet.specs.Alarm.{isFor}
@@ -23,14 +23,14 @@ use Rattle.state.specs.State.{isIn, inRecovery}
 use Rattle.cabinet.specs.Cabinet.{inUse}
 use Rattle.group.specs.declared.Group.{Group}
 use Rattle.group.specs.declared.Outcome.{Outcome}
-use Rattle.group.specs.Group.{cabinet, withCabinet, stateOf, withOutgoing, line, withLine, withSlot, withSlots, rowsOf, withSound, working, some, recoveringOnes, crashAll}
+use Rattle.group.specs.Group.{cabinet, withCabinet, stateOf, withOutgoing, line, withLine, withSlot, withSlots, rowsOf, withSound, working, some, recoveringOnes, tripsOf, withTripsOf, forgetTrips, crashAll}
 use Rattle.protocol.specs.declared.Step.{Step}
-use Rattle.protocol.specs.declared.Step.the-variants.{Send, Note, Begin, Deliver, Write, Saved, Fetch, Restored, WaitOver, Fail, Damage, Lose}
+use Rattle.protocol.specs.declared.Step.the-variants.{Send, Note, Begin, Deliver, Write, Saved, Fetch, Restored, WaitOver, Fail, Damage, Lose, Trip}
 use Rattle.protocol.specs.declared.Decoded.{Decoded}
 use Rattle.protocol.specs.declared.Decoded.the-variants.{Malformed, Unused, Taken}
-use Rattle.protocol.specs.Moves.{broadcast, join, cutIfAll, takeCheckp, resumeWith, commit, adopt, recoverWith, recoverIfKnown, raise, enterError, hear, findLinkFault, emptiedTo, markFailed, neighbours, enterErrorIf, alarmTo, endRecovery, noteAt, noteFor, noteLost}
+use Rattle.protocol.specs.Moves.{broadcast, join, cutIfAll, takeCheckp, resumeWith, commit, adopt, recoverWith, recoverIfKnown, raise, enterError, hear, findLinkFault, emptiedTo, markFailed, trip, neighbours, enterErrorIf, alarmTo, endRecovery, noteAt, noteFor, noteLost}
 use Rattle.protocol.specs.Receive.{serving, takesFrom, joinIf, resumesFrom, receiveNormal, receiveCheckp, receiveResume, receiveRecover, receiveFault, receiveInvalid, receive}
-use Rattle.protocol.specs.Kinds.{orRefuse, sendStep, sendRefusal, sent, noteStep, noteRefusal, beginStep, beginRefusal, deliverStep, deliverRefusal, delivered, writeStep, writeRefusal, writePiece, oweIf, savedStep, savedRefusal, reportSaved, commitIfAll, fetchStep, fetchRefusal, fetchPiece, restoredStep, restoredRefusal, reportRestored, endIfAll, waitOverStep, waitOverRefusal, failStep, failCrashes, hurtIf, hurt, damageStep, damageRefusal, lost, loseStep, loseRefusal}
+use Rattle.protocol.specs.Kinds.{orRefuse, sendStep, sendRefusal, sent, noteStep, noteRefusal, beginStep, beginRefusal, deliverStep, deliverRefusal, delivered, writeStep, writeRefusal, writePiece, oweIf, savedStep, savedRefusal, reportSaved, commitIfAll, fetchStep, fetchRefusal, fetchPiece, restoredStep, restoredRefusal, reportRestored, endIfAll, waitOverStep, waitOverRefusal, failStep, failCrashes, hurtIf, hurt, damageStep, damageRefusal, lost, loseStep, loseRefusal, tripStep, tripOnce, tripCrashes}
 use Rattle.protocol.specs.Entry.{step, stepDecoded, perform, entryRefusal, decode}
 use Rattle.claims.proofs.State.Fun.{cond-elim}
 
@@ -46,7 +46,8 @@ resume-n g i v = refl
 
 note-at-n : (p : Place) (g : Group) (v : Version) → noteAt p g v .n ≡ g .n
 unfolding withCabinet
-note-at-n (AtCabinet x) g v = refl
+note-at-n (AtFailed x) g v = refl
+note-at-n (AtTripped x) g v = refl
 note-at-n (AtLink x y) g v = refl
 
 note-for-n : (a : Alarm) (g : Group) (v : Version) → noteFor a g v .n ≡ g .n
@@ -72,6 +73,7 @@ error-n g i p = go (cabinet g i .phase .version)
     go : (v : Version) → recoverIfKnown (raise g i p) i v .n ≡ g .n
     go (Known v) = recover-n (raise g i p) i v ∙ raise-n g i p
     go (Unknown v) = raise-n g i p
+    go Lost = raise-n g i p
 
 emptied-n : (n : ℕ) (g : Group) (a : ℕ) → emptiedTo n g a .n ≡ g .n
 unfolding withLine withOutgoing
@@ -82,13 +84,17 @@ failed-n : (g : Group) (a : ℕ) → markFailed g a .n ≡ g .n
 unfolding markFailed withOutgoing withCabinet
 failed-n g a = emptied-n 8 _ a
 
-alarm-n : (n : ℕ) (g : Group) (a : ℕ) → alarmTo n g a .n ≡ g .n
+trip-n : (g : Group) (a k : ℕ) → trip (withTripsOf g a k) a .n ≡ g .n
+unfolding trip withTripsOf withCabinet
+trip-n g a k = emptied-n 8 _ a ∙ error-n _ a (AtTripped a)
+
+alarm-n : (n : ℕ) (g : Group) (a : ℕ) (p : Place) → alarmTo n g a p .n ≡ g .n
 unfolding alarmTo
-alarm-n zero g a = refl
-alarm-n (suc n) g a = go (neighbours g n a) (alarm-n n g a)
+alarm-n zero g a p = refl
+alarm-n (suc n) g a p = go (neighbours g n a) (alarm-n n g a p)
   where
-    go : (t : Bool) → alarmTo n g a .n ≡ g .n → enterErrorIf t (alarmTo n g a) n (AtCabinet a) .n ≡ g .n
-    go true e = error-n (alarmTo n g a) n (AtCabinet a) ∙ e
+    go : (t : Bool) → alarmTo n g a p .n ≡ g .n → enterErrorIf t (alarmTo n g a p) n p .n ≡ g .n
+    go true e = error-n (alarmTo n g a p) n p ∙ e
     go false e = e
 
 crash-n : (g : Group) → crashAll g .n ≡ g .n
@@ -161,7 +167,7 @@ module _ (g : Group) where
       owed false = refl
 
   saved-n : (a : ℕ) → Kept (savedStep g a)
-  unfolding savedStep reportSaved commitIfAll commit withCabinet
+  unfolding savedStep reportSaved commitIfAll commit withCabinet forgetTrips
   saved-n a =
       refused (savedRefusal g a) _
       (cond-elim (λ (x : Group). x .n ≡ g .n) (covers (cabinet _ _ .noted .saved) (cabinet _ _ .table .cabinets)) (λ _. resume-n _ _ _) (λ _. refl))
@@ -185,8 +191,18 @@ module _ (g : Group) where
   unfolding loseStep lost withLine withOutgoing withCabinet
   lose-n a b p = refused (loseRefusal g a b p) _ (cond-elim Kept (some (recoveringOnes g)) (λ _. crash-n g) (λ _. refl))
 
+  fail-n : (a : ℕ) → Kept (failStep g a)
+  unfolding failStep
+  fail-n a = cond-elim Kept (failCrashes g a) (λ _. crash-n g) (λ _. alarm-n 8 (markFailed g a) a (AtFailed a) ∙ failed-n g a)
+
+  trips-n : (a : ℕ) → Kept (tripStep g a)
+  unfolding tripStep tripOnce
+  trips-n a =
+      cond-elim Kept (ltb (tripsOf g a) 2)
+      (λ _. cond-elim Kept (tripCrashes g a) (λ _. crash-n g) (λ _. alarm-n 8 _ a (AtTripped a) ∙ trip-n g a (tripsOf g a + 1))) (λ _. fail-n a)
+
   perform-n : (s : Step) → Kept (perform g s)
-  unfolding sendStep sent noteStep beginStep fetchStep fetchPiece waitOverStep failStep withCabinet withLine withOutgoing
+  unfolding sendStep sent noteStep beginStep fetchStep fetchPiece waitOverStep withCabinet withLine withOutgoing
   perform-n (Send a b p q) = refused (sendRefusal g (a - 1) (b - 1) p q) _ refl
   perform-n (Note a p q) = refused (noteRefusal g (a - 1) p q) _ refl
   perform-n (Begin a) = refused (beginRefusal g (a - 1)) _ (cut-n (join g (a - 1)) (a - 1) ∙ join-n g (a - 1))
@@ -196,9 +212,10 @@ module _ (g : Group) where
   perform-n (Fetch a) = refused (fetchRefusal g (a - 1)) _ refl
   perform-n (Restored a) = restored-n (a - 1)
   perform-n (WaitOver a) = refused (waitOverRefusal g (a - 1)) _ (recover-n g (a - 1) _)
-  perform-n (Fail a) = cond-elim Kept (failCrashes g (a - 1)) (λ _. crash-n g) (λ _. alarm-n 8 (markFailed g (a - 1)) (a - 1) ∙ failed-n g (a - 1))
+  perform-n (Fail a) = fail-n (a - 1)
   perform-n (Damage a b p q) = damage-n (a - 1) (b - 1) p q
   perform-n (Lose a b p) = lose-n (a - 1) (b - 1) p
+  perform-n (Trip a) = trips-n (a - 1)
 
   decoded-n : (d : Decoded) → Kept (stepDecoded g d)
   decoded-n Malformed = refl

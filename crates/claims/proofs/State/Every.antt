@@ -15,7 +15,7 @@ use Rattle.outlet.specs.Outlet.{endsOf}
 use Rattle.packet.specs.declared.Payload.{Payload}
 use Rattle.packet.specs.declared.Check.{Check}
 use Rattle.packet.specs.declared.Place.{Place}
-use Rattle.packet.specs.declared.Place.the-variants.{Cabinet as AtCabinet, Link as AtLink}
+use Rattle.packet.specs.declared.Place.the-variants.{Failed as AtFailed, Tripped as AtTripped, Link as AtLink}
 use Rattle.packet.specs.declared.Packet.{Packet}
 use Rattle.packet.specs.declared.Packet.the-variants.{Empty, Normal as NormalPacket, Checkp, Resume, Recover, Fault, Invalid}
 use Rattle.line.specs.declared.Cell.{Cell}
@@ -25,7 +25,7 @@ use Rattle.line.specs.Line.{emptyCell, emptyLine, put, rest, oldest, normals, p
 use Rattle.state.specs.declared.State.{State}
 use Rattle.state.specs.declared.State.the-variants.{Failed, Normal, CheckpBegin, Checkpointing, Checkpointed, Error, Recovered, Crashed}
 use Rattle.state.specs.declared.Version.{Version}
-use Rattle.state.specs.declared.Version.the-variants.{Known, Unknown}
+use Rattle.state.specs.declared.Version.the-variants.{Known, Unknown, Lost}
 use Rattle.image.specs.declared.Image.{Image}
 use Rattle.cabinet.specs.declared.Alarm.{Alarm}
 use Rattle.cabinet.specs.declared.Alarm.the-variants.{Quiet, Fault as At}
@@ -33,20 +33,20 @@ use Rattle.cabinet.specs.declared.Cabinet.{Cabinet}
 use Rattle.cabinet.specs.Alarm.{isFor}
 use Rattle.state.specs.State.{isIn, works, inRecovery, bitOf}
 use Rattle.image.specs.Image.{booking, firstNote, withOctet, withPiece}
-use Rattle.cabinet.specs.Cabinet.{absent, inUse, withImage, withState, withVersion, sending, taking, hurtFrom, beginning, comparing, cutting, wrote, owing, savedFor, resuming, alarmed, hearing, recovering, fetched, restoredFor, crashing}
+use Rattle.cabinet.specs.Cabinet.{absent, inUse, withImage, withState, withVersion, sending, taking, hurtFrom, beginning, comparing, cutting, wrote, owing, savedFor, resuming, alarmed, blanked, hearing, recovering, fetched, restoredFor, crashing}
 use Rattle.outgoing.specs.declared.Outgoing.{Outgoing}
 use Rattle.group.specs.declared.Slots.{Slots}
 use Rattle.group.specs.declared.Group.{Group}
 use Rattle.group.specs.declared.Outcome.{Outcome}
 use Rattle.outgoing.specs.Lines.{emptyLines, lineTo, withLineTo, putIf, putRowTo, putAll, checkps, putCheckps}
-use Rattle.group.specs.Group.{cabinet, withCabinet, stateOf, outgoing, withOutgoing, line, withLine, blankSlots, slot, withSlot, rowsOf, withSound, working, some, recoveringOnes, taken, crashAll, crashed, withSlots}
+use Rattle.group.specs.Group.{cabinet, withCabinet, stateOf, outgoing, withOutgoing, line, withLine, blankSlots, slot, withSlot, rowsOf, withSound, working, some, recoveringOnes, tripsOf, withTripsOf, forgetTrips, taken, crashAll, crashed, withSlots}
 use Rattle.protocol.specs.declared.Step.{Step}
-use Rattle.protocol.specs.declared.Step.the-variants.{Send, Note, Begin, Deliver, Write, Saved, Fetch, Restored, WaitOver, Fail, Damage, Lose}
+use Rattle.protocol.specs.declared.Step.the-variants.{Send, Note, Begin, Deliver, Write, Saved, Fetch, Restored, WaitOver, Fail, Damage, Lose, Trip}
 use Rattle.protocol.specs.declared.Decoded.{Decoded}
 use Rattle.protocol.specs.declared.Decoded.the-variants.{Malformed, Unused, Taken}
-use Rattle.protocol.specs.Moves.{broadcast, join, cutIfAll, takeCheckp, resumeWith, commit, adopt, recoverWith, recoverIfKnown, raise, enterError, hear, findLinkFault, emptiedTo, markFailed, neighbours, enterErrorIf, alarmTo, endRecovery, noteAt, noteFor, noteLost}
+use Rattle.protocol.specs.Moves.{broadcast, join, cutIfAll, takeCheckp, resumeWith, commit, adopt, recoverWith, recoverIfKnown, raise, enterError, hear, findLinkFault, emptiedTo, markFailed, trip, neighbours, enterErrorIf, alarmTo, endRecovery, noteAt, noteFor, noteLost}
 use Rattle.protocol.specs.Receive.{serving, takesFrom, receiveNormal, joinIf, receiveCheckp, resumesFrom, receiveResume, receiveRecover, receiveFault, receiveInvalid, receive}
-use Rattle.protocol.specs.Kinds.{need, orRefuse, sendRefusal, carried, sent, sendStep, noteRefusal, noteStep, beginStep, beginRefusal, deliverRefusal, delivered, deliverStep, writeRefusal, writePiece, oweIf, writeStep, savedRefusal, reportSaved, commitIfAll, savedStep, fetchRefusal, fetchPiece, fetchStep, restoredRefusal, reportRestored, endIfAll, restoredStep, waitOverRefusal, waitOverStep, failCrashes, failStep, hurtIf, hurt, damageRefusal, damageStep, loseRefusal, lost, loseStep}
+use Rattle.protocol.specs.Kinds.{need, orRefuse, sendRefusal, carried, sent, sendStep, noteRefusal, noteStep, beginStep, beginRefusal, deliverRefusal, delivered, deliverStep, writeRefusal, writePiece, oweIf, writeStep, savedRefusal, reportSaved, commitIfAll, savedStep, fetchRefusal, fetchPiece, fetchStep, restoredRefusal, reportRestored, endIfAll, restoredStep, waitOverRefusal, waitOverStep, failCrashes, failStep, hurtIf, hurt, damageRefusal, damageStep, loseRefusal, lost, loseStep, tripCrashes, tripOnce, tripStep}
 use Rattle.protocol.specs.Entry.{step, stepDecoded, perform, entryRefusal, decode, fieldsOf, aloneOf}
 use Rattle.claims.proofs.State.Fun.{cond-elim, and-true}
 
@@ -109,6 +109,7 @@ Fits (WaitOver a) = Unit {0}
 Fits (Fail a) = Unit {0}
 Fits (Damage a b p q) = q < 65536
 Fits (Lose a b p) = Unit {0}
+Fits (Trip a) = Unit {0}
 
 abbrev pub FitsIn : Decoded → Type 0
 FitsIn Malformed = Unit {0}
@@ -122,7 +123,8 @@ alone-fits kind a =
     (λ _. cond-elim FitsIn (eqb kind 6) (λ _. tt)
     (λ _. cond-elim FitsIn (eqb kind 7) (λ _. tt)
     (λ _. cond-elim FitsIn (eqb kind 8) (λ _. tt)
-    (λ _. cond-elim FitsIn (eqb kind 9) (λ _. tt) (λ _. cond-elim FitsIn (eqb kind 10) (λ _. tt) (λ _. tt)))))))
+    (λ _. cond-elim FitsIn (eqb kind 9) (λ _. tt)
+    (λ _. cond-elim FitsIn (eqb kind 10) (λ _. tt) (λ _. cond-elim FitsIn (eqb kind 13) (λ _. tt) (λ _. tt))))))))
 
 fields-fit : (kind a b p q : ℕ) → q < 65536 → FitsIn (fieldsOf kind a b p q)
 fields-fit kind a b p q l =
@@ -131,7 +133,7 @@ fields-fit kind a b p q l =
     (λ _. cond-elim FitsIn (eqb kind 4) (λ _. cond-elim FitsIn (eqb (p + q) 0) (λ _. tt) (λ _. tt))
     (λ _. cond-elim FitsIn (eqb kind 11) (λ _. l)
     (λ _. cond-elim FitsIn (eqb kind 12) (λ _. cond-elim FitsIn (eqb q 0) (λ _. tt) (λ _. tt))
-    (λ _. cond-elim FitsIn (leb 1 kind && leb kind 10)
+    (λ _. cond-elim FitsIn (leb 1 kind && leb kind 13)
     (λ _. cond-elim FitsIn (eqb (b + p + q) 0) (λ _. alone-fits kind a) (λ _. tt)) (λ _. tt))))))
 
 pub decode-fits : (r : List ℕ) → ((i : ℕ) → getD r i 0 < 256) → FitsIn (decode r)
@@ -156,6 +158,7 @@ pub record Closed (C : Cabinet → Type 0) (L : Line → Type 0) (I : Image → 
   pub savedFor : (c : Cabinet) (j : ℕ) → C c → C (savedFor c j)
   pub resuming : (c : Cabinet) (v : Version) → C c → C (resuming c v)
   pub alarmed : (c : Cabinet) (i : ℕ) (p : Place) → C c → C (alarmed c i p)
+  pub blanked : (c : Cabinet) → C c → C (blanked c)
   pub hearing : (c : Cabinet) (j : ℕ) → C c → C (hearing c j)
   pub recovering : (c : Cabinet) (v : Bool) → C c → C (recovering c v)
   pub fetched : (c : Cabinet) (m : Image) → I m → C c → C (fetched c m)
@@ -244,6 +247,25 @@ module _ (C : Cabinet → Type 0) (L : Line → Type 0) (I : Image → Type 0) (
         (cond-elim P v (λ _. pick-slot _ u (h .slots i false) hm) (λ _. pick-slot _ u hm (h .slots i true))) (h .slots j u);
   }
 
+  -- what is counted of trips is no part of a cabinet, a line or an image
+  pub with-trips : (g : Group) (a n : ℕ) → Ok g → Ok (withTripsOf g a n)
+  unfolding cabinet outgoing line slot withTripsOf
+  with-trips g a n h = record {
+    frame = record { cabinets = h .frame .cabinets; outs = h .frame .outs; lines = h .frame .lines; store = h .frame .store };
+    cabs = h .cabs;
+    lines = h .lines;
+    slots = h .slots;
+  }
+
+  no-trips : (g : Group) → Ok g → Ok (forgetTrips g)
+  unfolding cabinet outgoing line slot forgetTrips
+  no-trips g h = record {
+    frame = record { cabinets = h .frame .cabinets; outs = h .frame .outs; lines = h .frame .lines; store = h .frame .store };
+    cabs = h .cabs;
+    lines = h .lines;
+    slots = h .slots;
+  }
+
   -- ---- packets on several lines
 
   put-if : (t : Bool) (o : Outgoing) (j : ℕ) (p : Packet) → isNormal p ≡ false → Out o → Out (putIf t o j p)
@@ -301,7 +323,7 @@ module _ (C : Cabinet → Type 0) (L : Line → Type 0) (I : Image → Type 0) (
 
   pub ok-commit : (g : Group) (i : ℕ) → Ok g → Ok (commit g i)
   unfolding commit
-  ok-commit g i h = ok-resumeWith g i _ h
+  ok-commit g i h = no-trips _ (ok-resumeWith g i _ h)
 
   pub ok-adopt : (g : Group) (a b : ℕ) → Ok g → Ok (adopt g a b)
   unfolding adopt
@@ -316,6 +338,7 @@ module _ (C : Cabinet → Type 0) (L : Line → Type 0) (I : Image → Type 0) (
   pub ok-recoverIfKnown : (g : Group) (i : ℕ) (v : Version) → Ok g → Ok (recoverIfKnown g i v)
   ok-recoverIfKnown g i (Known v) h = ok-recoverWith g i v h
   ok-recoverIfKnown g i (Unknown v) h = h
+  ok-recoverIfKnown g i Lost h = h
 
   pub no-packets : Out emptyLines
   unfolding emptyLines lineTo
@@ -345,14 +368,18 @@ module _ (C : Cabinet → Type 0) (L : Line → Type 0) (I : Image → Type 0) (
   unfolding markFailed
   ok-markFailed g a h = ok-emptied 8 _ a (with-outgoing _ a _ no-packets (with-cabinet g a _ (k .stated _ Failed (h .cabs a)) h))
 
+  pub ok-trip : (g : Group) (a : ℕ) → Ok g → Ok (trip g a)
+  unfolding trip
+  ok-trip g a h = ok-emptied 8 _ a (ok-enterError _ a (AtTripped a) (with-cabinet g a _ (k .blanked _ (h .cabs a)) h))
+
   pub ok-enterErrorIf : (t : Bool) (g : Group) (i : ℕ) (p : Place) → Ok g → Ok (enterErrorIf t g i p)
   ok-enterErrorIf true g i p h = ok-enterError g i p h
   ok-enterErrorIf false g i p h = h
 
-  pub ok-alarm : (n : ℕ) (g : Group) (a : ℕ) → Ok g → Ok (alarmTo n g a)
+  pub ok-alarm : (n : ℕ) (g : Group) (a : ℕ) (p : Place) → Ok g → Ok (alarmTo n g a p)
   unfolding alarmTo
-  ok-alarm zero g a h = h
-  ok-alarm (suc n) g a h = ok-enterErrorIf (neighbours g n a) _ n (AtCabinet a) (ok-alarm n g a h)
+  ok-alarm zero g a p h = h
+  ok-alarm (suc n) g a p h = ok-enterErrorIf (neighbours g n a) _ n p (ok-alarm n g a p h)
 
   crash-one : (c : Cabinet) → C c → C (crashing c)
   crash-one c hc = cond-elim C (works (c .phase .state)) (λ _. k .stated c Crashed hc) (λ _. hc)
@@ -519,7 +546,8 @@ module _ (C : Cabinet → Type 0) (L : Line → Type 0) (I : Image → Type 0) (
       h
 
   ok-noteAt : (p : Place) (g : Group) (v : Version) → Ok g → Ok (noteAt p g v)
-  ok-noteAt (AtCabinet x) g v h = with-cabinet g x _ (k .versioned _ v (h .cabs x)) h
+  ok-noteAt (AtFailed x) g v h = with-cabinet g x _ (k .versioned _ v (h .cabs x)) h
+  ok-noteAt (AtTripped x) g v h = h
   ok-noteAt (AtLink x y) g v h = h
 
   ok-noteFor : (a : Alarm) (g : Group) (v : Version) → Ok g → Ok (noteFor a g v)
@@ -565,7 +593,15 @@ module _ (C : Cabinet → Type 0) (L : Line → Type 0) (I : Image → Type 0) (
 
     pub ok-fail : OkOf (failStep g a)
     unfolding failStep
-    ok-fail = cond-elim OkOf (failCrashes g a) (λ _. ok-crashed g h) (λ _. ok-alarm 8 _ a (ok-markFailed g a h))
+    ok-fail = cond-elim OkOf (failCrashes g a) (λ _. ok-crashed g h) (λ _. ok-alarm 8 _ a (AtFailed a) (ok-markFailed g a h))
+
+    pub ok-tripOnce : (n : ℕ) → OkOf (tripOnce g a n)
+    unfolding tripOnce
+    ok-tripOnce n = cond-elim OkOf (tripCrashes g a) (λ _. ok-crashed g h) (λ _. ok-alarm 8 _ a (AtTripped a) (ok-trip _ a (with-trips g a n h)))
+
+    pub ok-tripStep : OkOf (tripStep g a)
+    unfolding tripStep
+    ok-tripStep = cond-elim OkOf (ltb (tripsOf g a) 2) (λ _. ok-tripOnce (tripsOf g a + 1)) (λ _. ok-fail)
 
     pub ok-damage : (b p q : ℕ) → q < 65536 → OkOf (damageStep g a b p q)
     unfolding damageStep hurt
@@ -599,6 +635,7 @@ module _ (C : Cabinet → Type 0) (L : Line → Type 0) (I : Image → Type 0) (
   ok-perform g h (Fail a) f = ok-fail g h (a - 1)
   ok-perform g h (Damage a b p q) f = ok-damage g h (a - 1) (b - 1) p q f
   ok-perform g h (Lose a b p) f = ok-lose g h (a - 1) (b - 1) p
+  ok-perform g h (Trip a) f = ok-tripStep g h (a - 1)
 
   pub ok-decoded : (g : Group) → Ok g → (d : Decoded) → FitsIn d → OkOf (stepDecoded g d)
   ok-decoded g h Malformed f = h

@@ -15,16 +15,19 @@ use Rattle.packet.specs.declared.Check.{Check}
 use Rattle.outlet.specs.declared.Outlet.{Outlet}
 use Rattle.packet.specs.declared.Payload.{Payload}
 use Rattle.packet.specs.declared.Place.{Place}
-use Rattle.packet.specs.declared.Place.the-variants.{Cabinet as AtCabinet, Link as AtLink}
+use Rattle.packet.specs.declared.Place.the-variants.{Failed as AtFailed, Tripped as AtTripped, Link as AtLink}
 use Rattle.packet.specs.Packet.{startCheck, stepCheck}
 use Rattle.state.specs.declared.Version.{Version}
 use Rattle.cabinet.specs.declared.Cabinet.{Cabinet}
 use Rattle.registers.specs.Registers.{restartIf, restartTo, startRegisters}
+use Rattle.table.specs.declared.Table.{Table}
+use Rattle.table.specs.Table.{isAt, struckAt, ledOnIf}
 use Rattle.cabinet.specs.Cabinet.{inUse, sending, taking, hurtFrom, beginning, comparing, owing, savedFor, resuming, alarmed, hearing, restoredFor, fetched, withImage, withPieces, withRegisters, withState}
 use Rattle.image.specs.declared.Image.{Image}
 use Rattle.state.specs.declared.State.the-variants.{Recovered}
 use Rattle.protocol.specs.History.{upd}
 use Rattle.claims.proofs.State.Fun.{upd-elim, and-false, and-same}
+use Rattle.claims.proofs.State.Leading.{nextOver, leadOver, next-same, next-over}
 use Rattle.claims.proofs.State.Every.{getD-repeated}
 use Rattle.claims.proofs.State.View.{Side, sideOf, used}
 use Rattle.claims.proofs.State.Shape.{Shaped}
@@ -159,11 +162,13 @@ module _ (c : Cabinet) (w : Shaped c) where
 
 -- a place as it concerns the pair of i and b
 abbrev pub hitsCabinet : Place → ℕ → Bool
-hitsCabinet (AtCabinet a) b = eqb b a
+hitsCabinet (AtFailed a) b = eqb b a
+hitsCabinet (AtTripped a) b = false
 hitsCabinet (AtLink a d) b = false
 
 abbrev pub hitsLink : Place → ℕ → ℕ → Bool
-hitsLink (AtCabinet a) i b = false
+hitsLink (AtFailed a) i b = false
+hitsLink (AtTripped a) i b = false
 hitsLink (AtLink a d) i b = (eqb i a && eqb b d) || (not (eqb i a) && (eqb i d && eqb b a))
 
 abbrev pub sAlarmed : Place → ℕ → ℕ → Side → Side
@@ -187,9 +192,58 @@ unlink m a d b true u = unmark m d b ∙ ap (λ (x : Bool). marked m b && not x)
 unlink m a d b false true = unmark m a b
 unlink m a d b false false = sym (and-same (marked m b))
 
-pub side-alarmed : (c : Cabinet) (i : ℕ) (p : Place) (b : ℕ) → sideOf (alarmed c i p) b ≡ sAlarmed p i b (sideOf c b)
-side-alarmed c i (AtCabinet a) b = rw (no-marks b, unmark (c .table .cabinets) a b, and-same)
-side-alarmed c i (AtLink a d) b = rw (no-marks b, unlink (c .table .links) a d b (eqb i a) (eqb i d), and-same)
+-- the rows of a table with a place struck
+struck-cab : (i : ℕ) (p : Place) (t : Table) (b : ℕ) → marked (struckAt i p t .cabinets) b ≡ (marked (t .cabinets) b && not (hitsCabinet p b))
+struck-cab i (AtFailed a) t b = unmark (t .cabinets) a b
+struck-cab i (AtTripped a) t b = sym (and-same (marked (t .cabinets) b))
+struck-cab i (AtLink a d) t b = sym (and-same (marked (t .cabinets) b))
+
+struck-link : (i : ℕ) (p : Place) (t : Table) (b : ℕ) → marked (struckAt i p t .links) b ≡ (marked (t .links) b && not (hitsLink p i b))
+struck-link i (AtFailed a) t b = sym (and-same (marked (t .links) b))
+struck-link i (AtTripped a) t b = sym (and-same (marked (t .links) b))
+struck-link i (AtLink a d) t b = unlink (t .links) a d b (eqb i a) (eqb i d)
+
+struck-lead : (i : ℕ) (p : Place) (t : Table) → struckAt i p t .lead ≡ t .lead
+struck-lead i (AtFailed a) t = refl
+struck-lead i (AtTripped a) t = refl
+struck-lead i (AtLink a d) t = refl
+
+-- the lead that moves on leaves both rows
+led-cabinets : (f : Bool) (t : Table) → ledOnIf f t .cabinets ≡ t .cabinets
+led-cabinets true t = refl
+led-cabinets false t = refl
+
+led-links : (f : Bool) (t : Table) → ledOnIf f t .links ≡ t .links
+led-links true t = refl
+led-links false t = refl
+
+module _ (c : Cabinet) (i : ℕ) (p : Place) where
+  abbrev struckTable : Table
+  struckTable = struckAt i p (c .table)
+
+  pub side-alarmed : (b : ℕ) → sideOf (alarmed c i p) b ≡ sAlarmed p i b (sideOf c b)
+  side-alarmed b =
+      rw (
+        no-marks b,
+        led-cabinets (isAt p (c .table .lead)) struckTable,
+        led-links (isAt p (c .table .lead)) struckTable,
+        struck-cab i p (c .table) b,
+        struck-link i p (c .table) b,
+      )
+
+  abbrev after : ℕ → Bool
+  after b = sAlarmed p i b (sideOf c b) .cab
+
+  -- the next coordinator is the next of those that are in use after the strike
+  pub lead-alarmed : alarmed c i p .table .lead ≡ leadOver p (c .table .lead) (λ b. sAlarmed p i b (sideOf c b) .cab)
+  lead-alarmed = go (isAt p (c .table .lead))
+    where
+      go : (f : Bool) → ledOnIf f struckTable .lead ≡ cond f (nextOver after (c .table .lead)) (c .table .lead)
+      go true =
+          next-over (struckTable .cabinets) (struckTable .lead)
+          ∙ ap (nextOver (marked (struckTable .cabinets))) (struck-lead i p (c .table))
+          ∙ next-same (marked (struckTable .cabinets)) after (c .table .lead) (λ b l. struck-cab i p (c .table) b)
+      go false = struck-lead i p (c .table)
 
 -- on entering recovered all registers start anew
 abbrev pub sFresh : Side → Side

@@ -12,7 +12,7 @@ use Rattle.marks.specs.Marks.{Marks, marked}
 use Rattle.outlet.specs.declared.Outlet.{Outlet}
 use Rattle.packet.specs.declared.Check.{Check}
 use Rattle.packet.specs.declared.Place.{Place}
-use Rattle.packet.specs.declared.Place.the-variants.{Cabinet as AtCabinet, Link as AtLink}
+use Rattle.packet.specs.declared.Place.the-variants.{Failed as AtFailed, Tripped as AtTripped, Link as AtLink}
 use Rattle.packet.specs.declared.Packet.{Packet}
 use Rattle.packet.specs.declared.Packet.the-variants.{Empty, Normal as NormalPacket, Checkp, Resume, Recover, Fault, Invalid}
 use Rattle.line.specs.declared.Cell.{Cell}
@@ -21,10 +21,11 @@ use Rattle.packet.specs.Packet.{isEmpty, isNormal, damaged, startCheck}
 use Rattle.line.specs.Line.{emptyCell, emptyLine, put, putCells, restCells, withoutCells, normals, normalsIn, packetAt}
 use Rattle.image.specs.declared.Image.{Image}
 use Rattle.cabinet.specs.declared.Cabinet.{Cabinet}
-use Rattle.image.specs.Image.{charged, credited, withOctet, pieceTo}
+use Rattle.image.specs.Image.{blankImage, charged, credited, withOctet, pieceTo}
 use Rattle.image.proofs.Laws.{octet-small, charged-small, credited-small, length-charged, length-credited}
 use Rattle.registers.specs.Registers.{restartIf, restartTo}
-use Rattle.table.specs.Table.{struckAt}
+use Rattle.table.specs.declared.Table.{Table}
+use Rattle.table.specs.Table.{isAt, coordinator, struckAt, ledOnIf}
 use Rattle.cabinet.specs.Cabinet.{inUse, wrote, fetched, alarmed}
 use Rattle.claims.proofs.State.Fun.{cond-elim}
 use Rattle.claims.proofs.State.Every.{Closed, getD-set, getD-repeated}
@@ -36,6 +37,9 @@ use Rattle.claims.proofs.State.Cells.{Packed, packed-put, length-put, p
 pub record Pictured (m : Image) : Type 0 where
   pub octets : length (m .octets) ≡ 32
   pub small : (i : ℕ) → getD (m .octets) i 0 < 256
+
+nothing-pictured : Pictured blankImage
+nothing-pictured = record { octets = refl; small = λ i. getD-repeated (λ (x : ℕ). x < 256) 32 i 0 0 (omega arith) (omega arith) }
 
 pictured-set : (m : Image) (p v : ℕ) → v < 256 → Pictured m → Pictured (withOctet m p v)
 pictured-set m p v l h = record { octets = length-set (m .octets) p v ∙ h .octets; small = octet-small m p v l (h .small) }
@@ -75,12 +79,19 @@ length-restart (suc n) m rs = length-restartIf (marked m n) _ n ∙ length-resta
 
 length-struck : (i : ℕ) (p : Place) (c : Cabinet) → Shaped c
     → (length (struckAt i p (c .table) .cabinets) ≡ 8) × (length (struckAt i p (c .table) .links) ≡ 8)
-length-struck i (AtCabinet a) c h = (length-set (c .table .cabinets) a false ∙ h .cabs, h .links)
+length-struck i (AtFailed a) c h = (length-set (c .table .cabinets) a false ∙ h .cabs, h .links)
+length-struck i (AtTripped a) c h = (h .cabs, h .links)
 length-struck i (AtLink a b) c h = (
   h .cabs,
   cond-elim (λ (x : Marks). length x ≡ 8) (eqb i a) (λ _. length-set (c .table .links) b false ∙ h .links)
       (λ _. cond-elim (λ (x : Marks). length x ≡ 8) (eqb i b) (λ _. length-set (c .table .links) a false ∙ h .links) (λ _. h .links)),
 )
+
+-- a table's rows have the same sizes whoever its coordinator is
+length-led : (f : Bool) (t : Table) → (length (t .cabinets) ≡ 8) × (length (t .links) ≡ 8)
+    → (length (ledOnIf f t .cabinets) ≡ 8) × (length (ledOnIf f t .links) ≡ 8)
+length-led true t h = h
+length-led false t h = h
 
 shaped-wrote : (c : Cabinet) (i : ℕ) → Shaped c → Shaped (wrote c i)
 shaped-wrote c i h = cond-elim Shaped (ltb (c .noted .pieces) 3) (λ _. search) (λ _. search)
@@ -224,7 +235,7 @@ packed-damaged cs k q h = go (isEmpty (getD cs k emptyCell .packet)) refl
 -- ---- together
 
 shaped-alarmed : (c : Cabinet) (i : ℕ) (p : Place) → Shaped c → Shaped (alarmed c i p)
-shaped-alarmed c i p h = let s = length-struck i p c h in search
+shaped-alarmed c i p h = let s = length-led (isAt p (coordinator (c .table))) (struckAt i p (c .table)) (length-struck i p c h) in search
 
 lined-put : (l : Line) (p : Packet) → Fits p → normals l + cond (isNormal p) 1 0 ≤ 8 → Lined l → Lined (put l p)
 lined-put l p f few h = record {
@@ -283,7 +294,7 @@ shaped = record {
     taken = refl;
     hurt = refl;
     owed = refl;
-    image = record { octets = refl; small = λ i. getD-repeated (λ (x : ℕ). x < 256) 32 i 0 0 (omega arith) (omega arith) };
+    image = nothing-pictured;
   };
   sending = λ c j o p l h. let m = pictured-charged (c .image) o (p .amount) (h .image) in search length-set;
   noting = λ c k q l h. let m = pictured-set (c .image) k q l (h .image) in search length-set;
@@ -298,6 +309,7 @@ shaped = record {
   savedFor = λ c j h. search length-set;
   resuming = λ c v h. search;
   alarmed = shaped-alarmed;
+  blanked = λ c h. let m = nothing-pictured in search;
   hearing = λ c j h. search length-set;
   recovering = λ c v h. search;
   fetched = shaped-fetched;

@@ -45,6 +45,10 @@ getD-upd {A} {B} f l i v d h =
 
 -- ---- the stores
 
+pub cabinet-same : (g : Group) → Framed g → (i : ℕ) (c : Cabinet) → i < 8 → cabinet (withCabinet g i c) i ≡ c
+unfolding cabinet withCabinet
+cabinet-same g w i c l = getD-set-same (g .cabinets) i c absent (omega (arith, w .cabinets))
+
 pub view-cabinet : (g : Group) → Framed g → (i : ℕ) (c : Cabinet) → i < 8 → view (withCabinet g i c) ≡ setCabinet (view g) i (ownOf c) (sideOf c)
 unfolding cabinet withCabinet outgoing line slot
 view-cabinet g w i c l =

@@ -28,6 +28,8 @@ pub record Own : Type 0 where
   pub image : Image
   pub home : ℕ
   pub store : Bool
+  pub lead : ℕ
+  pub former : Bool
 
 pub record Side : Type 0 where
   pub cab : Bool
@@ -50,6 +52,8 @@ ownOf c = record {
   image = c .image;
   home = c .home;
   store = c .store;
+  lead = c .table .lead;
+  former = c .noted .former;
 }
 
 abbrev pub sideOf : Cabinet → ℕ → Side

@@ -18,36 +18,52 @@ use Rattle.packet.specs.declared.Payload.{Payload}
 use Rattle.packet.specs.declared.Packet.{Packet}
 use Rattle.packet.specs.declared.Packet.the-variants.{Normal as NormalPacket, Checkp, Resume, Recover, Fault}
 use Rattle.packet.specs.declared.Place.{Place}
-use Rattle.packet.specs.declared.Place.the-variants.{Cabinet as AtCabinet, Link as AtLink}
+use Rattle.packet.specs.declared.Place.the-variants.{Failed as AtFailed, Tripped as AtTripped, Link as AtLink}
 use Rattle.line.specs.declared.Cell.{Cell}
 use Rattle.packet.specs.Packet.{isEmpty, startCheck, stepCheck}
 use Rattle.line.specs.declared.Line.{Line}
 use Rattle.line.specs.Line.{emptyCell, emptyLine, oldest, rest}
 use Rattle.state.specs.declared.Version.{Version}
-use Rattle.state.specs.declared.Version.the-variants.{Known}
+use Rattle.state.specs.declared.Version.the-variants.{Known, Lost}
 use Rattle.state.specs.declared.State.{State}
 use Rattle.state.specs.declared.State.the-variants.{Failed, Normal, CheckpBegin, Checkpointing, Error, Recovering}
 use Rattle.cabinet.specs.declared.Alarm.{Alarm}
 use Rattle.cabinet.specs.declared.Alarm.the-variants.{Quiet, Fault as At}
 use Rattle.image.specs.declared.Image.{Image}
 use Rattle.cabinet.specs.declared.Cabinet.{Cabinet}
-use Rattle.image.specs.Image.{charged, credited}
-use Rattle.cabinet.specs.Cabinet.{inUse, sending, taking, hurtFrom, beginning, comparing, owing, savedFor, resuming, alarmed, recovering, restoredFor, withState, withVersion}
+use Rattle.image.specs.Image.{blankImage, charged, credited}
+use Rattle.table.specs.Table.{isAt}
+use Rattle.cabinet.specs.Cabinet.{inUse, sending, taking, hurtFrom, beginning, comparing, owing, savedFor, resuming, alarmed, blanked, recovering, restoredFor, withState, withVersion}
 use Rattle.group.specs.declared.Group.{Group}
 use Rattle.outgoing.specs.Lines.{putAll, putCheckps, checkps, emptyLines, lineTo}
-use Rattle.group.specs.Group.{cabinet, withCabinets, withCabinet, outgoing, withOutgoing, line, withLine}
+use Rattle.group.specs.Group.{cabinet, withCabinets, withCabinet, outgoing, withOutgoing, line, withLine, slot, rowsOf, withTripsOf, forgetTrips}
 use Rattle.protocol.specs.History.{upd}
-use Rattle.protocol.specs.Moves.{broadcast, join, resumeWith, recoverWith, raise, hear, emptiedTo, markFailed, noteAt, noteFor, noteLost}
+use Rattle.protocol.specs.Moves.{broadcast, join, resumeWith, recoverWith, recoverIfKnown, raise, enterError, hear, emptiedTo, markFailed, trip, noteAt, noteFor, noteLost}
 use Rattle.protocol.specs.Kinds.{carried, sent}
 use Rattle.claims.proofs.State.Fun.{upd-elim, upd-same, and-false}
-use Rattle.claims.proofs.State.Every.{getD-repeated, with-cabinet, with-outgoing, put-checkps, out-of, no-packets, ok-emptied}
+use Rattle.claims.proofs.State.Every.{getD-repeated, with-cabinet, with-outgoing, put-checkps, with-trips, out-of, no-packets, ok-emptied, ok-raise}
 use Rattle.claims.proofs.State.View.{View, Own, Side, ownOf, used, content, view, setCabinet, setLines, setLine}
 use Rattle.claims.proofs.State.Cells.{content-oldest}
 use Rattle.claims.proofs.State.Shape.{Shaped, Lined, Pictured, shaped}
-use Rattle.claims.proofs.State.Sim.{Fit, contents, put-content, view-line, view-cabinet, view-outgoing, in-use, past-use, row-content}
-use Rattle.claims.proofs.State.Methods.{sMarks, sOwed, sRegisters, sCleared, sCompared, sBegun, sAlarmed, side-hurt, side-sending, side-taking, side-comparing, side-owing, side-saved, side-hearing, side-restored, side-beginning, side-resuming, side-alarmed}
+use Rattle.claims.proofs.State.Sim.{Fit, cabinet-same, contents, put-content, view-line, view-cabinet, view-outgoing, in-use, past-use, row-content}
+use Rattle.claims.proofs.State.Leading.{leadOver}
+use Rattle.claims.proofs.State.Methods.{sMarks, sOwed, sRegisters, sCleared, sCompared, sBegun, sAlarmed, side-hurt, side-sending, side-taking, side-comparing, side-owing, side-saved, side-hearing, side-restored, side-beginning, side-resuming, side-alarmed, lead-alarmed}
 
--- a packet on all lines in use of cabinet i
+-- ---- the counts of trips are no part of the view
+
+pub view-forget : (g : Group) → view (forgetTrips g) ≡ view g
+unfolding cabinet outgoing line slot rowsOf forgetTrips
+view-forget g = refl
+
+pub view-counted : (g : Group) (a k : ℕ) → view (withTripsOf g a k) ≡ view g
+unfolding cabinet outgoing line slot rowsOf withTripsOf
+view-counted g a k = refl
+
+pub fit-counted : (g : Group) (a k : ℕ) → Fit g → Fit (withTripsOf g a k)
+fit-counted g a k w = with-trips Shaped Lined Pictured shaped g a k w
+
+-- ---- a packet on all lines in use of cabinet i
+
 abbrev pub vPut : View → ℕ → (ℕ → Packet) → ℕ → List Packet
 vPut v i f b = cond (used (v .side i b)) (v .lines i b ++ (f b ∷ [])) (v .lines i b)
 
@@ -124,13 +140,31 @@ sim-restored g w k a lk la =
     view-cabinet g (w .frame) k _ lk ∙ ap (setCabinet (view g) k (view g .own k)) (side-restored (cabinet g k) (w .cabs k) a la)
 
 abbrev pub oImage : Own → Image → Own
-oImage o m = record { state = o .state; version = o .version; alarm = o .alarm; pieces = o .pieces; image = m; home = o .home; store = o .store }
+oImage o m = record { state = o .state; version = o .version; alarm = o .alarm; pieces = o .pieces; image = m; home = o .home; store = o .store; lead = o .lead; former = o .former }
 
 abbrev pub oPhase : Own → State → Version → Alarm → Own
-oPhase o s v a = record { state = s; version = v; alarm = a; pieces = o .pieces; image = o .image; home = o .home; store = o .store }
+oPhase o s v a = record { state = s; version = v; alarm = a; pieces = o .pieces; image = o .image; home = o .home; store = o .store; lead = o .lead; former = o .former }
 
 abbrev pub oPieces : Own → ℕ → Own
-oPieces o k = record { state = o .state; version = o .version; alarm = o .alarm; pieces = k; image = o .image; home = o .home; store = o .store }
+oPieces o k = record { state = o .state; version = o .version; alarm = o .alarm; pieces = k; image = o .image; home = o .home; store = o .store; lead = o .lead; former = o .former }
+
+-- nothing is noted any more
+abbrev pub oBare : Own → Own
+oBare o = record { state = o .state; version = o .version; alarm = o .alarm; pieces = 0; image = o .image; home = o .home; store = o .store; lead = o .lead; former = false }
+
+-- in error for a place, with a coordinator k from then on
+abbrev pub oAlarmed : Own → Place → ℕ → Own
+oAlarmed o p k = record {
+  state = Error;
+  version = o .version;
+  alarm = At p;
+  pieces = 0;
+  image = o .image;
+  home = o .home;
+  store = o .store;
+  lead = k;
+  former = isAt p (o .lead);
+}
 
 -- a normal packet taken
 abbrev pub vTake : View → ℕ → ℕ → Payload → View
@@ -155,14 +189,14 @@ sim-compare g w a b la lb =
 -- ---- a change of one cabinet and all its sides, then a packet on its lines in use
 
 abbrev pub vJoined : View → ℕ → View
-vJoined v i = setCabinet v i (oPieces (oPhase (v .own i) CheckpBegin (v .own i .version) (v .own i .alarm)) 0) (λ b. sBegun (v .side i b))
+vJoined v i = setCabinet v i (oBare (oPhase (v .own i) CheckpBegin (v .own i .version) (v .own i .alarm))) (λ b. sBegun (v .side i b))
 
 -- the checkps are put first, each with its line's register
 abbrev pub vJoin : View → ℕ → View
 vJoin v i = vJoined (setLines v i (vPut v i (λ b. Checkp (v .side i b .put)))) i
 
 abbrev pub vResumed : View → ℕ → Version → View
-vResumed v i x = setCabinet v i (oPieces (oPhase (v .own i) Normal x Quiet) 0) (λ b. sCleared (v .side i b))
+vResumed v i x = setCabinet v i (oBare (oPhase (v .own i) Normal x Quiet)) (λ b. sCleared (v .side i b))
 
 pub view-resumed : (g : Group) → Fit g → (i : ℕ) (x : Version) → i < 8 → view (withCabinet g i (resuming (cabinet g i) x)) ≡ vResumed (view g) i x
 view-resumed g w i x l =
@@ -192,9 +226,13 @@ pub sim-recover : (g : Group) → Fit g → (i : ℕ) (x : Bool) → i < 8 → R
 unfolding recoverWith
 sim-recover g w i x l room = sim-then g w i l _ (shaped .recovering (cabinet g i) x (w .cabs i)) _ (view-recovering g w i x l) room (Recover x) refl
 
+-- the coordinator that i's table names once it has entered error for a place
+abbrev pub leadAfter : View → ℕ → Place → ℕ
+leadAfter v i p = leadOver p (v .own i .lead) (λ b. sAlarmed p i b (v .side i b) .cab)
+
 -- entering error, before recover is put: the lines out hold the fault packet alone
 abbrev pub vAlarmed : View → ℕ → Place → View
-vAlarmed v i p = setCabinet v i (oPieces (oPhase (v .own i) Error (v .own i .version) (At p)) 0) (λ b. sAlarmed p i b (v .side i b))
+vAlarmed v i p = setCabinet v i (oAlarmed (v .own i) p (leadAfter v i p)) (λ b. sAlarmed p i b (v .side i b))
 
 abbrev pub vSilenced : View → ℕ → View
 vSilenced v i = setLines v i (λ b. [])
@@ -211,6 +249,7 @@ module _ (g : Group) (w : Fit g) (i : ℕ) (p : Place) (l : i < 8) where
   view-alarmed =
       view-cabinet g (w .frame) i _ l
       ∙ ap (setCabinet (view g) i (ownOf (alarmed (cabinet g i) i p))) (fun-ext (λ b. side-alarmed (cabinet g i) i p b))
+      ∙ ap (λ (k : ℕ). setCabinet (view g) i (oAlarmed (view g .own i) p k) (λ b. sAlarmed p i b (view g .side i b))) (lead-alarmed (cabinet g i) i p)
 
   silence : Fit (withOutgoing (withCabinet g i (alarmed (cabinet g i) i p)) i emptyLines)
   silence = with-outgoing Shaped Lined Pictured shaped _ i _ (no-packets Shaped Lined Pictured shaped) alarm-one
@@ -296,7 +335,7 @@ sim-sent g w a b s q lq la lb room =
     (view-cabinet g (w .frame) a _ la
     ∙ ap (setCabinet (view g) a (ownOf (sending (cabinet g a) b o p))) (side-sending (cabinet g a) (w .cabs a) b lb o p))
 
--- the lines to a failed cabinet are emptied
+-- the lines to a failed or tripped cabinet are emptied
 abbrev pub vEmptied : ℕ → View → ℕ → View
 vEmptied n v a = record {
   own = v .own;
@@ -361,6 +400,39 @@ sim-failed g w a la =
     ∙ ap (λ (x : View). vEmptied 8 x a)
     (view-outgoing _ (one .frame) a emptyLines la ∙ ap (setLines _ a) no-content ∙ ap (λ (x : View). vSilenced x a) (view-cabinet g (w .frame) a _ la))
 
+-- a tripped cabinet: in error for its own trip, its image and version gone, its lines emptied both ways before its fault is put
+abbrev pub oBlank : Own → Own
+oBlank o = record {
+  state = o .state;
+  version = Lost;
+  alarm = o .alarm;
+  pieces = o .pieces;
+  image = blankImage;
+  home = o .home;
+  store = o .store;
+  lead = o .lead;
+  former = o .former;
+}
+
+abbrev pub vBlank : View → ℕ → View
+vBlank v a = setCabinet v a (oBlank (v .own a)) (v .side a)
+
+abbrev pub vTripped : View → ℕ → View
+vTripped v a = vEmptied 8 (vBroadcast (vSilenced (vAlarmed (vBlank v a) a (AtTripped a)) a) a (Fault (AtTripped a))) a
+
+-- its version is lost, so no recover is put
+pub sim-tripped : (g : Group) → Fit g → (a : ℕ) → a < 8 → view (trip g a) ≡ vTripped (view g) a
+unfolding trip enterError
+sim-tripped g w a la =
+    let one = with-cabinet Shaped Lined Pictured shaped g a (blanked (cabinet g a)) (shaped .blanked (cabinet g a) (w .cabs a)) w in
+    let two = ok-raise Shaped Lined Pictured shaped (withCabinet g a (blanked (cabinet g a))) a (AtTripped a) one in
+    ap (λ (c : Cabinet). view (emptiedTo 8 (recoverIfKnown (raise (withCabinet g a (blanked (cabinet g a))) a (AtTripped a)) a (c .phase .version)) a))
+    (cabinet-same g (w .frame) a (blanked (cabinet g a)) la)
+    ∙ sim-emptied 8 _ a two (omega arith) la
+    ∙ ap (λ (x : View). vEmptied 8 x a)
+    (sim-raise _ one a (AtTripped a) la
+    ∙ ap (λ (x : View). vBroadcast (vSilenced (vAlarmed x a (AtTripped a)) a) a (Fault (AtTripped a))) (view-cabinet g (w .frame) a (blanked (cabinet g a)) la))
+
 -- the cut
 abbrev pub vCut : View → ℕ → View
 vCut v i = setCabinet v i (oPhase (v .own i) Checkpointing (v .own i .version) (v .own i .alarm)) (v .side i)
@@ -392,7 +464,8 @@ sim-version g w x y l = view-cabinet g (w .frame) x (withVersion (cabinet g x) y
 
 note-at : (p : Place) (g : Group) (y : Version) → Fit g → Versions (view g) (view (noteAt p g y))
 note-at (AtLink x z) g y w = same-versions (view g)
-note-at (AtCabinet x) g y w = elim (decLt x 8) [
+note-at (AtTripped x) g y w = same-versions (view g)
+note-at (AtFailed x) g y w = elim (decLt x 8) [
   | no n ↦ subst (λ (u : Group). Versions (view g) (view u)) (sym (no-cabinet g w x (withVersion (cabinet g x) y) (omega arith))) (same-versions (view g))
   | yes l ↦ subst (Versions (view g)) (sym (sim-version g w x y l)) (record {
     own = λ c. upd-elim (λ (o : Own). (z : Version) × (o ≡ oVersion (view g .own c) z)) (view g .own) x (oVersion (view g .own x) y) c

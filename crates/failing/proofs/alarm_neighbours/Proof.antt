@@ -9,10 +9,10 @@ use Rattle.failing.proofs.alarm_neighbours.Statement.{statement}
 use Rattle.failing.proofs.alarm_neighbours.Tie as tie
 
 abbrev Inv-loop : tie.InvT-loop
-Inv-loop g a h₀ i₀ h i = (i ≤ 8) × (h ≡ alarmTo i g a)
+Inv-loop g a p h₀ i₀ h i = (i ≤ 8) × (h ≡ alarmTo i g a p)
 
 abbrev μ-loop : tie.MeasureT-loop
-μ-loop g a h₀ i₀ h i = 8 - i
+μ-loop g a p h₀ i₀ h i = 8 - i
 
 loop-holds : tie.Need-loop-holds Inv-loop μ-loop
 unfolding alarmTo

@@ -7,7 +7,7 @@ use borrow.Author.Needs.{needs}
 use Rattle.cabinet.specs.declared.Cabinet.{Cabinet}
 use Rattle.cabinet.specs.Cabinet.{absent, cutting}
 use Rattle.group.specs.declared.Group.{Group}
-use Rattle.group.specs.Group.{cabinet, withCabinet}
+use Rattle.group.specs.Group.{cabinet, withCabinet, withCabinets}
 use Rattle.protocol.specs.Moves.{takeCheckp, cutIfAll}
 use Rattle.linkcheck.proofs.take_checkp.Statement.{statement}
 use Rattle.linkcheck.proofs.take_checkp.Tie as tie
@@ -19,9 +19,7 @@ set-twice f d (y ∷ l) (suc i) x = ap (λ m. y ∷ m) (set-twice f d l i x)
 
 cut-stored : (g : Group) (i : ℕ) (c : Cabinet) → cutIfAll (withCabinet g i c) i ≡ withCabinet g i (cutting c)
 unfolding cutIfAll withCabinet cabinet
-cut-stored g i c =
-    ap (λ m. record { n = g .n; cabinets = m; links = g .links; sound = g .sound; outgoing = g .outgoing; store = g .store })
-    (set-twice cutting absent (g .cabinets) i c)
+cut-stored g i c = ap (withCabinets g) (set-twice cutting absent (g .cabinets) i c)
 
 returns : tie.Need-returns
 unfolding takeCheckp

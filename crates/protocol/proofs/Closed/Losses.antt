@@ -6,7 +6,7 @@ use Rattle.marks.specs.Marks.{lowest, covers, both}
 use Rattle.marks.specs.Reach.{struck, connected}
 use Rattle.packet.specs.declared.Packet.the-variants.{Normal as NormalPacket}
 use Rattle.outgoing.specs.Lines.{emptyLines, lineTo, withLineTo, putAll, putCheckps}
-use Rattle.group.specs.Group.{cabinet, withCabinet, outgoing, withOutgoing, line, withLine, blankSlots, slot, withSlots, withSlot, rowsOf, ofRows, withSound, some, working, recoveringOnes, isCrashed, crashAll, sum}
+use Rattle.group.specs.Group.{cabinet, withCabinet, outgoing, withOutgoing, line, withLine, blankSlots, slot, withSlots, withSlot, rowsOf, ofRows, withSound, some, working, recoveringOnes, forgetTrips, isCrashed, crashAll, sum}
 use Rattle.load.specs.Load.{load}
 use Rattle.protocol.specs.Moves.{broadcast, join, cutIfAll, takeCheckp, resumeWith, commit, adopt, recoverWith, raise, enterError, hear, findLinkFault, markFailed, alarmTo, endRecovery, noteLost}
 use Rattle.protocol.specs.Receive.{receiveNormal, receiveCheckp, receiveResume, receiveRecover, receiveFault}
@@ -23,7 +23,7 @@ unfolding crcBit crcBits crcOctet crcFrom
 crc-unmoved = (refl, refl)
 
 pub loss-found : found silent-loss ≡ silent-loss-finds
-unfolding crcBit crcBits crcOctet crcFrom lowest covers both struck connected emptyLines lineTo withLineTo putAll putCheckps cabinet withCabinet outgoing withOutgoing line withLine blankSlots slot withSlots withSlot rowsOf ofRows withSound some working recoveringOnes isCrashed sum load broadcast join cutIfAll takeCheckp resumeWith commit adopt recoverWith raise enterError hear findLinkFault endRecovery noteLost receiveNormal receiveCheckp receiveResume receiveRecover receiveFault sent sendStep noteStep beginStep delivered deliverStep writePiece writeStep reportSaved commitIfAll savedStep fetchPiece fetchStep reportRestored endIfAll restoredStep lost loseStep step operate upd logged advance walk found
+unfolding crcBit crcBits crcOctet crcFrom lowest covers both struck connected emptyLines lineTo withLineTo putAll putCheckps cabinet withCabinet outgoing withOutgoing line withLine blankSlots slot withSlots withSlot rowsOf ofRows withSound some working recoveringOnes forgetTrips isCrashed sum load broadcast join cutIfAll takeCheckp resumeWith commit adopt recoverWith raise enterError hear findLinkFault endRecovery noteLost receiveNormal receiveCheckp receiveResume receiveRecover receiveFault sent sendStep noteStep beginStep delivered deliverStep writePiece writeStep reportSaved commitIfAll savedStep fetchPiece fetchStep reportRestored endIfAll restoredStep lost loseStep step operate upd logged advance walk found
 loss-found = refl
 
 pub two-and-one : TwoAndOne

@@ -3,12 +3,12 @@ use mathlib.Core.Path.{_≡_, refl}
 use mathlib.Core.Bool.{false}
 use mathlib.Core.List.{_++_}
 use Rattle.crc.specs.Crc.{crcBit, crcBits, crcOctet, crcFrom, crc}
-use Rattle.marks.specs.Marks.{lowest, covers, both}
+use Rattle.marks.specs.Marks.{lowest, covers, both, nextUp}
 use Rattle.marks.specs.Reach.{struck, connected}
 use Rattle.packet.specs.Packet.{octetsOf, isEmpty}
 use Rattle.line.specs.Line.{oldest}
 use Rattle.outgoing.specs.Lines.{emptyLines, lineTo, withLineTo, putAll, putCheckps}
-use Rattle.group.specs.Group.{cabinet, withCabinet, outgoing, withOutgoing, line, withLine, blankSlots, slot, withSlots, withSlot, rowsOf, ofRows, withSound, some, working, recoveringOnes, unsure, isCrashed, crashAll, sum}
+use Rattle.group.specs.Group.{cabinet, withCabinet, outgoing, withOutgoing, line, withLine, blankSlots, slot, withSlots, withSlot, rowsOf, ofRows, withSound, some, working, recoveringOnes, unsure, forgetTrips, isCrashed, crashAll, sum}
 use Rattle.load.specs.Load.{load}
 use Rattle.protocol.specs.Moves.{broadcast, join, cutIfAll, takeCheckp, resumeWith, commit, adopt, recoverWith, raise, enterError, hear, findLinkFault, markFailed, alarmTo, endRecovery, noteLost}
 use Rattle.protocol.specs.Receive.{receiveNormal, receiveCheckp, receiveResume, receiveRecover, receiveFault, receiveInvalid}
@@ -19,7 +19,7 @@ use Rattle.protocol.specs.Tempting.{linkParts, answered, AllAsWritten}
 
 -- every record of every run gets the answer that the paper gives
 pub runs-answered : AllAsWritten
-unfolding crcBit crcBits crcOctet crcFrom lowest covers both struck connected emptyLines lineTo withLineTo putAll putCheckps cabinet withCabinet outgoing withOutgoing line withLine blankSlots slot withSlots withSlot rowsOf ofRows withSound some working recoveringOnes unsure isCrashed crashAll sum load broadcast join cutIfAll takeCheckp resumeWith commit adopt recoverWith raise enterError hear findLinkFault markFailed alarmTo endRecovery noteLost receiveNormal receiveCheckp receiveResume receiveRecover receiveFault receiveInvalid sent sendStep noteStep beginStep delivered deliverStep writePiece writeStep reportSaved commitIfAll savedStep fetchPiece fetchStep reportRestored endIfAll restoredStep waitOverStep failStep hurt damageStep step answersFrom answered
+unfolding crcBit crcBits crcOctet crcFrom lowest covers both nextUp struck connected emptyLines lineTo withLineTo putAll putCheckps cabinet withCabinet outgoing withOutgoing line withLine blankSlots slot withSlots withSlot rowsOf ofRows withSound some working recoveringOnes unsure forgetTrips isCrashed crashAll sum load broadcast join cutIfAll takeCheckp resumeWith commit adopt recoverWith raise enterError hear findLinkFault markFailed alarmTo endRecovery noteLost receiveNormal receiveCheckp receiveResume receiveRecover receiveFault receiveInvalid sent sendStep noteStep beginStep delivered deliverStep writePiece writeStep reportSaved commitIfAll savedStep fetchPiece fetchStep reportRestored endIfAll restoredStep waitOverStep failStep hurt damageStep step answersFrom answered
 runs-answered = (refl, refl, refl, refl, refl, refl, refl, refl, refl, refl, refl, refl, refl, refl, refl, refl, refl, refl, refl, refl, refl, refl, refl, refl, refl, refl, refl)
 
 -- what `hurtTwice` asks for would not be seen by a comparison

@@ -40,8 +40,12 @@ returns-11 c = λ g e f. rw (c .enum-told11 .given .1)
 returns-12 : tie.Need-returns-12
 returns-12 c = λ g e f. e ∙ rw (c .enum-told12 .given .1)
 
+returns-13 : tie.Need-returns-13
+returns-13 c = λ g e f. e ∙ rw (c .enum-told13 .given .1)
+
 pub actor-works-spec : {M : Type 1} → statement M
 actor-works-spec = tie.close (tie.spec
+    (λ c. search needs)
     (λ c. search needs)
     (λ c. search needs)
     (λ c. search needs)
@@ -65,4 +69,5 @@ actor-works-spec = tie.close (tie.spec
     returns-9
     returns-10
     returns-11
-    returns-12)
+    returns-12
+    returns-13)

@@ -22,7 +22,7 @@ cab-lines-spec = tie.close (tie.spec Inv-loop μ-loop
     (λ c. (search needs, nothing _ _))
     (λ c κs. search needs)
     (λ c κs. search needs)
-    (λ c. search needs)
+    (λ c. let most = c .before .before .before .before .before .before .before .before .good .1 .1 .0 .1 .1 .0 .1 in search needs)
     (λ c. search needs)
     (λ c.
     let l = c .before .before .before .before .before .before .loop in

@@ -8,5 +8,6 @@ lost-coordinator-spec = tie.close (tie.spec
     (λ c. search needs)
     (λ c. search needs)
     (λ c κs. search needs)
+    (λ c κs. search needs)
     (λ c. rw (c .enum-told .given .1))
-    (λ c. rw (c .lost-place .ensures, c .before .before .alarm .given .1)))
+    (λ c. rw (c .and .ensures, c .before .joined-to .ensures, c .before .before .before .alarm .given .1)))

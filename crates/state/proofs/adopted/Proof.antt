@@ -1,4 +1,4 @@
--- `adopted`, by the two cases of a version.
+-- `adopted`, by the three cases of a version.
 use borrow.Author.Needs.{needs}
 use Rattle.state.proofs.adopted.Statement.{statement}
 use Rattle.state.proofs.adopted.Tie as tie
@@ -7,5 +7,7 @@ pub adopted-spec : {M : Type 1} → statement M
 adopted-spec = tie.close (tie.spec
     (λ c. search needs)
     (λ c. search needs)
+    (λ c. search needs)
     (λ c. rw (c .before .v .given .1))
-    (λ c. rw (c .before .v2 .given .1)))
+    (λ c. rw (c .before .v2 .given .1))
+    (λ c. rw (c .enum-told .given .1)))

@@ -1,4 +1,4 @@
--- `struck_at`, by the two cases of a place.
+-- `struck_at`, by the three cases of a place.
 use borrow.Author.Needs.{needs}
 use Rattle.table.proofs.struck_at.Statement.{statement}
 use Rattle.table.proofs.struck_at.Tie as tie
@@ -8,6 +8,8 @@ struck-at-spec = tie.close (tie.spec
     (λ c. search needs)
     (λ c κs. search needs)
     (λ c. search needs)
+    (λ c. search needs)
     (λ c κs. search needs)
     (λ c. rw (c .set-mark .ensures, c .before .before .place .given .1))
+    (λ c. rw (c .enum-told .given .1))
     (λ c. rw (c .without-link .ensures, c .before .before .place2 .given .1)))

@@ -11,4 +11,5 @@ alarmed-spec = tie.close (tie.spec
     (λ c κs. search needs)
     (λ c κs. search needs)
     (λ c κs. search needs)
-    (λ c. simp (c .with-noted .ensures, c .before .nothing-noted .ensures, c .before .before .with-owed .ensures, c .before .before .before .with-table .ensures, c .before .before .before .before .with-phase .ensures, c .before .before .before .before .before .struck-at .ensures)))
+    (λ c κs. search needs)
+    (λ c. rw (c .with-noted .ensures, c .before .with-owed .ensures, c .before .before .with-table .ensures, c .before .before .before .with-phase .ensures, c .before .before .before .before .faulted-at .ensures, c .before .before .before .before .before .fault-noted .ensures, c .before .before .before .before .before .before .is-at .ensures)))

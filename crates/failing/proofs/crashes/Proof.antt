@@ -1,0 +1,13 @@
+-- `crashes` is the three tests of its contract.
+use borrow.Author.Needs.{needs}
+use Rattle.failing.proofs.crashes.Statement.{statement}
+use Rattle.failing.proofs.crashes.Tie as tie
+
+pub crashes-spec : {M : Type 1} → statement M
+crashes-spec = tie.close (tie.spec
+    (λ c κs. search needs)
+    (λ c κs. search needs)
+    (λ c κs. search needs)
+    (λ c κs. search needs)
+    (λ c κs. search needs)
+    (λ c. rw (c .or2 .ensures, c .before .or .ensures, c .before .before .some .ensures, c .before .before .before .recovering-ones .ensures, c .before .before .before .before .cabinet .ensures)))

@@ -1,0 +1,110 @@
+//! A choice among cases: few that reach as much of what is counted as all of them do.
+
+use crate::listing::Tally;
+use std::collections::{BTreeMap, BTreeSet};
+use std::fmt::Debug;
+
+/// The places of at most `most` of the cases, rising. One after the other is chosen by what it
+/// reaches; that counts the less, the more of those chosen before reach it.
+pub fn most_telling(tallies: &[Tally], most: usize) -> Vec<usize> {
+    let marks: Vec<BTreeSet<String>> = tallies.iter().map(marks).collect();
+    let mut left: BTreeSet<usize> = (0..tallies.len()).collect();
+    let mut reached: BTreeMap<&str, u32> = BTreeMap::new();
+    let mut chosen = BTreeSet::new();
+    while chosen.len() < most {
+        let worth = |place: &usize| marks[*place].iter().map(|mark| worth(&reached, mark)).sum();
+        let best = left.iter().rev().max_by_key(|place| -> u64 { worth(place) }).copied();
+        let Some(best) = best else {
+            break;
+        };
+        left.remove(&best);
+        chosen.insert(best);
+        for mark in &marks[best] {
+            *reached.entry(mark).or_default() += 1;
+        }
+    }
+    chosen.into_iter().collect()
+}
+
+/// A quarter for each case chosen before that reaches it too.
+fn worth(reached: &BTreeMap<&str, u32>, mark: &str) -> u64 {
+    let times = reached.get(mark).copied().unwrap_or_default();
+    1 << (20 - 2 * times.min(10))
+}
+
+/// The names of the counts of a case at which something is counted.
+fn marks(tally: &Tally) -> BTreeSet<String> {
+    let (outlets, losses, trips) = (&tally.outlets, &tally.losses, &tally.trips);
+    let numbers = [
+        ("commits", tally.commits),
+        ("recoveries", tally.recoveries_ended),
+        ("passed over", tally.saves_passed_over),
+        ("link faults", tally.link_faults),
+        ("refused for p", outlets.sends_refused_for_p),
+        ("recoveries changing B", outlets.recoveries_changing_b),
+        ("loss", losses.taken),
+        ("loss before others", losses.taken_before_others),
+        ("damage after a loss", losses.damage_refused),
+        ("recoveries after a loss", losses.recoveries_ended),
+        ("commits after that", losses.commits_after_recovery),
+        ("trip", trips.taken),
+        ("trip of a coordinator", trips.of_coordinators),
+        ("trip of one that joins", trips.of_joining_cabinets),
+        ("third trip", trips.taken_as_fails),
+        ("third trip of a coordinator", trips.fails_of_coordinators),
+        ("recoveries after a trip", trips.recoveries_ended),
+        ("passed over by a trip", trips.saves_passed_over),
+        ("begin by a moved lead", trips.begins_by_moved_lead),
+        ("commit by a moved lead", trips.commits_by_moved_lead),
+        ("fail of a moved lead", trips.fails_of_moved_lead),
+        ("wait over after a trip", trips.waits_over),
+        ("wait over refused", trips.waits_refused_alone),
+        ("wait over refused beside", trips.waits_refused_for_others),
+        ("link fault after a trip", trips.link_faults),
+        ("commit after a trip", trips.commits),
+        ("report on a tripped one", trips.reports),
+        ("reports on all others", trips.reports_before_its),
+    ];
+    let reached = numbers.iter().filter(|(_, count)| *count > 0);
+    let mut marks: BTreeSet<String> = reached.map(|(name, _)| name.to_string()).collect();
+    add_keys(&mut marks, "load", &tally.loads_refused);
+    add_keys(&mut marks, "answer", &tally.answers);
+    add_keys(&mut marks, "kind", &tally.kinds_taken);
+    add_keys(&mut marks, "crash", &tally.crashes);
+    add_keys(&mut marks, "covered", &outlets.sends_otherwise_covered);
+    add_keys(&mut marks, "compared", &outlets.faults_by_comparison);
+    add_keys(&mut marks, "loss refused", &losses.refused);
+    add_keys(&mut marks, "loss found", &losses.found);
+    add_keys(&mut marks, "trip in", &trips.taken_in);
+    add_keys(&mut marks, "after two trips", &trips.after_two);
+    add_keys(&mut marks, "trip refused", &trips.refused);
+    add_keys(&mut marks, "crash by trip", &trips.crashes);
+    add_keys(&mut marks, "point", &tally.point_answers);
+    add_keys(&mut marks, "return", &tally.return_answers);
+    add_keys(&mut marks, "sight", &tally.sights);
+    marks
+}
+
+fn add_keys<K: Debug>(marks: &mut BTreeSet<String>, name: &str, counts: &BTreeMap<K, u64>) {
+    marks.extend(counts.keys().map(|key| format!("{name} {key:?}")));
+}
+
+#[cfg(test)]
+mod tests {
+    use super::*;
+
+    fn with_answers(answers: &[u8]) -> Tally {
+        let answers = answers.iter().map(|&answer| (answer, 1)).collect();
+        Tally { answers, ..Tally::default() }
+    }
+
+    #[test]
+    fn what_is_not_reached_yet_counts_most() {
+        let tallies = [&[0][..], &[0, 8], &[0, 8], &[9], &[0]].map(with_answers);
+        assert_eq!(most_telling(&tallies, 1), [1]);
+        assert_eq!(most_telling(&tallies, 2), [1, 3]);
+        assert_eq!(most_telling(&tallies, 3), [1, 2, 3]);
+        assert_eq!(most_telling(&tallies, 4), [0, 1, 2, 3]);
+        assert_eq!(most_telling(&tallies, 9), [0, 1, 2, 3, 4]);
+    }
+}
