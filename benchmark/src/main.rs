@@ -11,7 +11,7 @@ use std::time::{Duration, Instant};
 const SEED: u64 = 1;
 const CASES: u64 = 40;
 const RUNS: usize = 7;
-const HIGHEST_KIND: u8 = 13;
+const HIGHEST_KIND: u8 = 14;
 
 /// No listing is longer.
 const TEXT_MOST: usize = 200_000;

@@ -4,11 +4,14 @@
 pub mod losses;
 pub mod plans;
 mod trips;
+mod unsure;
 
 use crate::model::{
     self, Crash, Ends, Event, Group, Number, Outcome, Packet, State, CRASHED, KINDS, TAKEN,
+    WITHDRAWN_KIND,
 };
 use std::collections::VecDeque;
+use unsure::Doubt;
 
 pub type Record = [u8; 6];
 
@@ -33,6 +36,10 @@ pub struct Wishes {
 impl Wishes {
     fn trips(&self) -> bool {
         self.highest_kind >= 13
+    }
+
+    fn reports(&self) -> bool {
+        self.highest_kind >= 14
     }
 }
 
@@ -89,7 +96,7 @@ pub fn case_seed(seed: u64, index: u64) -> u64 {
 
 pub fn make_case(seed: u64, wishes: Wishes) -> Case {
     let mut dice = Dice::new(seed);
-    let draft = GroupDraft::sound(&mut dice, wishes.cabinets);
+    let draft = draft_that_may_lose_its_lead(&mut dice, wishes.cabinets);
     let damaged = wishes.cabinets.is_none() && dice.per_thousand(60);
     let (group, length) = if damaged {
         (damaged_group_file(&mut dice, draft), dice.below(5))
@@ -98,6 +105,22 @@ pub fn make_case(seed: u64, wishes: Wishes) -> Case {
     };
     let steps = make_steps(&mut dice, &group, wishes, length);
     Case { group, steps }
+}
+
+/// Mostly any group; else rather one that does not crash where the coordinator is lost, and in
+/// which the next one does not see it.
+fn draft_that_may_lose_its_lead(dice: &mut Dice, cabinets: Option<usize>) -> GroupDraft {
+    let (tries, afar) = dice.pick(&[(0, false), (0, false), (5, false), (10, true)]);
+    let mut draft = GroupDraft::sound(dice, cabinets);
+    for _ in 0..tries {
+        let loses = |group: Group| group.crash_by_failing(1).is_none();
+        let seen = draft.links.contains(&(1, 2));
+        if model::load(&draft.octets()).is_ok_and(loses) && !(afar && seen) {
+            break;
+        }
+        draft = GroupDraft::sound(dice, cabinets);
+    }
+    draft
 }
 
 /// As many records as a listing reads.
@@ -221,8 +244,12 @@ fn shares(dice: &mut Dice, total: usize, parts: usize) -> Vec<u16> {
 }
 
 /// A random tree, or now and then a ring, and each further link with a chance from none to all.
+/// In half of them the numbers are dealt anew: else 1 and 2 are always linked.
 fn connected_links(dice: &mut Dice, n: u8) -> Vec<(u8, u8)> {
     let mut links = if dice.per_thousand(150) { ring(n) } else { random_tree(dice, n) };
+    if dice.per_thousand(500) {
+        links = renumbered(dice, n, &links);
+    }
     let chance = dice.pick(&[0, 200, 400, 700, 1000]);
     for low in 1..n {
         for high in low + 1..=n {
@@ -238,6 +265,14 @@ fn connected_links(dice: &mut Dice, n: u8) -> Vec<(u8, u8)> {
 
 fn random_tree(dice: &mut Dice, n: u8) -> Vec<(u8, u8)> {
     (2..=n).map(|cabinet| (1 + dice.below(usize::from(cabinet) - 1) as u8, cabinet)).collect()
+}
+
+fn renumbered(dice: &mut Dice, n: u8, links: &[(u8, u8)]) -> Vec<(u8, u8)> {
+    let mut left: Vec<u8> = (1..=n).collect();
+    let dealt: Vec<u8> = (1..=n).map(|_| left.swap_remove(dice.below(left.len()))).collect();
+    let number = |old: u8| dealt[usize::from(old) - 1];
+    let link = |&(a, b): &(u8, u8)| (number(a).min(number(b)), number(a).max(number(b)));
+    links.iter().map(link).collect()
 }
 
 fn ring(n: u8) -> Vec<(u8, u8)> {
@@ -365,7 +400,7 @@ fn add_to_number(file: &mut [u8], offset: usize, more: u16) {
 /// How a run behaves; drawn anew for each case. Chances are per thousand.
 struct Temper {
     /// Weight of each kind among sensible steps; entry 0 is not used.
-    weights: [usize; 14],
+    weights: [usize; 15],
     foolish: usize,
     /// Chance of a step that comes too soon.
     hasty: usize,
@@ -373,6 +408,12 @@ struct Temper {
     bold: usize,
     /// Chance that the step after a commit strikes at it.
     strike_after_commit: usize,
+    /// Chance that the coordinator is lost while nobody else knows its version.
+    strike_in_save: usize,
+    /// Chance of a report that is refused, where one would be taken.
+    refused_reports: usize,
+    /// Whether saves are brought on until the coordinator is lost.
+    doubtful: bool,
     /// A cabinet to which packets other than fault are seldom delivered.
     slow: Option<Number>,
     /// A cabinet that seldom writes and may fail when only its own report is missing.
@@ -400,7 +441,7 @@ fn some_stumbler(dice: &mut Dice, group: &Group) -> Option<Number> {
 
 impl Temper {
     fn drawn(dice: &mut Dice, group: &Group, wishes: Wishes) -> Temper {
-        let mut weights = [0, 250, 15, 0, 300, 160, 120, 160, 120, 80, 0, 0, 0, 0];
+        let mut weights = [0, 250, 15, 0, 300, 160, 120, 160, 120, 0, 0, 0, 0, 0, 120];
         for weight in &mut weights {
             *weight = *weight * dice.pick(&[1, 2, 4]) / 2;
         }
@@ -409,12 +450,18 @@ impl Temper {
         weights[11] = if wishes.damage { dice.pick(&[0, 6, 12, 40]) } else { 0 };
         weights[12] = if wishes.damage { dice.pick(&[0, 6, 12, 40]) } else { 0 };
         weights[13] = if wishes.trips() { dice.pick(&[0, 5, 15, 40]) } else { 0 };
+        if !wishes.reports() {
+            weights[14] = 0;
+        }
         Temper {
             weights,
             foolish: dice.pick(&[0, 20, 80, 250]),
             hasty: dice.pick(&[0, 20, 80]),
             bold: dice.pick(&[0, 0, 20, 150]),
             strike_after_commit: dice.pick(&[0, 200, 700]),
+            strike_in_save: dice.pick(&[0, 200, 600]),
+            refused_reports: dice.pick(&[0, 50, 200]),
+            doubtful: wishes.reports() && dice.per_thousand(400),
             slow: some_cabinet(dice, group, 400),
             laggard: some_cabinet(dice, group, 300),
             talker: some_cabinet(dice, group, 300),
@@ -479,11 +526,13 @@ struct Run<'a> {
     twice_before: Option<Number>,
     /// A cabinet with two trips before the last commit.
     pardoned: Option<Number>,
+    doubt: Doubt,
 }
 
 impl Run<'_> {
     fn new(dice: &mut Dice, group: Group, wishes: Wishes) -> Run<'_> {
         let temper = Temper::drawn(dice, &group, wishes);
+        let save_first = if temper.doubtful { 400 } else { 0 };
         Run {
             dice,
             group,
@@ -492,11 +541,12 @@ impl Run<'_> {
             last_event: Event::Nothing,
             reports_first: 0,
             to_follow: VecDeque::new(),
-            save_first: 0,
+            save_first,
             lost_since_recovery: false,
             trip_first: 0,
             twice_before: None,
             pardoned: None,
+            doubt: Doubt::default(),
         }
     }
 
@@ -519,8 +569,10 @@ impl Run<'_> {
         let outcome = self.group.step(&record, self.wishes.highest_kind);
         self.last_event = outcome.event;
         self.note_pardons(outcome.event);
-        if record[0] == 12 && outcome.answer == TAKEN {
-            self.after_loss(record);
+        match (record[0], outcome.answer) {
+            (12, TAKEN) => self.after_loss(record),
+            (10 | 13, TAKEN) => self.after_fault(),
+            _ => {}
         }
         if matches!(outcome.event, Event::RecoveryEnd { .. }) {
             self.after_recovery();
@@ -559,15 +611,18 @@ impl Run<'_> {
                 return record;
             }
         }
-        if let Some(record) = self.fail_before_its_report() {
+        let strike = self.chance_to_strike_in_save();
+        if self.dice.per_thousand(strike) {
+            if let Some(record) = self.lead().and_then(|lead| self.safe_fault_of(lead)) {
+                return record;
+            }
+        }
+        if let Some(record) = self.fail_before_its_report().or_else(|| self.eager_report()) {
             return record;
         }
         let sly = self.temper.sly;
         if self.dice.per_thousand(sly) {
-            let with_its_own = self.dice.per_thousand(600);
-            let beside = self.trip_beside_a_link_fault();
-            let trip = beside.or_else(|| self.trip_before_the_reports(with_its_own));
-            if let Some(record) = trip {
+            if let Some(record) = self.sly_fault() {
                 return record;
             }
         }
@@ -577,15 +632,23 @@ impl Run<'_> {
                 return record;
             }
         }
-        let rest = [9, 8, 7, 6, 5, 4, 1, 2, 3];
+        let rest = [14, 8, 7, 6, 5, 4, 1, 2, 3];
         let found = rest.into_iter().find_map(|kind| self.sensible_record(kind));
         found.unwrap_or_else(|| self.foolish_record())
+    }
+
+    /// Where others are about to find a link fault or to commit.
+    fn sly_fault(&mut self) -> Option<Record> {
+        let with_its_own = self.dice.per_thousand(600);
+        let beside = self.trip_beside_a_link_fault();
+        let trip = beside.or_else(|| self.trip_before_the_reports(with_its_own));
+        trip.or_else(|| self.fault_beside_a_hurt_lead())
     }
 
     /// A damage or loss that was meant for another moment would crash the group.
     fn next_to_follow(&mut self) -> Option<Record> {
         if self.group.recovery_under_way() {
-            self.to_follow.retain(|record| [4, 6].contains(&record[0]));
+            self.to_follow.retain(|record| [4, 6, 14].contains(&record[0]));
         }
         self.to_follow.pop_front()
     }
@@ -667,10 +730,6 @@ impl Run<'_> {
             1 => self.sensible_send(),
             2 => self.sensible_note(),
             4 => self.sensible_deliver(),
-            9 => {
-                let refused = self.refused_wait_over();
-                refused.or_else(|| self.sensible_single(9))
-            }
             10 => self.sensible_fail(),
             11 if self.dice.per_thousand(150) => self.second_hurt(11),
             11 => {
@@ -679,6 +738,7 @@ impl Run<'_> {
             }
             12 => self.sensible_loss(),
             13 => self.sensible_trip(),
+            14 => self.sensible_report(),
             _ => self.sensible_single(kind),
         }
     }
@@ -882,13 +942,13 @@ impl Run<'_> {
             (6, State::Checkpointed),
             (7, State::Recovering),
             (8, State::Recovered),
-            (9, State::Error),
-            (9, State::Error),
+            (14, State::Error),
+            (14, State::Error),
         ]);
         let fits = |a: &Number| self.group.cabinet(*a).state == state;
         let fitting: Vec<Number> = self.group.numbers().filter(fits).collect();
         let cabinet = self.dice.pick_any(&fitting)?;
-        Some(record(kind, cabinet, 0, 0, 0))
+        (kind <= self.wishes.highest_kind).then(|| record(kind, cabinet, 0, 0, 0))
     }
 
     /// A well-formed step that asks for nothing, or one that is malformed as well.
@@ -905,10 +965,15 @@ impl Run<'_> {
     }
 
     fn random_record(&mut self) -> Record {
-        let kinds = if self.wishes.damage { 12 } else { 10 };
-        let mut kind = self.dice.between(1, kinds) as u8;
+        let mut kind = self.dice.pick(&[1, 2, 3, 4, 5, 6, 7, 8, 10, 14]);
+        if self.wishes.damage && self.dice.per_thousand(170) {
+            kind = self.dice.pick(&[11, 12]);
+        }
+        if kind == 14 && !self.wishes.reports() {
+            kind = 8;
+        }
         if kind == 10 && !self.dice.per_thousand(30) {
-            kind = 9; // a fail is nearly always taken, and then it mostly crashes the group
+            kind = 8; // a fail is nearly always taken, and then it mostly crashes the group
         }
         if kind == 10 && self.wishes.trips() && self.dice.per_thousand(500) {
             kind = 13;
@@ -942,7 +1007,7 @@ impl Run<'_> {
     fn with_unknown_kind(&mut self, mut record: Record) -> Record {
         let beyond = KINDS + 1;
         let any = self.dice.between(usize::from(beyond), 255) as u8;
-        record[0] = self.dice.pick(&[0, beyond, 255, any]);
+        record[0] = self.dice.pick(&[0, WITHDRAWN_KIND, beyond, 255, any]);
         record
     }
 
@@ -976,6 +1041,7 @@ mod tests {
     use crate::model::Outlet;
     use crate::outlets::Cover;
     use crate::trips::Between;
+    use crate::unsure::{Lost, Refusal};
 
     fn wishes(damage: bool) -> Wishes {
         Wishes { damage, highest_kind: KINDS, cabinets: None }
@@ -1045,9 +1111,30 @@ mod tests {
         assert!(causes.iter().all(|cause| counts.crashes.contains_key(cause)));
         assert!(counts.recoveries_ended > 0 && counts.saves_passed_over > 0);
         assert!(counts.begins_by_moved_lead > 0 && counts.commits_by_moved_lead > 0);
-        assert!(counts.waits_over > 0 && counts.waits_refused_alone > 0);
         assert!(counts.taken_in.len() == 4 && counts.fails_of_moved_lead > 0);
         assert!(counts.link_faults > 0 && counts.places_met > 0 && counts.commits > 0);
+    }
+
+    #[test]
+    fn where_reports_are_unknown_no_record_has_kind_14() {
+        for index in 0..200 {
+            let earlier = Wishes { highest_kind: 13, ..wishes(true) };
+            let case = make_case(case_seed(3, index), earlier);
+            assert!(case.steps.chunks_exact(6).all(|record| record[0] != 14));
+        }
+    }
+
+    #[test]
+    fn the_cases_reach_what_reports_bring() {
+        let counts = tally_of(600, wishes(true)).unsure;
+        assert!(counts.taken > 0 && counts.of_tripped > 0 && counts.before_all_know > 0);
+        assert!(counts.refused.keys().eq(&Refusal::ALL));
+        let lost = [Lost::Failed, Lost::Tripped];
+        assert!(counts.decisions.keys().eq(&lost) && counts.recoveries_ended.keys().eq(&lost));
+        assert!(counts.decisions.values().all(|&decisions| decisions > 30));
+        assert!(counts.by_anothers_report > 0 && counts.by_one_not_joined > 0);
+        assert!(counts.saves_passed_over > 0 && counts.recoveries_by_recover > 0);
+        assert!(counts.withdrawn > 0 && counts.withdrawn_where_all_wait > 0);
     }
 
     fn uses_a_hurt_line(group: &Group) -> bool {

@@ -35,6 +35,7 @@ fn worth(reached: &BTreeMap<&str, u32>, mark: &str) -> u64 {
 /// The names of the counts of a case at which something is counted.
 fn marks(tally: &Tally) -> BTreeSet<String> {
     let (outlets, losses, trips) = (&tally.outlets, &tally.losses, &tally.trips);
+    let unsure = &tally.unsure;
     let numbers = [
         ("commits", tally.commits),
         ("recoveries", tally.recoveries_ended),
@@ -57,13 +58,19 @@ fn marks(tally: &Tally) -> BTreeSet<String> {
         ("begin by a moved lead", trips.begins_by_moved_lead),
         ("commit by a moved lead", trips.commits_by_moved_lead),
         ("fail of a moved lead", trips.fails_of_moved_lead),
-        ("wait over after a trip", trips.waits_over),
-        ("wait over refused", trips.waits_refused_alone),
-        ("wait over refused beside", trips.waits_refused_for_others),
         ("link fault after a trip", trips.link_faults),
         ("commit after a trip", trips.commits),
         ("report on a tripped one", trips.reports),
         ("reports on all others", trips.reports_before_its),
+        ("unsure", unsure.taken),
+        ("unsure after a trip", unsure.of_tripped),
+        ("unsure before all know", unsure.before_all_know),
+        ("unsure at another place", unsure.at_another_place),
+        ("decision by another's report", unsure.by_anothers_report),
+        ("decision by one not joined", unsure.by_one_not_joined),
+        ("passed over by a decision", unsure.saves_passed_over),
+        ("recover after some reports", unsure.recoveries_by_recover),
+        ("kind withdrawn", unsure.withdrawn),
     ];
     let reached = numbers.iter().filter(|(_, count)| *count > 0);
     let mut marks: BTreeSet<String> = reached.map(|(name, _)| name.to_string()).collect();
@@ -79,6 +86,9 @@ fn marks(tally: &Tally) -> BTreeSet<String> {
     add_keys(&mut marks, "after two trips", &trips.after_two);
     add_keys(&mut marks, "trip refused", &trips.refused);
     add_keys(&mut marks, "crash by trip", &trips.crashes);
+    add_keys(&mut marks, "unsure refused", &unsure.refused);
+    add_keys(&mut marks, "decision", &unsure.decisions);
+    add_keys(&mut marks, "recovery decided", &unsure.recoveries_ended);
     add_keys(&mut marks, "point", &tally.point_answers);
     add_keys(&mut marks, "return", &tally.return_answers);
     add_keys(&mut marks, "sight", &tally.sights);

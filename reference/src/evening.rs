@@ -385,7 +385,7 @@ mod tests {
     #[test]
     fn malformed_records_are_named_by_their_first_octet() {
         let odd = vec![0, 3, 1, 0, 0, 0, 0, 0, 1];
-        let plan = [odd, vec![3; 9], step([14, 0, 0, 0, 0, 0]), vec![1, 0]];
+        let plan = [odd, vec![3; 9], step([15, 0, 0, 0, 0, 0]), vec![1, 0]];
         let answers = "step 1 8\nstep 2 8\nstep 3 8\npoint 4 8\n";
         assert_eq!(printed(&plan), format!("{answers}{CABINETS}"));
         assert_eq!(printed(&[vec![2; 8]]), format!("return 1 8\n{CABINETS}"));

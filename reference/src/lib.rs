@@ -13,5 +13,8 @@ pub mod ops;
 pub mod outlets;
 pub mod points;
 pub mod shrink;
+#[cfg(test)]
+mod testing;
 pub mod trips;
+pub mod unsure;
 pub mod widened;

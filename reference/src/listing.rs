@@ -7,6 +7,7 @@ use crate::losses::{LossCounts, LossWatch};
 use crate::model::{self, Crash, Event, Group, Outcome, State, Version, RECORD_LENGTH, TAKEN};
 use crate::outlets::{OutletCounts, Watch};
 use crate::trips::{Stand, TripCounts, TripWatch};
+use crate::unsure::{UnsureCounts, UnsureWatch};
 use std::collections::BTreeMap;
 use std::fmt::{Debug, Write};
 
@@ -28,6 +29,7 @@ pub struct Tally {
     pub outlets: OutletCounts,
     pub losses: LossCounts,
     pub trips: TripCounts,
+    pub unsure: UnsureCounts,
     pub point_answers: BTreeMap<u8, u64>,
     pub return_answers: BTreeMap<u8, u64>,
     pub sights: BTreeMap<Sight, u64>,
@@ -58,7 +60,7 @@ impl Tally {
             count(&mut self.kinds_taken, record[0]);
         }
         match outcome.event {
-            Event::Nothing | Event::Added(_) => {}
+            Event::Nothing | Event::Added(_) | Event::Decision { .. } => {}
             Event::Commit => self.commits += 1,
             Event::LinkFault { .. } => self.link_faults += 1,
             Event::Crash(cause) => count(&mut self.crashes, cause),
@@ -83,6 +85,7 @@ impl Tally {
         self.outlets.add(&other.outlets);
         self.losses.add(&other.losses);
         self.trips.add(&other.trips);
+        self.unsure.add(&other.unsure);
         add_counts(&mut self.point_answers, &other.point_answers);
         add_counts(&mut self.return_answers, &other.return_answers);
         add_counts(&mut self.sights, &other.sights);
@@ -99,7 +102,10 @@ impl Tally {
         let _ = writeln!(text, "link faults found: {}", self.link_faults);
         let crashes: u64 = self.crashes.values().sum();
         let _ = writeln!(text, "crashes: {crashes} ({})", counts_text(&self.crashes));
-        text + &self.outlets.report() + &self.losses.report() + &self.trips.report()
+        text += &self.outlets.report();
+        text += &self.losses.report();
+        text += &self.trips.report();
+        text + &self.unsure.report()
     }
 
     /// What points and returns add to the report.
@@ -120,6 +126,7 @@ pub(crate) struct Counter {
     watch: Watch,
     loss_watch: LossWatch,
     pub(crate) trip_watch: TripWatch,
+    unsure_watch: UnsureWatch,
 }
 
 impl Counter {
@@ -129,6 +136,7 @@ impl Counter {
             watch: Watch::default(),
             loss_watch: LossWatch::default(),
             trip_watch: TripWatch::default(),
+            unsure_watch: UnsureWatch::default(),
         }
     }
 
@@ -141,6 +149,7 @@ impl Counter {
         self.tally.outlets.count_step(&self.watch, group, record, outcome);
         self.tally.losses.count_step(&mut self.loss_watch, aim, record, outcome);
         self.tally.trips.count_step(&mut self.trip_watch, stand, group, record, outcome);
+        self.tally.unsure.count_step(&mut self.unsure_watch, group, record, outcome);
         outcome
     }
 }

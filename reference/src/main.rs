@@ -21,9 +21,9 @@ const USAGE: &str = "usage:
   reference compare PROGRAM [--plans] [--seed S] [--cases N] [--damage] [--kinds K]
   reference make OUT [--plans] [--seed S] [--cases N] [--damage] [--kinds K]
   reference pack DIR OUT [--plans] [--from-01 | --from-kinds K] [--most N]
-  reference vectors DIR [--kinds K]
+  reference vectors DIR [--from-01 | --from-kinds K]
   reference bench [--seed S]
-K is 10, 11, 12 or 13";
+K is from 10 to 14";
 
 // ---------------------------------------------------------------- arguments
 
@@ -174,7 +174,7 @@ fn pack(folder: &Path, file: &Path, options: &Options) -> io::Result<ExitCode> {
     let mut left_out: BTreeMap<LeftOut, u64> = BTreeMap::new();
     let (mut standing, mut tallies, mut differ) = (Vec::new(), Vec::new(), Vec::new());
     for (_, folder) in &folders {
-        match case_to_pack(folder, options)? {
+        match case_as_it_reads_now(form, folder, options)? {
             Ok((case, text)) => {
                 let (model_text, tally) = form.counted_text(&case, options.highest_kind);
                 if model_text != text {
@@ -203,9 +203,12 @@ fn pack(folder: &Path, file: &Path, options: &Options) -> io::Result<ExitCode> {
     Ok(if differ.is_empty() { ExitCode::SUCCESS } else { ExitCode::FAILURE })
 }
 
-/// The case of a folder with its text, as it reads by the cards so far.
-fn case_to_pack(folder: &Path, options: &Options) -> io::Result<Result<(Case, String), LeftOut>> {
-    let form = options.form;
+/// The case of a folder with its text, by the cards so far.
+fn case_as_it_reads_now(
+    form: Form,
+    folder: &Path,
+    options: &Options,
+) -> io::Result<Result<(Case, String), LeftOut>> {
     let case = form.case_in_folder(folder);
     let text = String::from_utf8_lossy(&form.expected_text(folder)?).into_owned();
     Ok(if options.from_01 {
@@ -232,34 +235,34 @@ fn case_folders(folder: &Path) -> io::Result<Vec<(Form, PathBuf)>> {
     Ok(found)
 }
 
-fn agrees(form: Form, folder: &Path, options: &Options) -> io::Result<bool> {
-    let text = form.text(&form.case_in_folder(folder), options.highest_kind);
-    let text_agrees = form.expected_text(folder)? == text.as_bytes();
-    Ok(text_agrees && (form == Form::Steps || store_agrees(folder, options)?))
-}
-
 /// Where a plan case has its operations as text: answers, images and slots, as expected there.
-fn store_agrees(folder: &Path, options: &Options) -> io::Result<bool> {
+fn store_agrees(folder: &Path) -> io::Result<bool> {
     let (Ok(ops), Ok(expected)) =
         (fs::read_to_string(folder.join("ops")), fs::read_to_string(folder.join("expected")))
     else {
         return Ok(true);
     };
     let group = fs::read(folder.join("group.dat"))?;
-    Ok(ops::answers_and_store(&group, &ops, options.highest_kind) == Some(expected))
+    Ok(ops::answers_and_store(&group, &ops, KINDS) == Some(expected))
 }
 
 fn vectors(folder: &Path, options: &Options) -> io::Result<ExitCode> {
-    let mut agree = 0;
+    let (mut agree, mut left_out) = (0, 0);
     let mut differ = Vec::new();
     for (form, case_folder) in case_folders(folder)? {
-        if agrees(form, &case_folder, options)? {
+        let Ok((case, text)) = case_as_it_reads_now(form, &case_folder, options)? else {
+            left_out += 1;
+            continue;
+        };
+        let has_store = form == Form::Plan && !options.from_01;
+        let agrees = form.text(&case, KINDS) == text;
+        if agrees && (!has_store || store_agrees(&case_folder)?) {
             agree += 1;
         } else {
             differ.push(case_folder);
         }
     }
-    println!("{agree} agree, {} differ", differ.len());
+    println!("{agree} agree, {} differ, {left_out} left out", differ.len());
     for case_folder in &differ {
         println!("{}", case_folder.strip_prefix(folder).unwrap_or(case_folder).display());
     }

@@ -1,6 +1,6 @@
 //! The charger group: cabinets, lines and store, the load of a group file and the thirteen
-//! kinds of step. Written from the scope document and the decisions alone; cabinet numbers
-//! are 1 to n here, as they are there.
+//! kinds of step, numbered 1 to 14 without 9. Written from the scope document and the decisions
+//! alone; cabinet numbers are 1 to n here, as they are there.
 
 use std::collections::{BTreeSet, VecDeque};
 use std::ops::{Range, RangeInclusive};
@@ -22,7 +22,10 @@ const NO_IMAGE: Image = [0; 32];
 const TRIPS_BEFORE_A_FAIL: u8 = 2;
 
 /// The highest kind of step that the documents name so far.
-pub const KINDS: u8 = 13;
+pub const KINDS: u8 = 14;
+
+/// Wait over, which stood in document 01.
+pub const WITHDRAWN_KIND: u8 = 9;
 
 // ---------------------------------------------------------------- the check value
 
@@ -171,7 +174,7 @@ impl State {
         }
     }
 
-    fn in_recovery(self) -> bool {
+    pub fn in_recovery(self) -> bool {
         matches!(self, State::Error | State::Recovering | State::Recovered)
     }
 }
@@ -255,6 +258,8 @@ struct Noted {
     pieces_done: usize,
     saved: BTreeSet<Number>,
     restored: BTreeSet<Number>,
+    /// Who has reported unsure, noted at a coordinator.
+    unsure: BTreeSet<Number>,
     faults_heard: BTreeSet<Number>,
 }
 
@@ -263,6 +268,12 @@ struct Noted {
 struct Trouble {
     place: Place,
     coordinator_before: Number,
+}
+
+impl Trouble {
+    fn is_the_coordinator_before(self) -> bool {
+        self.place.cabinet() == Some(self.coordinator_before)
+    }
 }
 
 #[derive(Clone)]
@@ -329,6 +340,21 @@ impl Cabinet {
     pub fn place(&self) -> Option<Place> {
         let in_recovery = self.state.in_recovery();
         self.trouble.filter(|_| in_recovery).map(|trouble| trouble.place)
+    }
+
+    /// In error with unknown version.
+    pub fn waits(&self) -> bool {
+        self.state == State::Error && !self.version.known()
+    }
+
+    /// The fault that it last entered error for was its coordinator until then.
+    pub fn lost_its_coordinator(&self) -> bool {
+        self.trouble.is_some_and(Trouble::is_the_coordinator_before)
+    }
+
+    /// The cabinets that have reported unsure to this one.
+    pub fn reported_unsure(&self) -> &BTreeSet<Number> {
+        &self.noted.unsure
     }
 
     /// After the highest number in use comes the lowest.
@@ -549,11 +575,11 @@ pub enum Step {
     Saved(Number),
     Fetch(Number),
     Restored(Number),
-    WaitOver(Number),
     Fail(Number),
     Damage { from: Number, to: Number, place: u8, pattern: u16 },
     Lose { from: Number, to: Number, place: u8 },
     Trip(Number),
+    Unsure(Number),
 }
 
 /// Refusals 8 and 9; kinds above `highest_kind` are unknown.
@@ -561,7 +587,7 @@ pub fn decode(record: &[u8], highest_kind: u8) -> Result<Step, u8> {
     let &[kind, a, b, p, q_high, q_low] = record else {
         return Err(8);
     };
-    if kind == 0 || kind > highest_kind {
+    if kind == 0 || kind == WITHDRAWN_KIND || kind > highest_kind {
         return Err(8);
     }
     let q = u16::from_be_bytes([q_high, q_low]);
@@ -593,11 +619,11 @@ fn step_of_fields(kind: u8, a: Number, b: Number, p: u8, q: u16) -> Option<Step>
         6 => Step::Saved(a),
         7 => Step::Fetch(a),
         8 => Step::Restored(a),
-        9 => Step::WaitOver(a),
         10 => Step::Fail(a),
         11 => Step::Damage { from: a, to: b, place: p, pattern: q },
         12 => Step::Lose { from: a, to: b, place: p },
         13 => Step::Trip(a),
+        14 => Step::Unsure(a),
         _ => return None,
     })
 }
@@ -615,9 +641,9 @@ impl Step {
             | Step::Saved(a)
             | Step::Fetch(a)
             | Step::Restored(a)
-            | Step::WaitOver(a)
             | Step::Fail(a)
-            | Step::Trip(a) => vec![a],
+            | Step::Trip(a)
+            | Step::Unsure(a) => vec![a],
         }
     }
 
@@ -645,6 +671,10 @@ pub enum Event {
     },
     LinkFault {
         by_comparison: bool,
+    },
+    /// The last report came, and the coordinator went back to its old version.
+    Decision {
+        by: Number,
     },
     Crash(Crash),
 }
@@ -793,7 +823,7 @@ impl Group {
             Step::Saved(a) => self.saved_refusal(a),
             Step::Fetch(a) => self.fetch_refusal(a),
             Step::Restored(a) => self.restored_refusal(a),
-            Step::WaitOver(a) => self.wait_over_refusal(a),
+            Step::Unsure(a) => self.unsure_refusal(a),
             Step::Fail(_) | Step::Trip(_) => None,
             Step::Damage { from, to, place, pattern } => {
                 self.damage_refusal(from, to, place, pattern)
@@ -868,26 +898,18 @@ impl Group {
         ])
     }
 
-    fn wait_over_refusal(&self, a: Number) -> Option<u8> {
-        first_refusal(&[(14, !self.lost_its_coordinator(a)), (19, !self.all_wait())])
+    fn unsure_refusal(&self, a: Number) -> Option<u8> {
+        let cabinet = self.cabinet(a);
+        let coordinator = self.cabinet(cabinet.coordinator());
+        first_refusal(&[
+            (14, !cabinet.waits() || !cabinet.lost_its_coordinator()),
+            (19, coordinator.noted.unsure.contains(&a) || coordinator.state != State::Error),
+        ])
     }
 
     /// Whether every working cabinet, a tripped one too, is in error with unknown version.
     pub fn all_wait(&self) -> bool {
-        let waits = |c: &Cabinet| c.state == State::Error && !c.version.known();
-        self.cabinets.iter().filter(|c| c.working()).all(waits)
-    }
-
-    /// In error because of its coordinator, to which a link in use joined it. No link joins a
-    /// tripped one to itself.
-    fn lost_its_coordinator(&self, a: Number) -> bool {
-        let cabinet = self.cabinet(a);
-        let Some(trouble) = cabinet.trouble else {
-            return false;
-        };
-        cabinet.state == State::Error
-            && trouble.place.cabinet() == Some(trouble.coordinator_before)
-            && cabinet.links_in_use.contains(&trouble.coordinator_before)
+        self.cabinets.iter().filter(|c| c.working()).all(Cabinet::waits)
     }
 
     fn damage_refusal(&self, from: Number, to: Number, place: u8, pattern: u16) -> Option<u8> {
@@ -955,16 +977,13 @@ impl Group {
             Step::Saved(a) => return Ok(self.report_saved(a)),
             Step::Fetch(a) => self.fetch_piece(a),
             Step::Restored(a) => return Ok(self.report_restored(a)),
-            Step::WaitOver(a) => {
-                let old = self.cabinet(a).version.number();
-                self.start_recovering(a, old);
-            }
             Step::Fail(a) => self.fail(a)?,
             Step::Damage { from, to, place, pattern } => {
                 self.damage(from, to, usize::from(place), pattern)?;
             }
             Step::Lose { from, to, place } => self.lose(from, to, usize::from(place))?,
             Step::Trip(a) => self.trip(a)?,
+            Step::Unsure(a) => return Ok(self.report_unsure(a)),
         }
         Ok(Event::Nothing)
     }
@@ -1282,6 +1301,18 @@ impl Group {
         cabinet.version = Version::Known(version);
         cabinet.state = State::Recovering;
         self.put_on_all_lines(a, Packet::Recover(version));
+    }
+
+    fn report_unsure(&mut self, a: Number) -> Event {
+        let coordinator_number = self.cabinet(a).coordinator();
+        let coordinator = self.cabinet_mut(coordinator_number);
+        coordinator.noted.unsure.insert(a);
+        if !coordinator.noted.unsure.is_superset(&coordinator.cabinets_in_use) {
+            return Event::Nothing;
+        }
+        let old = coordinator.version.number();
+        self.start_recovering(coordinator_number, old);
+        Event::Decision { by: coordinator_number }
     }
 
     fn fetch_piece(&mut self, a: Number) {
@@ -1692,7 +1723,7 @@ mod tests {
     fn malformed_records_are_refused_in_order() {
         let mut group = group(&[100, 50]);
         assert_eq!(group.step(&[4, 1, 2], KINDS).answer, 8);
-        assert_eq!(group.step(&[14, 0, 0, 0, 0, 0], KINDS).answer, 8);
+        assert_eq!(group.step(&[15, 0, 0, 0, 0, 0], KINDS).answer, 8);
         for (kind, low) in [(11, 1), (12, 0)] {
             let hurt = [kind, 1, 2, 0, 0, low];
             assert_eq!(group.step(&hurt, kind - 1).answer, 8);
@@ -1716,7 +1747,7 @@ mod tests {
         let mut group = group_of_both(&[[100, 10], [50, 5]]);
         answers(&mut group, &[send_by(0, 30), send_by(3, 3), deliver(1, 2), deliver(1, 2)]);
         commit_of_two(&mut group);
-        let records = [one(10, 1), one(9, 2), one(7, 2), one(7, 2), one(7, 2), one(7, 2)];
+        let records = [one(10, 1), one(14, 2), one(7, 2), one(7, 2), one(7, 2), one(7, 2)];
         assert_eq!(answers(&mut group, &records), [0; 6]);
         let end = group.step(&one(8, 2), KINDS);
         assert_eq!(end.event, Event::RecoveryEnd { save_passed_over: true });
@@ -1729,10 +1760,23 @@ mod tests {
         let mut group = group_of_both(&[[100, 10], [50, 5]]);
         answers(&mut group, &[send_by(0, 30), send_by(3, 3), deliver(1, 2), deliver(1, 2)]);
         commit_of_two(&mut group);
-        let records = [deliver(1, 2), send(2, 1, 9), one(10, 1), one(9, 2), one(7, 2)];
+        let records = [deliver(1, 2), send(2, 1, 9), one(10, 1), one(14, 2), one(7, 2)];
         assert_eq!(answers(&mut group, &records), [0, 0, 0, 14, 0]);
         assert_eq!(group.cabinet(2).version, Version::Known(1));
         assert_eq!(group.cabinet(2).bookings(), [80, 8]);
+    }
+
+    /// No run comes to an entry into error with marks there: entering normal has forgotten them.
+    #[test]
+    fn reports_unsure_are_forgotten_on_entering_error_and_normal() {
+        let mut group = group(&[100, 50, 25]);
+        let marks = BTreeSet::from([1, 2]);
+        group.cabinet_mut(2).noted.unsure.clone_from(&marks);
+        group.enter_error(2, Place::Tripped(1));
+        assert!(group.cabinet(2).reported_unsure().is_empty());
+        group.cabinet_mut(2).noted.unsure = marks;
+        group.cabinet_mut(2).enter_normal();
+        assert!(group.cabinet(2).reported_unsure().is_empty());
     }
 
     #[test]

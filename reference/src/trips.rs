@@ -2,7 +2,7 @@
 //! leads after them, and what the others do while a tripped cabinet is not restored.
 
 use crate::listing::{add_counts, count, counts_text};
-use crate::model::{Cabinet, Crash, Event, Group, Number, Outcome, Place, State, CRASHED, TAKEN};
+use crate::model::{Crash, Event, Group, Number, Outcome, State, CRASHED, TAKEN};
 use std::collections::BTreeMap;
 use std::fmt::Write;
 
@@ -43,15 +43,6 @@ pub struct TripCounts {
     pub commits_by_moved_lead: u64,
     /// By kind 10.
     pub fails_of_moved_lead: u64,
-    /// For a tripped coordinator.
-    pub waits_over: u64,
-    /// With 14, at the tripped coordinator itself.
-    pub waits_refused: u64,
-    /// The same, where each of its neighbours may take it.
-    pub waits_refused_alone: u64,
-    /// With 14, at a neighbour of a tripped cabinet that did not lead, where the coordinator is
-    /// the one that would have come after it.
-    pub waits_refused_for_others: u64,
     /// While a tripped cabinet is not restored; the same for the rest.
     pub link_faults: u64,
     pub places_met: u64,
@@ -78,7 +69,6 @@ impl TripCounts {
                 watch.lead_is_moved = !stand.is_lowest;
                 self.begins_by_moved_lead += u64::from(watch.lead_is_moved);
             }
-            (Some(9), Some(stand)) => self.count_wait_over(watch, stand, outcome.answer),
             (Some(10), Some(stand)) if outcome.answer == TAKEN => {
                 self.fails_of_moved_lead += u64::from(stand.leads && !stand.is_lowest);
             }
@@ -108,20 +98,6 @@ impl TripCounts {
             }
             (CRASHED, _, Event::Crash(cause)) => count(&mut self.crashes, cause),
             (answer, ..) => count(&mut self.refused, answer),
-        }
-    }
-
-    fn count_wait_over(&mut self, watch: &TripWatch, stand: Stand, answer: u8) {
-        match (answer, watch.open) {
-            (TAKEN, Some(_)) => self.waits_over += 1,
-            (14, Some(open)) if open.led && stand.place == Some(Place::Tripped(stand.cabinet)) => {
-                self.waits_refused += 1;
-                self.waits_refused_alone += u64::from(stand.all_wait);
-            }
-            (14, Some(open)) if !open.led => {
-                self.waits_refused_for_others += u64::from(stand.waits_before_lead);
-            }
-            _ => {}
         }
     }
 
@@ -168,10 +144,6 @@ impl TripCounts {
         self.begins_by_moved_lead += other.begins_by_moved_lead;
         self.commits_by_moved_lead += other.commits_by_moved_lead;
         self.fails_of_moved_lead += other.fails_of_moved_lead;
-        self.waits_over += other.waits_over;
-        self.waits_refused += other.waits_refused;
-        self.waits_refused_alone += other.waits_refused_alone;
-        self.waits_refused_for_others += other.waits_refused_for_others;
         self.link_faults += other.link_faults;
         self.places_met += other.places_met;
         self.commits += other.commits;
@@ -197,10 +169,6 @@ impl TripCounts {
         let fails = self.fails_of_moved_lead;
         let _ =
             writeln!(text, "by a moved lead, begins: {begins}, commits: {commits}, fails: {fails}");
-        let (refused, alone) = (self.waits_refused, self.waits_refused_alone);
-        let _ = write!(text, "wait over after a trip: {}, refused at the ", self.waits_over);
-        let _ = write!(text, "tripped coordinator: {refused}, at it alone: {alone}, ");
-        let _ = writeln!(text, "beside another: {}", self.waits_refused_for_others);
         let (faults, met, commits) = (self.link_faults, self.places_met, self.commits);
         let _ = write!(text, "while a tripped one is not restored, link faults found: {faults}, ");
         let _ = write!(text, "places met: {met}, commits: {commits}, ");
@@ -220,7 +188,7 @@ pub(crate) fn misses_only(group: &Group, cabinet: Number) -> bool {
     group.numbers().any(misses)
 }
 
-/// How the cabinet of a begin, a wait over, a fail or a trip stands before the step.
+/// How the cabinet of a begin, a fail or a trip stands before the step.
 #[derive(Clone, Copy, Debug)]
 pub(crate) struct Stand {
     cabinet: Number,
@@ -231,16 +199,12 @@ pub(crate) struct Stand {
     joins_others: bool,
     /// The next trip would be the third.
     third: bool,
-    place: Option<Place>,
-    all_wait: bool,
-    /// In error for a tripped neighbour, the next number after which leads.
-    waits_before_lead: bool,
 }
 
 impl Stand {
     /// None if the record is of another kind or names no cabinet of the group.
     pub(crate) fn of(group: &Group, record: &[u8]) -> Option<Stand> {
-        let &[3 | 9 | 10 | 13, a, ..] = record else {
+        let &[3 | 10 | 13, a, ..] = record else {
             return None;
         };
         let number = usize::from(a);
@@ -255,21 +219,8 @@ impl Stand {
             is_lowest: group.working_cabinets().first() == Some(&number),
             joins_others: group.joins_others(number),
             third: group.trip_is_a_fail(number),
-            place: cabinet.place(),
-            all_wait: group.all_wait(),
-            waits_before_lead: waits_before_lead(group, cabinet),
         })
     }
-}
-
-pub(crate) fn waits_before_lead(group: &Group, cabinet: &Cabinet) -> bool {
-    let Some(Place::Tripped(tripped)) = cabinet.place() else {
-        return false;
-    };
-    let next = group.working_cabinets().range(tripped + 1..).next().copied();
-    cabinet.state == State::Error
-        && cabinet.neighbours().contains(&tripped)
-        && next == Some(cabinet.coordinator())
 }
 
 /// A trip whose recovery has not ended.

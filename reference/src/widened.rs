@@ -1,14 +1,17 @@
 //! Cases of document 01, whose cabinets have one outlet, as cases of card 2: a second outlet
 //! with nothing booked stands in each entry of the file and in each line of a cabinet, and no
 //! note is taken where its booking is now. And which cases of earlier cards still stand, now that
-//! there are more kinds of step. All by rule; the model is not asked.
+//! kinds of step have come and one has gone. All by rule; the model is not asked.
 
 use crate::cases::{Case, Record};
 use crate::form::Form;
-use crate::model::KINDS;
+use crate::model::{KINDS, WITHDRAWN_KIND};
 
 /// The highest kind of step of document 01 by itself.
 const KINDS_OF_01: u8 = 11;
+
+/// The kind that came when one was withdrawn.
+const IN_ITS_PLACE: u8 = 14;
 
 const HEADER_LENGTH: usize = 10;
 const ENTRY_OF_ONE_OUTLET: usize = 4;
@@ -25,21 +28,29 @@ pub enum LeftOut {
     SendNamesOutlets,
     /// A record of a kind that was unknown then: it answered 8 and now never does.
     RecordOfNewKind,
+    /// A record of a kind that was known then: it answers 8 now and never did.
+    RecordOfWithdrawnKind,
 }
 
 /// Whether a case from when kinds above `highest_then` were unknown stands as it is.
 pub fn stands(form: Form, case: &Case, text: &str, highest_then: u8) -> Result<(), LeftOut> {
-    let refused = text.starts_with("load ");
-    if !refused && has_new_kind(&form.steps(case), highest_then) {
-        return Err(LeftOut::RecordOfNewKind);
+    if text.starts_with("load ") {
+        return Ok(());
     }
-    Ok(())
+    kinds_stand(&form.steps(case), highest_then)
 }
 
 /// A record that is too short is no step.
-fn has_new_kind(steps: &[Option<Record>], highest_then: u8) -> bool {
+fn kinds_stand(steps: &[Option<Record>], highest_then: u8) -> Result<(), LeftOut> {
     let mut kinds = steps.iter().flatten().map(|record| record[0]);
-    kinds.any(|kind| highest_then < kind && kind <= KINDS)
+    let new = |kind: u8| highest_then < kind && kind <= KINDS;
+    if kinds.clone().any(new) {
+        return Err(LeftOut::RecordOfNewKind);
+    }
+    if highest_then < IN_ITS_PLACE && kinds.any(|kind| kind == WITHDRAWN_KIND) {
+        return Err(LeftOut::RecordOfWithdrawnKind);
+    }
+    Ok(())
 }
 
 /// The case and its text with two outlets. The text is made of the old one alone. No step of a
@@ -55,9 +66,7 @@ pub fn with_two_outlets(form: Form, case: &Case, text: &str) -> Result<(Case, St
             if steps.iter().flatten().any(|&[kind, _, _, p, ..]| kind == 1 && p != 0) {
                 return Err(LeftOut::SendNamesOutlets);
             }
-            if has_new_kind(&steps, KINDS_OF_01) {
-                return Err(LeftOut::RecordOfNewKind);
-            }
+            kinds_stand(&steps, KINDS_OF_01)?;
             Ok((with_file(widened_file(&case.group)), widened_text(&steps, text)))
         }
     }
@@ -230,6 +239,7 @@ mod tests {
     }
 
     const NEW_KIND: Result<(), LeftOut> = Err(LeftOut::RecordOfNewKind);
+    const WITHDRAWN: Result<(), LeftOut> = Err(LeftOut::RecordOfWithdrawnKind);
 
     fn stands_since(highest_then: u8, form: Form, steps: &[u8], text: &str) -> Result<(), LeftOut> {
         let case = Case { group: GROUP.to_vec(), steps: steps.to_vec() };
@@ -253,12 +263,29 @@ mod tests {
     }
 
     #[test]
-    fn a_plan_with_a_step_of_a_new_kind_is_left_out() {
-        let plan = |first: u8, last: u8| [first, 12, 1, 2, 0, 0, 0, 0, last];
-        let stands = |first, last| stands_since(11, Form::Plan, &plan(first, last), "step 1 8\n");
-        assert_eq!(stands(0, 0), NEW_KIND);
-        for (first, last) in [(0, 1), (1, 0), (2, 0), (3, 0)] {
-            assert_eq!(stands(first, last), Ok(()));
+    fn a_case_with_a_record_of_the_withdrawn_kind_is_left_out() {
+        let records = [[4, 1, 2, 0, 0, 0], [9, 1, 0, 0, 0, 0]];
+        let steps = records.concat();
+        let text = "step 1 18\nstep 2 14\n";
+        assert_eq!(converted(&records, text).map(|_| ()), WITHDRAWN);
+        for highest_then in [11, 12, 13] {
+            assert_eq!(stands_since(highest_then, Form::Steps, &steps, text), WITHDRAWN);
+            assert_eq!(stands_since(highest_then, Form::Steps, &steps[..11], text), Ok(()));
+            assert_eq!(stands_since(highest_then, Form::Steps, &steps, "load 4\n"), Ok(()));
+        }
+        assert_eq!(stands_since(14, Form::Steps, &steps, text), Ok(()));
+    }
+
+    #[test]
+    fn a_plan_with_a_step_of_either_is_left_out() {
+        let plan = |first: u8, kind: u8, last: u8| [first, kind, 1, 2, 0, 0, 0, 0, last];
+        for (kind, left_out) in [(12, NEW_KIND), (9, WITHDRAWN)] {
+            let stands =
+                |first, last| stands_since(11, Form::Plan, &plan(first, kind, last), "step 1 8\n");
+            assert_eq!(stands(0, 0), left_out);
+            for (first, last) in [(0, 1), (1, 0), (2, 0), (3, 0)] {
+                assert_eq!(stands(first, last), Ok(()));
+            }
         }
     }
 }

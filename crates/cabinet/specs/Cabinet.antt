@@ -55,24 +55,27 @@ abbrev pub withAlarm : Cabinet → Alarm → Cabinet
 withAlarm c a = withPhase c (record { state = c .phase .state; version = c .phase .version; alarm = a })
 
 abbrev pub withCome : Cabinet → Marks → Cabinet
-withCome c m = withNoted c (record { come = m; pieces = c .noted .pieces; saved = c .noted .saved; restored = c .noted .restored; heard = c .noted .heard; former = c .noted .former })
+withCome c m = withNoted c (record { come = m; pieces = c .noted .pieces; saved = c .noted .saved; restored = c .noted .restored; heard = c .noted .heard; former = c .noted .former; unsure = c .noted .unsure })
 
 abbrev pub withPieces : Cabinet → ℕ → Cabinet
-withPieces c k = withNoted c (record { come = c .noted .come; pieces = k; saved = c .noted .saved; restored = c .noted .restored; heard = c .noted .heard; former = c .noted .former })
+withPieces c k = withNoted c (record { come = c .noted .come; pieces = k; saved = c .noted .saved; restored = c .noted .restored; heard = c .noted .heard; former = c .noted .former; unsure = c .noted .unsure })
 
 abbrev pub withSaved : Cabinet → Marks → Cabinet
-withSaved c m = withNoted c (record { come = c .noted .come; pieces = c .noted .pieces; saved = m; restored = c .noted .restored; heard = c .noted .heard; former = c .noted .former })
+withSaved c m = withNoted c (record { come = c .noted .come; pieces = c .noted .pieces; saved = m; restored = c .noted .restored; heard = c .noted .heard; former = c .noted .former; unsure = c .noted .unsure })
 
 abbrev pub withRestored : Cabinet → Marks → Cabinet
-withRestored c m = withNoted c (record { come = c .noted .come; pieces = c .noted .pieces; saved = c .noted .saved; restored = m; heard = c .noted .heard; former = c .noted .former })
+withRestored c m = withNoted c (record { come = c .noted .come; pieces = c .noted .pieces; saved = c .noted .saved; restored = m; heard = c .noted .heard; former = c .noted .former; unsure = c .noted .unsure })
 
 abbrev pub withHeard : Cabinet → Marks → Cabinet
-withHeard c m = withNoted c (record { come = c .noted .come; pieces = c .noted .pieces; saved = c .noted .saved; restored = c .noted .restored; heard = m; former = c .noted .former })
+withHeard c m = withNoted c (record { come = c .noted .come; pieces = c .noted .pieces; saved = c .noted .saved; restored = c .noted .restored; heard = m; former = c .noted .former; unsure = c .noted .unsure })
+
+abbrev pub withUnsure : Cabinet → Marks → Cabinet
+withUnsure c m = withNoted c (record { come = c .noted .come; pieces = c .noted .pieces; saved = c .noted .saved; restored = c .noted .restored; heard = c .noted .heard; former = c .noted .former; unsure = m })
 
 -- ---- starting values
 
 abbrev pub nothingNoted : Noted
-nothingNoted = record { come = noMarks; pieces = 0; saved = noMarks; restored = noMarks; heard = noMarks; former = false }
+nothingNoted = record { come = noMarks; pieces = 0; saved = noMarks; restored = noMarks; heard = noMarks; former = false; unsure = noMarks }
 
 -- what stands at the numbers past n: a cabinet that does not work
 abbrev pub absent : Cabinet
@@ -146,7 +149,7 @@ resuming c v = withNoted (withPhase c (record { state = Normal; version = v; ala
 
 -- what is noted on entering error: whether the place is the coordinator as it was before, and nothing else
 abbrev pub faultNoted : Bool → Noted
-faultNoted f = record { come = noMarks; pieces = 0; saved = noMarks; restored = noMarks; heard = noMarks; former = f }
+faultNoted f = record { come = noMarks; pieces = 0; saved = noMarks; restored = noMarks; heard = noMarks; former = f; unsure = noMarks }
 
 -- "Entering error: strike the place from the table, .. forget what was noted ..; a home forgets the reports it owes"; the lead moves on
 -- where the place is the coordinator, which is noted
@@ -162,6 +165,10 @@ blanked c = withImage (withVersion c Lost) blankImage
 -- the fault packet of neighbour j has come
 abbrev pub hearing : Cabinet → ℕ → Cabinet
 hearing c j = withHeard c (set (c .noted .heard) j true)
+
+-- the coordinator has the report of j that it is unsure
+abbrev pub unsureFor : Cabinet → ℕ → Cabinet
+unsureFor c j = withUnsure c (set (c .noted .unsure) j true)
 
 -- enters recovering with a known version
 abbrev pub recovering : Cabinet → Bool → Cabinet

@@ -13,7 +13,7 @@ ghost use mathlib.Core.Bool.{cond};
 ghost use Rattle.marks.specs.Marks.{covers};
 ghost use Rattle.cabinet.specs.Alarm.{isFor};
 ghost use Rattle.state.specs.State.{doubted};
-ghost use Rattle.cabinet.specs.Cabinet.{withPhase, withTable, withNoted, withRegisters, withImage, withOwed, withState, withVersion, withPieces, nothingNoted, absent, inUse, coordinator, sending, taking, hurtFrom, beginning, comparing, cutting, wrote, owing, savedFor, resuming, faultNoted, alarmed, blanked, hearing, recovering, fetched, restoredFor, crashing};
+ghost use Rattle.cabinet.specs.Cabinet.{withPhase, withTable, withNoted, withRegisters, withImage, withOwed, withState, withVersion, withPieces, nothingNoted, absent, inUse, coordinator, sending, taking, hurtFrom, beginning, comparing, cutting, wrote, owing, savedFor, resuming, faultNoted, alarmed, blanked, hearing, recovering, fetched, restoredFor, unsureFor, crashing};
 
 // The fault that a cabinet entered error for.
 pub enum Alarm {
@@ -27,7 +27,7 @@ pub struct Phase {
     pub alarm: Alarm,
 }
 
-// What is noted of one save or recovery; `former`: the fault is the coordinator as it was before.
+// What is noted of one save or recovery; `former`: the fault is the coordinator as it was before; `unsure`: whose unsure reports have come.
 pub struct Noted {
     pub come: [bool; 8],
     pub pieces: u8,
@@ -35,6 +35,7 @@ pub struct Noted {
     pub restored: [bool; 8],
     pub heard: [bool; 8],
     pub former: bool,
+    pub unsure: [bool; 8],
 }
 
 pub struct Cabinet {
@@ -80,6 +81,7 @@ pub fn nothing_noted() -> Noted
         restored: [false; 8],
         heard: [false; 8],
         former: false,
+        unsure: [false; 8],
     }
 }
 
@@ -387,6 +389,17 @@ impl Cabinet {
         let heard = noted.heard;
         let heard = marks::set_mark(heard, j, true);
         noted.heard = heard;
+        self.with_noted(noted)
+    }
+
+    // The coordinator has the report of j that it is unsure.
+    pub fn unsure_for(self, j: u8) -> Cabinet
+        ensures { λ r. ⌜ r ≡ unsureFor self j ⌝ }
+    {
+        let mut noted = self.noted;
+        let unsure = noted.unsure;
+        let unsure = marks::set_mark(unsure, j, true);
+        noted.unsure = unsure;
         self.with_noted(noted)
     }
 

@@ -5,6 +5,8 @@ pub mod Demand
 pub mod Bounds
 pub mod Saves
 pub mod Points
+pub mod During
+pub mod NoClock
 pub mod Fifo
 pub mod Examples
 pub mod Instances

@@ -4,6 +4,7 @@ pub mod States
 -- the facts
 pub mod Facts
 pub mod Whole
+pub mod Staying
 pub mod Past
 -- what they come to
 pub mod Logs

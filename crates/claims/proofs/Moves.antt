@@ -45,7 +45,6 @@ pub mod Unopened
 pub mod FailStep
 pub mod Tripping
 pub mod TripStep
-pub mod WaitingOver
 -- recovering
 pub mod Fetching
 pub mod Restoring
@@ -55,6 +54,10 @@ pub mod EndNodes
 pub mod Ending
 pub mod RestoredStep
 pub mod Resuming
+-- the decision where nobody knows
+pub mod Deciding
+pub mod UnsureStep
+pub mod WaitingOver
 -- points and returns
 pub mod Returning
 -- every packet that comes

@@ -25,7 +25,7 @@ use Rattle.group.specs.declared.Group.{Group}
 use Rattle.group.specs.Group.{cabinet, line}
 use Rattle.load.specs.Load.{load}
 use Rattle.protocol.specs.declared.Step.{Step}
-use Rattle.protocol.specs.declared.Step.the-variants.{Send, Note, Begin, Deliver, Write, Saved, Fetch, Restored, WaitOver, Fail, Damage, Lose, Trip}
+use Rattle.protocol.specs.declared.Step.the-variants.{Send, Note, Begin, Deliver, Write, Saved, Fetch, Restored, Fail, Damage, Lose, Trip, Unsure}
 use Rattle.protocol.specs.declared.Decoded.the-variants.{Taken}
 use Rattle.protocol.specs.Receive.{serving}
 use Rattle.protocol.specs.Kinds.{carried}
@@ -51,11 +51,11 @@ handled (Write x) a b l = l
 handled (Saved x) a b l = l
 handled (Fetch x) a b l = l
 handled (Restored x) a b l = l
-handled (WaitOver x) a b l = l
 handled (Fail x) a b l = l
 handled (Damage x y p q) a b l = cond (isLine x y a b) (set l p (damaged (getD l p Empty) q)) l
 handled (Lose x y p) a b l = cond (isLine x y a b) (take p l ++ drop (suc p) l) l
 handled (Trip x) a b l = l
+handled (Unsure x) a b l = l
 
 -- ---- what a cabinet does, told by its state before the step and after it
 
@@ -71,7 +71,7 @@ resumes c c′ = not (isIn (c .phase .state) Normal) && isIn (c′ .phase .state
 abbrev pub entersError : Cabinet → Cabinet → Bool
 entersError c c′ = serving (c .phase .state) && inRecovery (c′ .phase .state)
 
--- "stay in error until recover comes, then .. do the same"
+-- "stay in error until recover comes, then .. do the same"; so does a coordinator that decides
 abbrev pub goesOn : Cabinet → Cabinet → Bool
 goesOn c c′ = isIn (c .phase .state) Error && isIn (c′ .phase .state) Recovering
 
@@ -102,11 +102,11 @@ cameFrom (Write x) a b = false
 cameFrom (Saved x) a b = false
 cameFrom (Fetch x) a b = false
 cameFrom (Restored x) a b = false
-cameFrom (WaitOver x) a b = false
 cameFrom (Fail x) a b = false
 cameFrom (Damage x y p q) a b = false
 cameFrom (Lose x y p) a b = false
 cameFrom (Trip x) a b = false
+cameFrom (Unsure x) a b = false
 
 -- cabinet a, c before the step and c′ after it, on its line to b
 abbrev pub putBy : Cabinet → Cabinet → Step → ℕ → ℕ → List Packet

@@ -2,13 +2,16 @@
 use Prim.Native.Nat.{ℕ}
 use mathlib.Core.Path.{_≡_}
 use mathlib.Core.Bool.{true, false}
-use mathlib.Core.List.{List, [], _∷_, _++_}
+use mathlib.Core.List.{List, [], _∷_, _++_, map}
+use mathlib.Core.Option.{some}
 use lib.ListN.{getD}
 use Rattle.packet.specs.declared.Payload.{Payload}
 use Rattle.packet.specs.declared.Packet.the-variants.{Normal as NormalPacket, Resume}
 use Rattle.line.specs.Line.{oldest}
 use Rattle.image.specs.Image.{blankImage}
-use Rattle.group.specs.Group.{line}
+use Rattle.state.specs.declared.State.the-variants.{Recovering}
+use Rattle.group.specs.Group.{stateOf, line}
+use Rattle.load.specs.Load.{cabinetCount, feederTotal}
 use Rattle.protocol.specs.declared.Step.the-variants.{Deliver, Lose}
 use Rattle.protocol.specs.Marked.{twoCabinets, send, deliver, restored, fail}
 use Rattle.protocol.specs.Restored.{worldAfter}
@@ -16,11 +19,14 @@ use Rattle.protocol.specs.History.{World, stepping, pointing, returning, steps,
 use Rattle.protocol.specs.Returns.{named, pointAfterLoss, keptAfterLoss}
 use Rattle.protocol.specs.Outlets.{sendAB, outletPair}
 use Rattle.protocol.specs.Losses.{lose}
+use Rattle.protocol.specs.Unsure.{storeBetween, untilWait, endUnderWait}
+use Rattle.protocol.specs.Entry.{step}
 use Rattle.protocol.specs.Examples.{toA, toB, damage, fetches, row, ring, ringCommitted, fourCabinets, fourSaved, thirdLost, threeCommitted}
 use Rattle.claims.specs.Bounds.{packets, Undamaged, HasRoom}
 use Rattle.claims.specs.Fifo.{lineAfter}
 use Rattle.claims.specs.Saves.{savedTotal, OfNewest}
 use Rattle.claims.specs.Points.{KeptOf}
+use Rattle.claims.specs.NoClock.{WaitTaken, waited, firstEnd, unsureRecord, report, OneOfEach, decider, Replaced}
 
 -- ---- additions: with a damaged packet one would wrap, so that the premise of `NeverWraps` is wanted
 
@@ -92,3 +98,31 @@ pairEnd = advance pairNear (stepping (restored 1))
 
 abbrev pub StillTheReturn : Type 0
 StillTheReturn = (ends (pairNear .group) (pairEnd .group) 0 ≡ true) × (latest (pairEnd .history) ≡ latest (pairReturned .history))
+
+-- ---- no clock: the premises of `NoClock` are met. The first coordinator has tripped before anybody took the resume of its save, and all three
+-- are in error with unknown version; wait over would be taken at the third, and the recovery ends in the start
+
+abbrev pub inDoubt : World
+inDoubt = worldAfter storeBetween (steps untilWait)
+
+abbrev pub underWait : World
+underWait = run (waited inDoubt 2) (steps endUnderWait)
+
+abbrev pub WaitEnds : Type 0
+WaitEnds = WaitTaken (inDoubt .group) 2 × (firstEnd (waited inDoubt 2) (steps endUnderWait) ≡ some underWait) × (latest (underWait .history) .by ≡ 8)
+
+-- so with a report of each, in any order, it ends in the start too if it ends; one order is there
+abbrev pub InAnyOrder : Type 0
+InAnyOrder =
+    (cs : List ℕ) → OneOfEach (inDoubt .group) cs
+    → Replaced (cabinetCount storeBetween) (feederTotal storeBetween) inDoubt underWait (decider (inDoubt .group) 2) cs
+
+abbrev pub LastFirst : Type 0
+LastFirst =
+    OneOfEach (inDoubt .group) (2 ∷ 1 ∷ 0 ∷ [])
+    × (stateOf (run inDoubt (map report (2 ∷ 1 ∷ 0 ∷ [])) .group) (decider (inDoubt .group) 2) ≡ Recovering)
+
+-- a report that stands is not taken again, though wait over would be: the premise that none stands is wanted
+abbrev pub StandingReport : Type 0
+StandingReport =
+    WaitTaken (advance inDoubt (report 0) .group) 2 × (step (advance inDoubt (report 0) .group) (unsureRecord 0) .answer ≡ 19)

@@ -6,7 +6,7 @@ use mathlib.Core.Path.{_≡_}
 use mathlib.Core.Bool.{Bool, true, false}
 use mathlib.Core.List.{List, _∷_}
 use mathlib.Core.Option.{some}
-use Rattle.marks.specs.Marks.{marked}
+use Rattle.marks.specs.Marks.{marked, covers}
 use Rattle.packet.specs.declared.Packet.the-variants.{Resume}
 use Rattle.line.specs.Line.{oldest, packetAt}
 use Rattle.state.specs.declared.State.the-variants.{Checkpointing, Checkpointed}
@@ -19,7 +19,7 @@ use Rattle.group.specs.Group.{cabinet, stateOf, line, slot, sum}
 use Rattle.load.specs.Load.{load, cabinetCount, feederTotal}
 use Rattle.protocol.specs.declared.Step.the-variants.{Saved}
 use Rattle.protocol.specs.declared.Decoded.the-variants.{Taken}
-use Rattle.protocol.specs.Kinds.{writeRefusal, fetchRefusal, waitOverRefusal}
+use Rattle.protocol.specs.Kinds.{writeRefusal, fetchRefusal, unsureRefusal, reportUnsure}
 use Rattle.protocol.specs.Entry.{decode, step}
 use Rattle.protocol.specs.History.{Cut, Save, History, Operation, stepping, advance, commits, latest, imageNow}
 use Rattle.protocol.specs.Restored.{Octets, AllOctets, worldAfter, Balanced, amperes}
@@ -92,11 +92,15 @@ KnownWhereUsed =
     Running (λ g h. (a : ℕ) → (writeRefusal g a ≡ 0 → isUnknown (cabinet g a .phase .version) ≡ false)
     × (fetchRefusal g a ≡ 0 → isUnknown (cabinet g (cabinet g a .home) .phase .version) ≡ false))
 
--- where wait over is taken the version has an old one, and that names the newest save: no lost version is gone on with
-abbrev pub WaitedByOld : Type 0
-WaitedByOld =
-    Running (λ g h. (a : ℕ) → waitOverRefusal g a ≡ 0
-    → (v : Bool) × (cabinet g a .phase .version ≡ Unknown v) × ((c : ℕ) → works (stateOf g c) ≡ true → OfNewest g h c v))
+-- with the report of a its coordinator k has those of all in its table
+abbrev pub LastReport : Group → ℕ → ℕ → Type 0
+LastReport g a k = let c = cabinet (reportUnsure g a k) k in covers (c .noted .unsure) (c .table .cabinets) ≡ true
+
+-- a coordinator that decides has an old version, and that names the newest save: no lost version is gone on with
+abbrev pub DecidedByOld : Type 0
+DecidedByOld =
+    Running (λ g h. (a : ℕ) → unsureRefusal g a ≡ 0 → LastReport g a (coordinator (cabinet g a))
+    → (v : Bool) × (cabinet g (coordinator (cabinet g a)) .phase .version ≡ Unknown v) × ((c : ℕ) → works (stateOf g c) ≡ true → OfNewest g h c v))
 
 -- so a piece that is fetched is one of the newest save's image
 abbrev pub FetchedOfNewest : Type 0

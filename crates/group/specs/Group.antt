@@ -9,7 +9,7 @@ use Rattle.marks.specs.Marks.{Marks, lowest, covers, noMarks}
 use Rattle.marks.specs.Reach.{Rows}
 use Rattle.line.specs.declared.Line.{Line}
 use Rattle.state.specs.declared.State.{State}
-use Rattle.state.specs.declared.State.the-variants.{Normal, Error, Crashed}
+use Rattle.state.specs.declared.State.the-variants.{Normal, Crashed}
 use Rattle.image.specs.declared.Image.{Image}
 use Rattle.cabinet.specs.declared.Cabinet.{Cabinet}
 use Rattle.group.specs.declared.Row.{Row}
@@ -17,7 +17,7 @@ use Rattle.outgoing.specs.declared.Outgoing.{Outgoing}
 use Rattle.group.specs.declared.Slots.{Slots}
 use Rattle.group.specs.declared.Group.{Group}
 use Rattle.group.specs.declared.Outcome.{Outcome}
-use Rattle.state.specs.State.{works, isIn, inRecovery, isUnknown}
+use Rattle.state.specs.State.{works, isIn, inRecovery}
 use Rattle.image.specs.Image.{blankImage}
 use Rattle.cabinet.specs.Cabinet.{absent, crashing}
 use Rattle.outgoing.specs.Lines.{emptyLines, lineTo, withLineTo, laden}
@@ -137,10 +137,6 @@ working g = those (λ c. works (c .phase .state)) g
 -- those in error, recovering or recovered
 unfoldable pub recoveringOnes : Group → Marks
 recoveringOnes g = those (λ c. inRecovery (c .phase .state)) g
-
--- those in error with unknown version
-unfoldable pub unsure : Group → Marks
-unsure g = those (λ c. isIn (c .phase .state) Error && isUnknown (c .phase .version)) g
 
 unfoldable pub isCrashed : Group → Bool
 isCrashed g = some (those (λ c. isIn (c .phase .state) Crashed) g)

@@ -6,3 +6,4 @@ pub mod Outlets
 pub mod Tempting
 pub mod Losses
 pub mod Trips
+pub mod Unsure

@@ -5,10 +5,10 @@ use mathlib.Core.List.{List, [], _∷_, _++_}
 use lib.Dec.{eqb}
 use Rattle.group.specs.declared.Group.{Group}
 use Rattle.protocol.specs.declared.Step.{Step}
-use Rattle.protocol.specs.declared.Step.the-variants.{Send, Note, Begin, Deliver, Write, Saved, Fetch, Restored, WaitOver, Fail, Damage, Lose, Trip}
+use Rattle.protocol.specs.declared.Step.the-variants.{Send, Note, Begin, Deliver, Write, Saved, Fetch, Restored, Fail, Damage, Lose, Trip, Unsure}
 use Rattle.protocol.specs.declared.Decoded.{Decoded}
 use Rattle.protocol.specs.declared.Decoded.the-variants.{Malformed, Unused, Taken}
-use Rattle.protocol.specs.Kinds.{sendRefusal, noteRefusal, beginRefusal, deliverRefusal, writeRefusal, savedRefusal, fetchRefusal, restoredRefusal, waitOverRefusal, damageRefusal, loseRefusal}
+use Rattle.protocol.specs.Kinds.{sendRefusal, noteRefusal, beginRefusal, deliverRefusal, writeRefusal, savedRefusal, fetchRefusal, restoredRefusal, damageRefusal, loseRefusal, unsureRefusal}
 
 -- k stands in the list
 abbrev pub among : ℕ → List ℕ → Bool
@@ -25,11 +25,11 @@ workNumbers (Write a) = 12 ∷ []
 workNumbers (Saved a) = []
 workNumbers (Fetch a) = 12 ∷ []
 workNumbers (Restored a) = 12 ∷ []
-workNumbers (WaitOver a) = 12 ∷ []
 workNumbers (Fail a) = 12 ∷ []
 workNumbers (Damage a b p q) = []
 workNumbers (Lose a b p) = 12 ∷ []
 workNumbers (Trip a) = 12 ∷ []
+workNumbers (Unsure a) = 12 ∷ []
 
 -- the numbers under each kind
 abbrev pub kindNumbers : Step → List ℕ
@@ -41,11 +41,11 @@ kindNumbers (Write a) = 14 ∷ 19 ∷ []
 kindNumbers (Saved a) = 19 ∷ []
 kindNumbers (Fetch a) = 14 ∷ 19 ∷ []
 kindNumbers (Restored a) = 14 ∷ 19 ∷ []
-kindNumbers (WaitOver a) = 14 ∷ 19 ∷ []
 kindNumbers (Fail a) = []
 kindNumbers (Damage a b p q) = 13 ∷ 18 ∷ 15 ∷ 20 ∷ []
 kindNumbers (Lose a b p) = 13 ∷ 18 ∷ 20 ∷ []
 kindNumbers (Trip a) = []
+kindNumbers (Unsure a) = 14 ∷ 19 ∷ []
 
 -- "Every step first": 8, 9, or 10 to 12 and then those of the kind
 abbrev pub refusalNumbers : Decoded → List ℕ
@@ -63,8 +63,8 @@ kindRefusal g (Write a) = writeRefusal g (a - 1)
 kindRefusal g (Saved a) = savedRefusal g (a - 1)
 kindRefusal g (Fetch a) = fetchRefusal g (a - 1)
 kindRefusal g (Restored a) = restoredRefusal g (a - 1)
-kindRefusal g (WaitOver a) = waitOverRefusal g (a - 1)
 kindRefusal g (Fail a) = 0
 kindRefusal g (Damage a b p q) = damageRefusal g (a - 1) (b - 1) p q
 kindRefusal g (Lose a b p) = loseRefusal g (a - 1) (b - 1) p
 kindRefusal g (Trip a) = 0
+kindRefusal g (Unsure a) = unsureRefusal g (a - 1)

@@ -9,10 +9,10 @@ use Rattle.group.specs.declared.Outcome.{Outcome}
 use Rattle.state.specs.State.{works}
 use Rattle.group.specs.Group.{stateOf, isCrashed, answering}
 use Rattle.protocol.specs.declared.Step.{Step}
-use Rattle.protocol.specs.declared.Step.the-variants.{Send, Note, Begin, Deliver, Write, Saved, Fetch, Restored, WaitOver, Fail, Damage, Lose, Trip}
+use Rattle.protocol.specs.declared.Step.the-variants.{Send, Note, Begin, Deliver, Write, Saved, Fetch, Restored, Fail, Damage, Lose, Trip, Unsure}
 use Rattle.protocol.specs.declared.Decoded.{Decoded}
 use Rattle.protocol.specs.declared.Decoded.the-variants.{Malformed, Unused, Taken}
-use Rattle.protocol.specs.Kinds.{need, orRefuse, sendStep, noteStep, beginStep, deliverStep, writeStep, savedStep, fetchStep, restoredStep, waitOverStep, failStep, damageStep, loseStep, tripStep}
+use Rattle.protocol.specs.Kinds.{need, orRefuse, sendStep, noteStep, beginStep, deliverStep, writeStep, savedStep, fetchStep, restoredStep, failStep, damageStep, loseStep, tripStep, unsureStep}
 
 -- ---- "A step record is six octets: kind, a, b, p, q (two octets)."
 
@@ -28,9 +28,13 @@ aloneOf kind a =
     (cond (eqb kind 6) (Taken (Saved a))
     (cond (eqb kind 7) (Taken (Fetch a))
     (cond (eqb kind 8) (Taken (Restored a))
-    (cond (eqb kind 9) (Taken (WaitOver a))
     (cond (eqb kind 10) (Taken (Fail a))
-    (cond (eqb kind 13) (Taken (Trip a)) Malformed)))))))
+    (cond (eqb kind 13) (Taken (Trip a))
+    (cond (eqb kind 14) (Taken (Unsure a)) Malformed)))))))
+
+-- the numbers of kinds: "kind 9 is withdrawn and gives 8"
+abbrev pub isKind : ℕ → Bool
+isKind kind = leb 1 kind && (leb kind 14 && not (eqb kind 9))
 
 abbrev pub fieldsOf : ℕ → ℕ → ℕ → ℕ → ℕ → Decoded
 fieldsOf kind a b p q =
@@ -39,7 +43,7 @@ fieldsOf kind a b p q =
     (cond (eqb kind 4) (ifZero (p + q) (Taken (Deliver a b)))
     (cond (eqb kind 11) (Taken (Damage a b p q))
     (cond (eqb kind 12) (ifZero q (Taken (Lose a b p)))
-    (cond (leb 1 kind && leb kind 13) (ifZero (b + p + q) (aloneOf kind a)) Malformed)))))
+    (cond (isKind kind) (ifZero (b + p + q) (aloneOf kind a)) Malformed)))))
 
 abbrev pub decode : List ℕ → Decoded
 decode r = cond (eqb (length r) 6) (fieldsOf (getD r 0 0) (getD r 1 0) (getD r 2 0) (getD r 3 0) (getD r 4 0 * 256 + getD r 5 0)) Malformed
@@ -62,11 +66,11 @@ firstOf (Write a) = a
 firstOf (Saved a) = a
 firstOf (Fetch a) = a
 firstOf (Restored a) = a
-firstOf (WaitOver a) = a
 firstOf (Fail a) = a
 firstOf (Damage a b p q) = a
 firstOf (Lose a b p) = a
 firstOf (Trip a) = a
+firstOf (Unsure a) = a
 
 abbrev pub secondOf : Step → ℕ
 secondOf (Send a b p q) = b
@@ -77,11 +81,11 @@ secondOf (Write a) = a
 secondOf (Saved a) = a
 secondOf (Fetch a) = a
 secondOf (Restored a) = a
-secondOf (WaitOver a) = a
 secondOf (Fail a) = a
 secondOf (Damage a b p q) = b
 secondOf (Lose a b p) = b
 secondOf (Trip a) = a
+secondOf (Unsure a) = a
 
 -- "12 a failed (in deliver, b failed; saved and damage skip this check)"
 abbrev pub actorWorks : Group → Step → Bool
@@ -93,11 +97,11 @@ actorWorks g (Write a) = works (stateOf g (a - 1))
 actorWorks g (Saved a) = true
 actorWorks g (Fetch a) = works (stateOf g (a - 1))
 actorWorks g (Restored a) = works (stateOf g (a - 1))
-actorWorks g (WaitOver a) = works (stateOf g (a - 1))
 actorWorks g (Fail a) = works (stateOf g (a - 1))
 actorWorks g (Damage a b p q) = true
 actorWorks g (Lose a b p) = works (stateOf g (a - 1))
 actorWorks g (Trip a) = works (stateOf g (a - 1))
+actorWorks g (Unsure a) = works (stateOf g (a - 1))
 
 -- "cabinets, numbered 1 to n"
 abbrev pub isCabinet : Group → ℕ → Bool
@@ -118,11 +122,11 @@ perform g (Write a) = writeStep g (a - 1)
 perform g (Saved a) = savedStep g (a - 1)
 perform g (Fetch a) = fetchStep g (a - 1)
 perform g (Restored a) = restoredStep g (a - 1)
-perform g (WaitOver a) = waitOverStep g (a - 1)
 perform g (Fail a) = failStep g (a - 1)
 perform g (Damage a b p q) = damageStep g (a - 1) (b - 1) p q
 perform g (Lose a b p) = loseStep g (a - 1) (b - 1) p
 perform g (Trip a) = tripStep g (a - 1)
+perform g (Unsure a) = unsureStep g (a - 1)
 
 abbrev pub stepDecoded : Group → Decoded → Outcome
 stepDecoded g Malformed = answering (decodedNumber Malformed) g

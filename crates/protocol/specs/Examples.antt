@@ -38,11 +38,11 @@ saved a = recordOf 6 a 0 0 0
 abbrev pub fetches : ℕ → List (List ℕ)
 fetches a = replicate 4 (fetch a)
 
-abbrev pub waitOver : ℕ → List ℕ
-waitOver a = recordOf 9 a 0 0 0
-
 abbrev pub damage : ℕ → ℕ → ℕ → ℕ → List ℕ
 damage a b p q = recordOf 11 a b p q
+
+abbrev pub unsure : ℕ → List ℕ
+unsure a = recordOf 14 a 0 0 0
 
 -- ---- a run, and what is found in it
 
@@ -265,8 +265,8 @@ passed-over = record {
       steps (fail 1
       -- "A cabinet in normal or a saving state that receives fault enters error for that place, and has heard that neighbour."
       ∷ deliver 2 3 ∷ deliver 3 2
-      -- "version becomes old and a goes on as if recover had brought it"
-      ∷ waitOver 2
+      -- both report to 2, which with the last report "sets its version to old and goes on as 01 says"
+      ∷ unsure 2 ∷ unsure 3
       -- "stay in error until recover comes, then set the version to the one it carries and do the same"; the second is dropped
       ∷ deliver 2 3 ∷ deliver 3 2
       ∷ fetches 2 ++ fetches 3

@@ -25,7 +25,7 @@ use Rattle.group.specs.declared.Group.{Group}
 use Rattle.group.specs.declared.Outcome.{Outcome}
 use Rattle.group.specs.Group.{cabinet, stateOf, line}
 use Rattle.protocol.specs.declared.Step.{Step}
-use Rattle.protocol.specs.declared.Step.the-variants.{Send, Note, Begin, Deliver, Write, Saved, Fetch, Restored, WaitOver, Fail, Damage, Lose, Trip}
+use Rattle.protocol.specs.declared.Step.the-variants.{Send, Note, Begin, Deliver, Write, Saved, Fetch, Restored, Fail, Damage, Lose, Trip, Unsure}
 use Rattle.protocol.specs.declared.Decoded.{Decoded}
 use Rattle.protocol.specs.declared.Decoded.the-variants.{Malformed, Unused, Taken}
 use Rattle.protocol.specs.Receive.{takesFrom}
@@ -250,13 +250,13 @@ observe h g g′ (Saved a) =
     let k = coordinator (cabinet g (cabinet g (a - 1) .home)) in noteCommit (commits g g′ k) h k
 observe h g g′ (Fetch a) = noteKnown (goes g g′ (a - 1) Recovering Recovered) h
 observe h g g′ (Restored a) = noteEnd (ends g g′ (a - 1)) h g′
-observe h g g′ (WaitOver a) = h
 observe h g g′ (Fail a) = notePassed h (a - 1)
 observe h g g′ (Damage a b p q) = noteDamage (isNormal (packetAt (line g (a - 1) (b - 1)) p)) h (a - 1) (b - 1)
 -- a packet that is lost was sent and is never taken
 observe h g g′ (Lose a b p) = noteHurt h (a - 1) (b - 1)
 -- also where a third trip is a fail
 observe h g g′ (Trip a) = notePassed h (a - 1)
+observe h g g′ (Unsure a) = h
 
 -- "A cut belongs to the last begin taken by then, and its image is the cabinet's as that step leaves it."
 abbrev pub cutIn : History → Group → ℕ → Cut

@@ -1,4 +1,4 @@
--- The thirteen kinds of step: of each its refusals, "the first in the order written", and what it does when it is taken.
+-- The kinds of step, 1 to 14 without 9, which card 6 withdrew: of each its refusals, "the first in the order written", and what it does when it is taken.
 -- Cabinets are numbered from 0 here; the step entry has made checks 8 to 12.
 use Prim.Native.Nat.{ℕ, _+_}
 use mathlib.Core.Bool.{Bool, true, false, cond, not, _&&_, _||_}
@@ -6,7 +6,7 @@ use lib.ListN.{set}
 use lib.Dec.{eqb, ltb, leb}
 use Rattle.marks.specs.Marks.{marked, covers}
 use Rattle.marks.specs.Reach.{mark, connected}
-use Rattle.packet.specs.declared.Place.the-variants.{Failed as AtFailed, Tripped as AtTripped, Link as AtLink}
+use Rattle.packet.specs.declared.Place.the-variants.{Failed as AtFailed, Tripped as AtTripped}
 use Rattle.outlet.specs.Outlet.{endsOf}
 use Rattle.packet.specs.declared.Payload.{Payload}
 use Rattle.packet.specs.declared.Packet.{Packet}
@@ -14,16 +14,13 @@ use Rattle.packet.specs.declared.Packet.the-variants.{Normal as NormalPacket}
 use Rattle.packet.specs.Packet.{isEmpty, isNormal, damaged}
 use Rattle.line.specs.Line.{oldest, rest, put, normals, packetAt, replaced, without}
 use Rattle.state.specs.declared.State.the-variants.{Normal, Checkpointing, Error, Recovering, Recovered}
-use Rattle.cabinet.specs.declared.Alarm.{Alarm}
-use Rattle.cabinet.specs.declared.Alarm.the-variants.{Quiet, Fault}
-use Rattle.packet.specs.declared.Place.{Place}
 use Rattle.cabinet.specs.declared.Cabinet.{Cabinet}
 use Rattle.group.specs.declared.Group.{Group}
 use Rattle.group.specs.declared.Outcome.{Outcome}
-use Rattle.state.specs.State.{isIn, inRecovery, inRestoring, inSaving, bitOf}
+use Rattle.state.specs.State.{isIn, isUnknown, inRecovery, inRestoring, inSaving, bitOf}
 use Rattle.image.specs.Image.{booking, firstNote, withOctet, withPiece}
-use Rattle.cabinet.specs.Cabinet.{inUse, coordinator, withImage, sending, hurtFrom, wrote, owing, savedFor, fetched, restoredFor}
-use Rattle.group.specs.Group.{cabinet, withCabinet, stateOf, line, withLine, slot, withSlot, rowsOf, some, working, recoveringOnes, unsure, tripsOf, withTripsOf, answering, taken, crashed}
+use Rattle.cabinet.specs.Cabinet.{inUse, coordinator, withImage, sending, hurtFrom, wrote, owing, savedFor, fetched, restoredFor, unsureFor}
+use Rattle.group.specs.Group.{cabinet, withCabinet, stateOf, line, withLine, slot, withSlot, rowsOf, some, working, recoveringOnes, tripsOf, withTripsOf, answering, taken, crashed}
 use Rattle.protocol.specs.Moves.{join, cutIfAll, commit, recoverWith, markFailed, trip, alarmTo, endRecovery, noteLost}
 use Rattle.protocol.specs.Receive.{receive}
 
@@ -177,28 +174,6 @@ restoredStep g a =
     orRefuse (restoredRefusal g a) g
     (taken (endIfAll (reportRestored g a (coordinator (cabinet g a))) (coordinator (cabinet g a))))
 
--- ---- 9 wait over
-
--- the cabinet's own link mark to the place stands: "Only neighbours may take wait over"
-abbrev pub joinedTo : Place → Cabinet → Bool
-joinedTo (AtFailed k) c = marked (c .table .links) k
-joinedTo (AtTripped k) c = marked (c .table .links) k
-joinedTo (AtLink j k) c = false
-
--- the fault is the coordinator as it was before, as noted on entering error, and a link in use joined the two
-abbrev pub lostCoordinator : Alarm → Cabinet → Bool
-lostCoordinator Quiet c = false
-lostCoordinator (Fault p) c = c .noted .former && joinedTo p c
-
-abbrev pub waitOverRefusal : Group → ℕ → ℕ
-waitOverRefusal g a =
-    need (isIn (stateOf g a) Error && lostCoordinator (cabinet g a .phase .alarm) (cabinet g a)) 14
-    (need (covers (unsure g) (working g)) 19 0)
-
--- "version becomes old and a goes on as if recover had brought it"
-unfoldable pub waitOverStep : Group → ℕ → Outcome
-waitOverStep g a = orRefuse (waitOverRefusal g a) g (taken (recoverWith g a (bitOf (cabinet g a .phase .version))))
-
 -- ---- 10 fail
 
 -- "a store cabinet fails; a cabinet fails .. while some working cabinet is in error, recovering or recovered; .. or at a fail
@@ -277,3 +252,33 @@ tripOnce g a k = cond (tripCrashes g a) (crashed g) (taken (alarmTo 8 (trip (wit
 -- "A third trip of the same cabinet with no commit between .. is a fail."
 unfoldable pub tripStep : Group → ℕ → Outcome
 tripStep g a = cond (ltb (tripsOf g a) 2) (tripOnce g a (tripsOf g a + 1)) (failStep g a)
+
+-- ---- 14 unsure
+
+-- in error with unknown version
+abbrev pub isUnsure : Cabinet → Bool
+isUnsure c = isIn (c .phase .state) Error && isUnknown (c .phase .version)
+
+-- not reported already, and the coordinator in error
+abbrev pub takesUnsure : Cabinet → ℕ → Bool
+takesUnsure k a = not (marked (k .noted .unsure) a) && isIn (k .phase .state) Error
+
+-- "14 not in error with unknown version, or the fault is not the former coordinator; 19 reported already or the coordinator not in error":
+-- the former one as noted on entering error, the coordinator that a's table names now
+abbrev pub unsureRefusal : Group → ℕ → ℕ
+unsureRefusal g a =
+    need (isUnsure (cabinet g a) && cabinet g a .noted .former) 14 (need (takesUnsure (cabinet g (coordinator (cabinet g a))) a) 19 0)
+
+-- "each cabinet in error with unknown version reports unsure to the new coordinator"
+unfoldable pub reportUnsure : Group → ℕ → ℕ → Group
+reportUnsure g a k = withCabinet g k (unsureFor (cabinet g k) a)
+
+-- "When all in that table have reported, itself included, it sets its version to old and goes on as 01 says."
+unfoldable pub decideIfAll : Group → ℕ → Group
+decideIfAll g k =
+    cond (covers (cabinet g k .noted .unsure) (cabinet g k .table .cabinets)) (recoverWith g k (bitOf (cabinet g k .phase .version))) g
+
+unfoldable pub unsureStep : Group → ℕ → Outcome
+unsureStep g a =
+    orRefuse (unsureRefusal g a) g
+    (taken (decideIfAll (reportUnsure g a (coordinator (cabinet g a))) (coordinator (cabinet g a))))

@@ -1,8 +1,9 @@
--- Documents 01 and 02 as definitions: the moves, the thirteen kinds of step, the step entry and the listing; points and returns; then
+-- Documents 01 and 02 as definitions: the moves, the kinds of step, the step entry and the listing; points and returns; then
 -- the history and demand 3, the program that runs a plan, closed runs, and what the entry answers.
 pub mod Moves
 pub mod Receive
 pub mod Kinds
+pub mod Wait
 pub mod Entry
 pub mod Listing
 pub mod Points
@@ -16,5 +17,6 @@ pub mod Outlets
 pub mod Tempting
 pub mod Losses
 pub mod Trips
+pub mod Unsure
 pub mod Answers
 pub mod Crash

@@ -17,7 +17,7 @@ use Rattle.protocol.specs.Listing.{Text, ascii}
 use Rattle.protocol.specs.History.{Operation, stepping, pointing, returning, steps}
 use Rattle.protocol.specs.Evening.{operateAll, answersTo, evening}
 use Rattle.protocol.specs.Marked.{fileOf, twoCabinets, send, begin, deliver, restored, fail}
-use Rattle.protocol.specs.Examples.{Example, Found, Walk, walkToFault, foundFrom, sizeOf, forEach, note, writes, saved, fetches, waitOver, toA, imageWith, row, rowCommitted}
+use Rattle.protocol.specs.Examples.{Example, Found, Walk, walkToFault, foundFrom, sizeOf, forEach, note, writes, saved, fetches, unsure, toA, imageWith, row, rowCommitted}
 
 -- ---- names and sites
 
@@ -109,7 +109,7 @@ return-stays = record {
   since =
       steps (fail 1
       ∷ deliver 2 3 ∷ deliver 3 2
-      ∷ waitOver 2
+      ∷ unsure 2 ∷ unsure 3
       ∷ deliver 2 3 ∷ deliver 3 2
       ∷ fetches 2 ++ fetches 3
       ++ restored 3 ∷ []);

@@ -7,7 +7,7 @@ use lib.ListN.{length, replicate}
 use Rattle.load.specs.Load.{load}
 use Rattle.protocol.specs.Entry.{answersFrom}
 use Rattle.protocol.specs.Marked.{fileOf, rowOf, twoCabinets, recordOf, send, begin, deliver, fetch, restored, fail}
-use Rattle.protocol.specs.Examples.{note, writes, saved, fetches, waitOver, damage}
+use Rattle.protocol.specs.Examples.{note, writes, saved, fetches, damage, unsure}
 
 -- a run, and the answers that the paper gives
 pub record Run : Type 0 where
@@ -26,6 +26,10 @@ AsWritten r = answered r ≡ r .answers
 abbrev pub lastOf : List ℕ → List (List ℕ) → List ℕ → ℕ → Run
 lastOf file before last answer =
     record { file = file; records = before ++ last ∷ []; answers = replicate (length before) 0 ++ answer ∷ [] }
+
+-- every record is taken, and then some have these answers
+abbrev pub askedLast : List ℕ → List (List ℕ) → List (List ℕ) → List ℕ → Run
+askedLast file before last answers = record { file = file; records = before ++ last; answers = replicate (length before) 0 ++ answers }
 
 -- ---- "Dropping a failed cabinet from the coordinator's list before the fault packet arrives: it would commit a save with a hole."
 
@@ -46,22 +50,25 @@ hole = lastOf farFromThree (writtenButThree ++ saved 1 ∷ saved 2 ∷ saved 4 �
 abbrev pub holeLate : Run
 holeLate = lastOf farFromThree (writtenButThree ++ saved 1 ∷ saved 2 ∷ fail 3 ∷ saved 4 ∷ []) (begin 1) 14
 
--- ---- "Taking wait over while one cabinet has had resume: two versions."
+-- ---- "Taking wait over while one cabinet has had resume: two versions." Nor is it decided by reports: "19 .. the coordinator not in error"
 
--- four in a ring, 4 the store and home of all; the save is committed, 2 takes its resume, then 1 fails: 2 has the new version, and
--- 3 and 4, which do not know, are in error
-abbrev pub resumeAtTwo : List (List ℕ)
-resumeAtTwo =
-    begin 1 ∷ deliver 1 2 ∷ deliver 1 3 ∷ deliver 2 4 ∷ deliver 3 4 ∷ deliver 4 2 ∷ deliver 4 3 ∷ deliver 2 1 ∷ deliver 3 1
-    ∷ writes 1 ++ writes 2 ++ writes 3 ++ writes 4
-    ++ saved 1 ∷ saved 2 ∷ saved 3 ∷ saved 4
-    ∷ deliver 1 2 ∷ fail 1 ∷ deliver 3 4 ∷ []
-
+-- four in a ring, 4 the store and home of all, and a save of them up to its commit
 abbrev pub farFromOne : List ℕ
 farFromOne = fileOf 4 (10 ∷ 20 ∷ 30 ∷ 40 ∷ []) (1 ∷ 2 ∷ 1 ∷ 3 ∷ 2 ∷ 4 ∷ 3 ∷ 4 ∷ [])
 
+abbrev pub farCommitted : List (List ℕ)
+farCommitted =
+    begin 1 ∷ deliver 1 2 ∷ deliver 1 3 ∷ deliver 2 4 ∷ deliver 3 4 ∷ deliver 4 2 ∷ deliver 4 3 ∷ deliver 2 1 ∷ deliver 3 1
+    ∷ writes 1 ++ writes 2 ++ writes 3 ++ writes 4
+    ++ saved 1 ∷ saved 2 ∷ saved 3 ∷ saved 4 ∷ []
+
+-- 2 takes its resume, then 1 fails: 2 has the new version, and 3 and 4, which do not know, are in error
+abbrev pub resumeAtTwo : List (List ℕ)
+resumeAtTwo = farCommitted ++ deliver 1 2 ∷ fail 1 ∷ deliver 3 4 ∷ []
+
+-- 2 knows and is the coordinator now; "kind 9 is withdrawn and gives 8"
 abbrev pub wait : Run
-wait = lastOf farFromOne resumeAtTwo (waitOver 3) 19
+wait = askedLast farFromOne resumeAtTwo (recordOf 9 3 0 0 0 ∷ unsure 2 ∷ unsure 3 ∷ unsure 4 ∷ []) (8 ∷ 14 ∷ 19 ∷ 19 ∷ [])
 
 -- "19 home not recovering or recovered": its old version is not that of the save which 2 is to come back from
 abbrev pub homeInDoubt : Run
@@ -148,14 +155,14 @@ noteWide = lastOf triangle [] (note 1 4 256) 15
 abbrev pub homeRecovers : Run
 homeRecovers = lastOf farFromThree (begin 1 ∷ deliver 1 4 ∷ deliver 4 3 ∷ deliver 3 4 ∷ fail 2 ∷ []) (recordOf 5 4 0 0 0) 19
 
--- ---- "14 .. the fault is not a's coordinator as it was before"
+-- ---- "14 .. the fault is not the former coordinator"
 
 -- 2 has written and does not know its version; the one that failed is 3
 abbrev pub otherFailed : Run
 otherFailed =
     lastOf triangle
     (begin 1 ∷ deliver 1 2 ∷ deliver 1 3 ∷ deliver 2 1 ∷ deliver 3 1 ∷ deliver 2 3 ∷ deliver 3 2 ∷ writes 2 ++ fail 3 ∷ [])
-    (waitOver 2) 14
+    (unsure 2) 14
 
 -- ---- "13 no link in a's table; 14 a not in normal": in that order
 
@@ -200,13 +207,15 @@ faultyLinkParts =
 
 -- ---- "Every step first": 8 to 12, "the first in the order written"
 
--- 4 is no cabinet and 3 fails; after the crash the same records, then one with a field that is not 0, then one of no kind
+-- a withdrawn kind, with a field that is not 0 too; 4 is no cabinet and 3 fails; after the crash the same records, then one with a field
+-- that is not 0, then two of no kind
 abbrev pub inOrder : Run
 inOrder = record {
   file = triangle;
   records =
-      begin 4 ∷ fail 3 ∷ begin 3 ∷ fail 2 ∷ begin 4 ∷ begin 3 ∷ recordOf 3 4 1 0 0 ∷ recordOf 14 4 1 0 0 ∷ [];
-  answers = 11 ∷ 0 ∷ 12 ∷ 50 ∷ 10 ∷ 10 ∷ 9 ∷ 8 ∷ [];
+      recordOf 9 1 0 0 0 ∷ recordOf 9 4 1 1 1 ∷ begin 4 ∷ fail 3 ∷ begin 3 ∷ fail 2 ∷ begin 4 ∷ begin 3 ∷ recordOf 3 4 1 0 0
+      ∷ recordOf 15 4 1 0 0 ∷ recordOf 9 4 1 0 0 ∷ [];
+  answers = 8 ∷ 8 ∷ 11 ∷ 0 ∷ 12 ∷ 50 ∷ 10 ∷ 10 ∷ 9 ∷ 8 ∷ 8 ∷ [];
 }
 
 -- ---- the table

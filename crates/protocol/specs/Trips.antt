@@ -1,4 +1,5 @@
--- Closed runs of document 02, card 5: seven recoveries in which a cabinet has tripped, and cases of what is answered and printed.
+-- Closed runs of document 02, card 5: six recoveries in which a cabinet has tripped (another, of a save whose resume was taken, is
+-- `Unsure.early`), and cases of what is answered and printed.
 use Prim.Native.Nat.{ℕ}
 use mathlib.Core.Path.{_≡_}
 use mathlib.Core.Bool.{true, false}
@@ -11,8 +12,8 @@ use Rattle.cabinet.specs.declared.Alarm.the-variants.{Fault}
 use Rattle.protocol.specs.History.{stepping, steps}
 use Rattle.protocol.specs.Listing.{ascii}
 use Rattle.protocol.specs.Marked.{fileOf, recordOf, send, begin, deliver, restored, fail, ListingOf, Case}
-use Rattle.protocol.specs.Examples.{note, writes, saved, fetches, waitOver, damage, Example, Found, toA, imageWith, ring, ringSaved, row, rowCommitted}
-use Rattle.protocol.specs.Tempting.{Run}
+use Rattle.protocol.specs.Examples.{note, writes, saved, fetches, damage, unsure, Example, Found, toA, imageWith, ring, ringSaved, row, rowCommitted}
+use Rattle.protocol.specs.Tempting.{Run, askedLast}
 use Rattle.protocol.specs.Losses.{lose, answers}
 
 abbrev pub trip : ℕ → List ℕ
@@ -64,10 +65,10 @@ rowTwice =
     ∷ send 3 2 8 ∷ deliver 3 2 ∷ send 1 2 9 ∷ deliver 1 2 ∷ note 3 31 7
     ∷ rowCommitted
 
--- nobody took the resume: 2, "the next higher number in use", waits over, brings the others the old version and ends the recovery
-abbrev pub firstTripsWaitedOver : List (List ℕ)
-firstTripsWaitedOver =
-    trip 1 ∷ deliver 2 3 ∷ deliver 3 2 ∷ deliver 2 1 ∷ deliver 1 2 ∷ waitOver 2 ∷ deliver 2 3 ∷ deliver 2 1
+-- nobody took the resume: all report to 2, "the next higher number in use", which brings the others the old version and ends the recovery
+abbrev pub firstTripsAllUnsure : List (List ℕ)
+firstTripsAllUnsure =
+    trip 1 ∷ deliver 2 3 ∷ deliver 3 2 ∷ deliver 2 1 ∷ deliver 1 2 ∷ unsure 2 ∷ unsure 3 ∷ unsure 1 ∷ deliver 2 3 ∷ deliver 2 1
     ∷ fetches 1 ++ fetches 2 ++ fetches 3
     ++ restored 1 ∷ restored 3 ∷ []
 
@@ -75,7 +76,7 @@ abbrev pub trip-passed-over : Example
 trip-passed-over = record {
   file = row;
   before = steps rowTwice;
-  since = steps firstTripsWaitedOver;
+  since = steps firstTripsAllUnsure;
   last = stepping (restored 2);
   coordinator = 1;
 }
@@ -94,36 +95,6 @@ trip-passed-over-finds = record {
   took = [] ∷ (toA 30 ∷ []) ∷ [] ∷ [];
   standing = imageWith 61 0 ∷ imageWith 97 0 ∷ imageWith 12 7 ∷ [];
   held = some (imageWith 70 0) ∷ some (imageWith 80 0) ∷ some (imageWith 20 6) ∷ [];
-  gone = none ∷ none ∷ none ∷ [];
-}
-
--- 2 took the resume: it knows, and the others have the new version from it
-abbrev pub trip-after-resume : Example
-trip-after-resume = record {
-  file = row;
-  before = steps (rowTwice ++ deliver 1 2 ∷ []);
-  since =
-      steps (trip 1 ∷ deliver 2 3 ∷ deliver 2 3 ∷ deliver 3 2 ∷ deliver 1 2 ∷ deliver 2 1 ∷ deliver 2 1
-      ∷ fetches 1 ++ fetches 2 ++ fetches 3
-      ++ restored 1 ∷ restored 3 ∷ []);
-  last = stepping (restored 2);
-  coordinator = 1;
-}
-
-abbrev pub trip-after-resume-finds : Found
-trip-after-resume-finds = record {
-  loaded = 0;
-  taken = true;
-  ended = true;
-  place = Fault (AtTripped 0);
-  committed = 2;
-  left = 2;
-  begun = true;
-  stands = true;
-  by = 0;
-  took = [] ∷ (toA 30 ∷ toA 9 ∷ toA 8 ∷ []) ∷ [] ∷ [];
-  standing = imageWith 61 0 ∷ imageWith 97 0 ∷ imageWith 12 7 ∷ [];
-  held = some (imageWith 61 0) ∷ some (imageWith 97 0) ∷ some (imageWith 12 7) ∷ [];
   gone = none ∷ none ∷ none ∷ [];
 }
 
@@ -321,7 +292,7 @@ leafBack =
 -- a save of the row is committed and passed over, and all come back
 abbrev pub commitLost : List (List ℕ)
 commitLost =
-    rowCommitted ++ firstTripsWaitedOver ++ restored 2
+    rowCommitted ++ firstTripsAllUnsure ++ restored 2
     ∷ deliver 1 2 ∷ deliver 2 1 ∷ deliver 2 3 ∷ deliver 3 2 ∷ deliver 1 2 ∷ deliver 3 2 ∷ []
 
 -- 2 of the near row trips, and all come back
@@ -357,23 +328,14 @@ secondGone =
 abbrev pub ringOfFive : List ℕ
 ringOfFive = fileOf 2 (10 ∷ 10 ∷ 10 ∷ 10 ∷ 10 ∷ []) (1 ∷ 2 ∷ 1 ∷ 3 ∷ 2 ∷ 4 ∷ 3 ∷ 5 ∷ 4 ∷ 5 ∷ [])
 
--- records that are taken, and then some with these answers
-abbrev pub askedLast : List ℕ → List (List ℕ) → List (List ℕ) → List ℕ → Run
-askedLast file before last answers = record { file = file; records = before ++ last; answers = replicate (length before) 0 ++ answers }
-
--- "Only neighbours may take wait over": not the tripped coordinator, nor 3, which has no link to it
-abbrev pub waits : Run
-waits =
-    askedLast row (rowCommitted ++ trip 1 ∷ deliver 2 3 ∷ deliver 3 2 ∷ []) (waitOver 1 ∷ waitOver 3 ∷ waitOver 2 ∷ []) (14 ∷ 14 ∷ 0 ∷ [])
-
 -- 2 leads a save in which 3 is past its last piece, and 1, which leads no more, trips
 abbrev pub formerTrips : List (List ℕ)
 formerTrips = begin 2 ∷ deliver 2 1 ∷ deliver 2 3 ∷ deliver 1 2 ∷ deliver 1 3 ∷ deliver 3 1 ∷ deliver 3 2 ∷ writes 3 ++ trip 1 ∷ []
 
--- "the next higher number in use takes over": the lead is not handed back; nor is wait over taken where the fault was not the coordinator
+-- "the next higher number in use takes over": the lead is not handed back; nor is a report taken where the fault was not the coordinator
 abbrev pub leads : Run
 leads =
-    askedLast farRing ledBySecond (begin 1 ∷ formerTrips ++ waitOver 3 ∷ [])
+    askedLast farRing ledBySecond (begin 1 ∷ formerTrips ++ unsure 3 ∷ [])
     (14 ∷ replicate (length formerTrips) 0 ++ 14 ∷ [])
 
 -- a count is "of the same cabinet"; a third trip is a fail in its crash cases too: 2 joins 1 and 3
@@ -386,7 +348,7 @@ tripCases =
     answers ring [] (recordOf 13 3 1 0 0) 9
     ∷ answers ring [] (recordOf 13 3 0 1 0) 9
     ∷ answers ring [] (recordOf 13 3 0 0 1) 9
-    ∷ answers ring [] (recordOf 14 3 0 0 0) 8
+    ∷ answers ring [] (recordOf 15 3 0 0 0) 8
     ∷ answers ring (trip 1 ∷ []) (trip 3) 10
     ∷ answers ring [] (trip 4) 11
     ∷ answers ring (fail 3 ∷ []) (trip 3) 12

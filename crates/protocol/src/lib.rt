@@ -14,11 +14,11 @@ pub enum Step {
     Saved { a: u8 },
     Fetch { a: u8 },
     Restored { a: u8 },
-    WaitOver { a: u8 },
     Fail { a: u8 },
     Damage { a: u8, b: u8, p: u8, q: u16 },
     Lose { a: u8, b: u8, p: u8 },
     Trip { a: u8 },
+    Unsure { a: u8 },
 }
 
 // What six octets, or some other number of them, decode to.

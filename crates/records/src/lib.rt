@@ -13,7 +13,7 @@ ghost use Rattle.group.specs.declared.Group.{Group};
 ghost use Rattle.group.specs.Group.{stateOf};
 ghost use Rattle.protocol.specs.declared.Decoded.the-variants.{Unused};
 ghost use Rattle.protocol.specs.Kinds.{need};
-ghost use Rattle.protocol.specs.Entry.{aloneOf, fieldsOf, decode, decodedNumber, firstOf, secondOf, actorWorks, entryRefusal};
+ghost use Rattle.protocol.specs.Entry.{aloneOf, isKind, fieldsOf, decode, decodedNumber, firstOf, secondOf, actorWorks, entryRefusal};
 
 // ---- refusals
 
@@ -62,11 +62,18 @@ fn alone_of(kind: u8, a: u8) -> Decoded
         6 => Decoded::Taken(Step::Saved { a: a }),
         7 => Decoded::Taken(Step::Fetch { a: a }),
         8 => Decoded::Taken(Step::Restored { a: a }),
-        9 => Decoded::Taken(Step::WaitOver { a: a }),
         10 => Decoded::Taken(Step::Fail { a: a }),
         13 => Decoded::Taken(Step::Trip { a: a }),
+        14 => Decoded::Taken(Step::Unsure { a: a }),
         _ => Decoded::Malformed,
     }
+}
+
+// The numbers of kinds: 1 to 14 without 9.
+fn is_kind(kind: u8) -> bool
+    ensures { λ r. ⌜ r ≡ isKind kind ⌝ }
+{
+    marks::and(1 <= kind, marks::and(kind <= 14, kind != 9))
 }
 
 fn fields_of(kind: u8, a: u8, b: u8, p: u8, q: u16) -> Decoded
@@ -98,7 +105,7 @@ fn fields_of(kind: u8, a: u8, b: u8, p: u8, q: u16) -> Decoded
     if kind == 12 {
         return if_zero(q == 0, Decoded::Taken(Step::Lose { a: a, b: b, p: p }));
     }
-    if marks::and(1 <= kind, kind <= 13) {
+    if is_kind(kind) {
         let unused = three_fields(b, p, q);
         return if_zero(unused == 0, alone_of(kind, a));
     }
@@ -147,7 +154,6 @@ fn first_of(s: Step) -> u8
         Step::Saved { a } => a,
         Step::Fetch { a } => a,
         Step::Restored { a } => a,
-        Step::WaitOver { a } => a,
         Step::Fail { a } => a,
         Step::Damage {
             a,
@@ -157,6 +163,7 @@ fn first_of(s: Step) -> u8
         } => a,
         Step::Lose { a, b: _, p: _ } => a,
         Step::Trip { a } => a,
+        Step::Unsure { a } => a,
     }
 }
 
@@ -177,7 +184,6 @@ fn second_of(s: Step) -> u8
         Step::Saved { a } => a,
         Step::Fetch { a } => a,
         Step::Restored { a } => a,
-        Step::WaitOver { a } => a,
         Step::Fail { a } => a,
         Step::Damage {
             a: _,
@@ -187,6 +193,7 @@ fn second_of(s: Step) -> u8
         } => b,
         Step::Lose { a: _, b, p: _ } => b,
         Step::Trip { a } => a,
+        Step::Unsure { a } => a,
     }
 }
 
@@ -226,7 +233,6 @@ fn actor_works(s: Step, first: bool, second: bool) -> bool
         Step::Saved { a: _ } => true,
         Step::Fetch { a: _ } => first,
         Step::Restored { a: _ } => first,
-        Step::WaitOver { a: _ } => first,
         Step::Fail { a: _ } => first,
         Step::Damage {
             a: _,
@@ -236,6 +242,7 @@ fn actor_works(s: Step, first: bool, second: bool) -> bool
         } => true,
         Step::Lose { a: _, b: _, p: _ } => first,
         Step::Trip { a: _ } => first,
+        Step::Unsure { a: _ } => first,
     }
 }
 

@@ -1,12 +1,10 @@
-// The steps of a recovery: fetch, restored and wait over.
-use cabinet::Alarm;
+// The steps of a recovery: fetch, restored and unsure.
 use cabinet::Cabinet;
 use group::Group;
 use group::Outcome;
-use packet::Place;
 use state::State;
 ghost use mathlib.Core.Path.{_≡_};
-ghost use Rattle.protocol.specs.Kinds.{fetchRefusal, fetchPiece, fetchStep, mayReport, restoredRefusal, reportRestored, endIfAll, restoredStep, joinedTo, lostCoordinator, waitOverRefusal, waitOverStep};
+ghost use Rattle.protocol.specs.Kinds.{fetchRefusal, fetchPiece, fetchStep, mayReport, restoredRefusal, reportRestored, endIfAll, restoredStep, isUnsure, takesUnsure, unsureRefusal, reportUnsure, decideIfAll, unsureStep};
 
 // ---- 7 fetch
 
@@ -106,55 +104,73 @@ pub fn restored_step(g: Group, a: u8) -> Outcome
     }
 }
 
-// ---- 9 wait over
+// ---- 14 unsure
 
-// A link of its own in use joins the cabinet to the place. None joins a tripped one to itself.
-fn joined_to(place: Place, c: Cabinet) -> bool
-    ensures { λ r. ⌜ r ≡ joinedTo place c ⌝ }
+// In error with unknown version.
+fn is_unsure(c: Cabinet) -> bool
+    ensures { λ r. ⌜ r ≡ isUnsure c ⌝ }
 {
-    let table = c.table;
-    let links = table.links;
-    match place {
-        Place::Failed(k) => marks::marked(links, k),
-        Place::Tripped(k) => marks::marked(links, k),
-        Place::Link(_, _) => false,
-    }
+    let phase = c.phase;
+    let state = phase.state;
+    let version = phase.version;
+    let in_error = state::is_in(state, State::Error);
+    marks::and(in_error, state::is_unknown(version))
 }
 
-// The fault is the coordinator as it was before, and a link in use joined the two.
-fn lost_coordinator(alarm: Alarm, c: Cabinet) -> bool
-    ensures { λ r. ⌜ r ≡ lostCoordinator alarm c ⌝ }
+// Not reported already, and the coordinator k in error.
+fn takes_unsure(k: Cabinet, a: u8) -> bool
+    ensures { λ r. ⌜ r ≡ takesUnsure k a ⌝ }
 {
-    let noted = c.noted;
-    match alarm {
-        Alarm::Quiet => false,
-        Alarm::Fault(place) => marks::and(noted.former, joined_to(place, c)),
-    }
+    let noted = k.noted;
+    let unsure = noted.unsure;
+    let phase = k.phase;
+    let state = phase.state;
+    let first = !marks::marked(unsure, a);
+    marks::and(first, state::is_in(state, State::Error))
 }
 
-fn wait_over_refusal(g: Group, a: u8) -> u8
-    ensures { λ r. ⌜ r ≡ waitOverRefusal g a ⌝ }
+fn unsure_refusal(g: Group, a: u8) -> u8
+    ensures { λ r. ⌜ r ≡ unsureRefusal g a ⌝ }
 {
     let c = g.cabinet(a);
-    let phase = c.phase;
-    let alarm = phase.alarm;
-    let waits = state::is_in(g.state_of(a), State::Error);
-    let unsure = survey::unsure(g);
-    let working = survey::working(g);
-    let all = records::need(marks::covers(unsure, working), 19, 0);
-    records::need(marks::and(waits, lost_coordinator(alarm, c)), 14, all)
+    let noted = c.noted;
+    let takes = takes_unsure(g.cabinet(c.coordinator()), a);
+    let due = marks::and(is_unsure(c), noted.former);
+    records::need(due, 14, records::need(takes, 19, 0))
 }
 
-pub fn wait_over_step(g: Group, a: u8) -> Outcome
-    ensures { λ r. ⌜ r ≡ waitOverStep g a ⌝ }
+fn report_unsure(g: Group, a: u8, k: u8) -> Group
+    ensures { λ r. ⌜ r ≡ reportUnsure g a k ⌝ }
 {
-    let k = wait_over_refusal(g, a);
-    if k == 0 {
-        let c = g.cabinet(a);
-        let phase = c.phase;
-        let version = phase.version;
-        group::taken(moves::recover_with(g, a, state::bit_of(version)))
+    g.with_cabinet(k, g.cabinet(k).unsure_for(a))
+}
+
+// With the reports of all in its table the coordinator goes on with its old version.
+fn decide_if_all(g: Group, k: u8) -> Group
+    ensures { λ r. ⌜ r ≡ decideIfAll g k ⌝ }
+{
+    let c = g.cabinet(k);
+    let noted = c.noted;
+    let unsure = noted.unsure;
+    let table = c.table;
+    let cabinets = table.cabinets;
+    let phase = c.phase;
+    let version = phase.version;
+    if marks::covers(unsure, cabinets) {
+        moves::recover_with(g, k, state::bit_of(version))
     } else {
-        group::answering(k, g)
+        g
+    }
+}
+
+pub fn unsure_step(g: Group, a: u8) -> Outcome
+    ensures { λ r. ⌜ r ≡ unsureStep g a ⌝ }
+{
+    let n = unsure_refusal(g, a);
+    if n == 0 {
+        let k = g.cabinet(a).coordinator();
+        group::taken(decide_if_all(report_unsure(g, a, k), k))
+    } else {
+        group::answering(n, g)
     }
 }

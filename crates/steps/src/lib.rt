@@ -24,7 +24,6 @@ fn perform(g: Group, s: Step) -> Outcome
         Step::Saved { a } => saving::saved_step(g, records::before(a)),
         Step::Fetch { a } => restoring::fetch_step(g, records::before(a)),
         Step::Restored { a } => restoring::restored_step(g, records::before(a)),
-        Step::WaitOver { a } => restoring::wait_over_step(g, records::before(a)),
         Step::Fail { a } => failing::fail_step(g, records::before(a)),
         Step::Damage { a, b, p, q } => hurting::damage_step(
             g,
@@ -35,6 +34,7 @@ fn perform(g: Group, s: Step) -> Outcome
         ),
         Step::Lose { a, b, p } => hurting::lose_step(g, records::before(a), records::before(b), p),
         Step::Trip { a } => failing::trip_step(g, records::before(a)),
+        Step::Unsure { a } => restoring::unsure_step(g, records::before(a)),
     }
 }
 

@@ -4,11 +4,10 @@ use group::Group;
 use group::Outcome;
 use state::State;
 ghost use mathlib.Core.Path.{_≡_};
-ghost use mathlib.Core.Bool.{_&&_};
-ghost use Rattle.state.specs.declared.State.the-variants.{Normal, Error, Crashed};
-ghost use Rattle.state.specs.State.{works, isIn, inRecovery, isUnknown};
+ghost use Rattle.state.specs.declared.State.the-variants.{Normal, Crashed};
+ghost use Rattle.state.specs.State.{works, isIn, inRecovery};
 ghost use Rattle.cabinet.specs.Cabinet.{crashing};
-ghost use Rattle.group.specs.Group.{cabinet, stateOf, those, some, working, recoveringOnes, unsure, isCrashed, normalOnes, hasLaden, ladenOnes, quiet, crashAll, crashed};
+ghost use Rattle.group.specs.Group.{cabinet, stateOf, those, some, working, recoveringOnes, isCrashed, normalOnes, hasLaden, ladenOnes, quiet, crashAll, crashed};
 
 // One is marked.
 pub fn some(marks: [bool; 8]) -> bool
@@ -57,34 +56,6 @@ pub fn recovering_ones(g: Group) -> [bool; 8]
         recovers_at(g, 5),
         recovers_at(g, 6),
         recovers_at(g, 7),
-    ]
-}
-
-fn unsure_at(g: Group, i: u8) -> bool
-    ensures { λ r. ⌜ r ≡ isIn (stateOf g i) Error && isUnknown (cabinet g i .phase .version) ⌝ }
-{
-    let c = g.cabinet(i);
-    let p = c.phase;
-    let v = p.version;
-    marks::and(
-        state::is_in(g.state_of(i), State::Error),
-        state::is_unknown(v),
-    )
-}
-
-// Those in error with unknown version.
-pub fn unsure(g: Group) -> [bool; 8]
-    ensures { λ r. ⌜ r ≡ unsure g ⌝ }
-{
-    [
-        unsure_at(g, 0),
-        unsure_at(g, 1),
-        unsure_at(g, 2),
-        unsure_at(g, 3),
-        unsure_at(g, 4),
-        unsure_at(g, 5),
-        unsure_at(g, 6),
-        unsure_at(g, 7),
     ]
 }
 

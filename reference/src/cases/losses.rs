@@ -156,7 +156,7 @@ impl Run<'_> {
     }
 
     pub(super) fn after_recovery(&mut self) {
-        if std::mem::take(&mut self.lost_since_recovery) {
+        if std::mem::take(&mut self.lost_since_recovery) || self.temper.doubtful {
             self.save_first = self.dice.pick(&[0, 400, 1000]);
         }
     }

@@ -2,7 +2,10 @@
 //! a save as far as its commit, and mostly the group is brought to rest before a point or a
 //! return. Most plans end where the bookings tell which save or point came back.
 
-use super::{damaged_group_file, record, Case, Dice, GroupDraft, Record, Run, Wishes, LONG};
+use super::{
+    damaged_group_file, draft_that_may_lose_its_lead, record, Case, Dice, GroupDraft, Record, Run,
+    Wishes, LONG,
+};
 use crate::evening::PLAN_RECORD_LENGTH;
 use crate::model::{self, Event, Group, Number, Outcome, State, KINDS, TAKEN};
 use crate::points::{Name, Points, NAME_LENGTH};
@@ -25,6 +28,9 @@ pub fn make_plan_case(seed: u64, wishes: Wishes) -> Case {
 /// Mostly a larger group, some cabinets of which may fail without a crash.
 fn draft_that_can_lose_some(dice: &mut Dice, cabinets: Option<usize>) -> GroupDraft {
     let n = cabinets.unwrap_or_else(|| dice.between(2, 8).max(dice.between(2, 8)));
+    if dice.per_thousand(400) {
+        return draft_that_may_lose_its_lead(dice, Some(n));
+    }
     let wanted = dice.below(n - 1);
     let mut draft = GroupDraft::sound(dice, Some(n));
     for _ in 0..4 {
@@ -81,7 +87,8 @@ enum Scene {
     Fail,
     Trip,
     Stumble,
-    SlyTrip,
+    SlyFault,
+    Doubt,
     Damage,
     Loss,
     HurtOverReturn,
@@ -105,7 +112,8 @@ fn drawn_weights(dice: &mut Dice, wishes: Wishes) -> Vec<(Scene, usize)> {
         (Scene::Fail, dice.pick(&[0, 1, 3])),
         (Scene::Trip, if trips { dice.pick(&[0, 2, 4]) } else { 0 }),
         (Scene::Stumble, if trips { dice.pick(&[0, 0, 1, 2]) } else { 0 }),
-        (Scene::SlyTrip, if trips { dice.pick(&[0, 1, 3]) } else { 0 }),
+        (Scene::SlyFault, if trips { dice.pick(&[0, 1, 3]) } else { 0 }),
+        (Scene::Doubt, if wishes.reports() { dice.pick(&[2, 6, 10]) } else { 0 }),
         (Scene::Damage, if damage { dice.pick(&[0, 2, 4]) } else { 0 }),
         (Scene::Loss, if damage { dice.pick(&[0, 2, 4]) } else { 0 }),
         (Scene::HurtOverReturn, if damage { dice.pick(&[0, 1, 2]) } else { 0 }),
@@ -194,7 +202,8 @@ impl Planner<'_> {
             Scene::Fail => self.fail_scene(),
             Scene::Trip => self.trip_scene(),
             Scene::Stumble => self.stumble_scene(),
-            Scene::SlyTrip => self.sly_trip_scene(),
+            Scene::SlyFault => self.sly_fault_scene(),
+            Scene::Doubt => self.doubt_scene(),
             Scene::Damage => self.damage_scene(),
             Scene::Loss => self.loss_scene(),
             Scene::HurtOverReturn => self.hurt_over_return_scene(),
@@ -252,8 +261,10 @@ impl Planner<'_> {
         let lines = self.run.filled_lines().into_iter();
         let mut ready: Vec<Record> = lines.map(|(a, b)| record(4, a, b, 0, 0)).collect();
         for a in self.run.group.numbers() {
-            let kind = kind_for(self.run.group.cabinet(a).state);
-            ready.extend(kind.map(|kind| record(kind, a, 0, 0, 0)));
+            let state = self.run.group.cabinet(a).state;
+            if state != State::Error || !self.run.doubt.keeps_silent(a) {
+                ready.extend(kind_for(state).map(|kind| record(kind, a, 0, 0, 0)));
+            }
             ready.push(record(6, a, 0, 0, 0));
         }
         let start = self.run.dice.below(ready.len());
@@ -261,8 +272,12 @@ impl Planner<'_> {
         ready.into_iter().find(|record| self.run.taken(record))
     }
 
-    /// Drives on until nothing is left to do; then the group is quiet or crashed.
+    /// Drives on until nothing is left to do; then the group is quiet or crashed, or now and then
+    /// somebody keeps silent.
     fn settle(&mut self) {
+        if self.chance(800) {
+            self.run.doubt.end_silence();
+        }
         for _ in 0..ENOUGH_STEPS {
             let Some(record) = self.driving_record() else {
                 return;
@@ -323,7 +338,7 @@ fn kind_for(state: State) -> Option<u8> {
         State::Checkpointing => Some(5),
         State::Recovering => Some(7),
         State::Recovered => Some(8),
-        State::Error => Some(9),
+        State::Error => Some(14),
         _ => None,
     }
 }
@@ -470,7 +485,7 @@ impl Planner<'_> {
         if let Some(record) = self.run.strike_at_commit() {
             self.step(record);
         }
-        self.ask_some_to_wait();
+        self.report_some();
         self.settle_mostly();
     }
 
@@ -493,17 +508,73 @@ impl Planner<'_> {
     fn trip_scene(&mut self) {
         let trip = self.run.trip_that_cuts_off().or_else(|| self.run.safe_trip());
         trip.map(|record| self.step(record));
-        self.ask_some_to_wait();
+        self.report_some();
         self.recover_mostly();
     }
 
-    /// Who may not, or not yet.
-    fn ask_some_to_wait(&mut self) {
-        for _ in 0..self.run.dice.below(12) {
-            if let Some(record) = self.run.refused_wait_over() {
+    /// The coordinator is lost where nobody else, or only some, know their version: in a save, or
+    /// when a few have taken the resume.
+    fn doubt_scene(&mut self) {
+        self.settle_mostly();
+        self.trade_scene();
+        let lead = self.run.lead();
+        let safe = |a: Number| self.run.group.crash_by_tripping(a).is_none();
+        let Some(lead) = lead.filter(|&lead| safe(lead)) else {
+            return;
+        };
+        if self.run.wishes.damage && self.chance(150) {
+            return self.hurt_lead_scene();
+        }
+        if !self.begin() {
+            return;
+        }
+        let all = self.chance(750);
+        for _ in 0..ENOUGH_STEPS {
+            let (unknown, others) = self.run.doubters();
+            let enough = if all { others } else { others.div_ceil(2) };
+            if unknown >= enough || self.drive_once().is_none() {
+                break;
+            }
+        }
+        if self.chance(500) {
+            let more = self.run.dice.between(1, self.run.group.size() + 1);
+            self.drive(more);
+        }
+        let fault = self.run.safe_fault_of(lead);
+        fault.map(|record| self.step(record));
+        self.report_some();
+        self.recover_mostly();
+    }
+
+    /// The next to lead finds a link fault by a resume packet, and others report to it.
+    fn hurt_lead_scene(&mut self) {
+        if !self.save_up_to_commit() {
+            return;
+        }
+        for _ in 0..self.run.dice.between(5, 40) {
+            if let Some(record) = self.run.fault_beside_a_hurt_lead() {
                 self.step(record);
+                self.take_what_follows();
+                self.report_some();
+                break;
             }
             self.drive_once();
+        }
+        self.settle_mostly();
+    }
+
+    /// Reports between other steps; some are refused.
+    fn report_some(&mut self) {
+        for _ in 0..self.run.dice.below(12) {
+            let report = if self.chance(700) {
+                self.run.sensible_report()
+            } else {
+                self.run.refused_report()
+            };
+            match report {
+                Some(record) => drop(self.step(record)),
+                None => drop(self.drive_once()),
+            }
         }
     }
 
@@ -547,8 +618,8 @@ impl Planner<'_> {
         self.settle();
     }
 
-    /// Somebody trips where others are about to find a link fault or to commit.
-    fn sly_trip_scene(&mut self) {
+    /// A fault where others are about to find a link fault or to commit.
+    fn sly_fault_scene(&mut self) {
         self.settle();
         if self.run.wishes.damage && self.chance(700) {
             self.hurt_a_line();
@@ -556,12 +627,9 @@ impl Planner<'_> {
         if !self.begin() {
             return;
         }
-        let with_its_own = self.chance(600);
         for _ in 0..ENOUGH_STEPS {
-            let beside = self.run.trip_beside_a_link_fault();
-            let trip = beside.or_else(|| self.run.trip_before_the_reports(with_its_own));
-            if let Some(trip) = trip {
-                self.step(trip);
+            if let Some(fault) = self.run.sly_fault() {
+                self.step(fault);
                 self.take_what_follows();
                 break;
             }
@@ -725,19 +793,24 @@ impl Planner<'_> {
 impl Planner<'_> {
     /// Mostly a return or a recovery, after which the bookings tell what came back.
     fn ending(&mut self) {
-        match self.run.dice.below(8) {
+        match self.run.dice.below(10) {
             0 => {}
             1 => self.settled_return(),
             2 => {
                 self.save_and_settle();
                 self.recovery_after_trade();
             }
-            3 => {
+            3 | 4 => {
+                self.settle();
+                self.doubt_scene();
+                self.settle();
+            }
+            5 => {
                 self.settled_return();
                 self.save_and_settle();
                 self.recovery_after_trade();
             }
-            4 | 5 => {
+            6 | 7 => {
                 self.settled_return();
                 self.trade_scene();
                 self.settle();
@@ -794,6 +867,7 @@ mod tests {
     use crate::listing::Tally;
     use crate::model::{booking_in, Image, Outlet};
     use crate::trips::Between;
+    use crate::unsure::{Lost, Refusal};
     use std::collections::BTreeSet;
 
     fn wishes(damage: bool) -> Wishes {
@@ -827,6 +901,11 @@ mod tests {
         let after_two = [Between::Commit, Between::CommitPassedOver];
         assert!(tally.trips.after_two.keys().eq(&after_two));
         assert!(tally.trips.link_faults > 0 && tally.trips.commits > 0);
+        let unsure = &tally.unsure;
+        let lost = [Lost::Failed, Lost::Tripped];
+        assert!(unsure.refused.keys().eq(&Refusal::ALL) && unsure.at_another_place > 0);
+        assert!(unsure.recoveries_ended.keys().eq(&lost) && unsure.recoveries_by_recover > 0);
+        assert!(unsure.recoveries_ended.values().all(|&ended| ended > 30));
     }
 
     /// The saves as the documents tell them: images at the cuts, points returned to, and what

@@ -3,8 +3,8 @@
 //! crash. And trips that are refused.
 
 use super::{record, Record, Run};
-use crate::model::{Crash, Event, Number, Packet, Place, State, Step};
-use crate::trips::{misses_only, waits_before_lead};
+use crate::model::{Crash, Event, Number, Packet, State};
+use crate::trips::misses_only;
 use std::collections::BTreeMap;
 
 fn trip_of(cabinet: Number) -> Record {
@@ -178,23 +178,7 @@ impl Run<'_> {
         }
     }
 
-    /// Now and then a tripped cabinet is asked before its neighbours, or one that seems to have
-    /// lost its coordinator; either refuses.
-    pub(super) fn refused_wait_over(&mut self) -> Option<Record> {
-        let tripped = |a: &Number| {
-            let cabinet = self.group.cabinet(*a);
-            cabinet.state == State::Error && cabinet.place() == Some(Place::Tripped(*a))
-        };
-        let misled = |a: &Number| {
-            let refused = self.group.refusal(&Step::WaitOver(*a)) == Some(14);
-            refused && waits_before_lead(&self.group, self.group.cabinet(*a))
-        };
-        let asked = self.group.numbers().find(misled).or(self.group.numbers().find(tripped))?;
-        let chance = if self.group.all_wait() || misled(&asked) { 300 } else { 50 };
-        self.dice.per_thousand(chance).then(|| record(9, asked, 0, 0, 0))
-    }
-
-    /// It is no more the one that the others wait for.
+    /// It is no more the one whose loss leaves the others unsure.
     pub(super) fn trip_of_the_number_before(&mut self, lead: Number) -> Option<Record> {
         let before = self.group.working_cabinets().range(..lead).next_back().copied()?;
         self.group.crash_by_tripping(before).is_none().then(|| trip_of(before))

@@ -3,8 +3,7 @@
 use super::*;
 use crate::listing::{counted_listing, Counter};
 use crate::model::{load, Charge, Check, Group, Outlet, State, KINDS};
-
-type Record = [u8; 6];
+use crate::testing::{answers, bookings, deliver, one, send, settle, settle_until, Record};
 
 /// A damage or a loss on the line from a to b.
 type HurtAt = fn(u8, u8, u8) -> Record;
@@ -35,47 +34,12 @@ fn three(bookings: [u16; 3]) -> Group {
     load(&file_of_three(bookings)).expect("the file is sound")
 }
 
-fn one(kind: u8, a: u8) -> Record {
-    [kind, a, 0, 0, 0, 0]
-}
-
-fn send(a: u8, b: u8, amount: u16) -> Record {
-    let [high, low] = amount.to_be_bytes();
-    [1, a, b, 0, high, low]
-}
-
-fn deliver(a: u8, b: u8) -> Record {
-    [4, a, b, 0, 0, 0]
-}
-
 fn damage(a: u8, b: u8, place: u8) -> Record {
     [11, a, b, place, 0, 1]
 }
 
 fn lose(a: u8, b: u8, place: u8) -> Record {
     [12, a, b, place, 0, 0]
-}
-
-fn answers(group: &mut Group, records: &[Record]) -> Vec<u8> {
-    records.iter().map(|record| group.step(record, KINDS).answer).collect()
-}
-
-/// Delivers, writes, reports and fetches until nothing more is taken.
-fn settle(group: &mut Group) -> Vec<Event> {
-    let mut events = Vec::new();
-    while let Some(event) = settle_once(group) {
-        events.push(event);
-    }
-    events
-}
-
-fn settle_once(group: &mut Group) -> Option<Event> {
-    let numbers = 1..=group.size() as u8;
-    let lines = numbers.clone().flat_map(|a| numbers.clone().map(move |b| deliver(a, b)));
-    let singles = (5..=9).flat_map(|kind| numbers.clone().map(move |a| one(kind, a)));
-    let records: Vec<Record> = lines.chain(singles).collect();
-    let outcome = |record: &Record| Some(group.step(record, KINDS)).filter(|o| o.answer == 0);
-    records.iter().find_map(outcome).map(|outcome| outcome.event)
 }
 
 fn save(group: &mut Group) -> Vec<Event> {
@@ -89,10 +53,6 @@ fn amounts(group: &Group, from: Number, to: Number) -> Vec<u16> {
         _ => panic!("no normal packet"),
     };
     group.line(from, to).packets.iter().map(amount).collect()
-}
-
-fn bookings(group: &Group) -> Vec<u16> {
-    group.numbers().map(|number| group.cabinet(number).booking(Outlet::A)).collect()
 }
 
 // ------------------------------------------------------------ what is found
@@ -281,7 +241,7 @@ fn fail_safe_packets_are_not_lost() {
     kept(&mut group, (2, 3), 2); // fault and recover
     let mut group = three([100, 50, 25]);
     answers(&mut group, &[one(3, 1)]);
-    while settle_once(&mut group).is_some_and(|event| event != Event::Commit) {}
+    settle_until(&mut group, |event| event == Event::Commit);
     kept(&mut group, (1, 2), 1); // resume
 }
 

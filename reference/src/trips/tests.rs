@@ -2,58 +2,9 @@
 
 use super::*;
 use crate::listing::Counter;
-use crate::model::{load, Outlet, Packet, Version, KINDS};
+use crate::model::{Packet, Place, Version, KINDS};
 use crate::points::Points;
-
-type Record = [u8; 6];
-
-const ALL_OF_THREE: &[(u8, u8)] = &[(1, 2), (1, 3), (2, 3)];
-const ROW_OF_THREE: &[(u8, u8)] = &[(1, 2), (2, 3)];
-const ROW_OF_FOUR: &[(u8, u8)] = &[(1, 2), (2, 3), (3, 4)];
-const ALL_OF_FOUR: &[(u8, u8)] = &[(1, 2), (1, 3), (1, 4), (2, 3), (2, 4), (3, 4)];
-
-/// As many cabinets as bookings at A; one of them is the store of all.
-fn group(bookings: &[u16], store: u8, links: &[(u8, u8)]) -> Group {
-    let link_table = 10 + 6 * bookings.len();
-    let length = link_table + 2 * links.len();
-    let header = [bookings.len(), links.len(), 10, link_table, length];
-    let mut file: Vec<u8> =
-        header.iter().flat_map(|&number| (number as u16).to_be_bytes()).collect();
-    for (number, booking) in (1..).zip(bookings) {
-        let [high, low] = booking.to_be_bytes();
-        file.extend_from_slice(&[store, u8::from(number == store), high, low, 0, 0]);
-    }
-    file.extend(links.iter().flat_map(|&(low, high)| [low, high]));
-    load(&file).expect("the file is sound")
-}
-
-fn three() -> Group {
-    group(&[100, 50, 25], 3, ALL_OF_THREE)
-}
-
-fn four() -> Group {
-    group(&[100, 50, 25, 12], 4, ALL_OF_FOUR)
-}
-
-fn one(kind: u8, a: u8) -> Record {
-    [kind, a, 0, 0, 0, 0]
-}
-
-fn trip(a: u8) -> Record {
-    one(13, a)
-}
-
-fn send(a: u8, b: u8, amount: u8) -> Record {
-    [1, a, b, 0, 0, amount]
-}
-
-fn deliver(a: u8, b: u8) -> Record {
-    [4, a, b, 0, 0, 0]
-}
-
-fn answers(group: &mut Group, records: &[Record]) -> Vec<u8> {
-    records.iter().map(|record| group.step(record, KINDS).answer).collect()
-}
+use crate::testing::*;
 
 fn crash_of(group: &mut Group, record: Record) -> Event {
     let outcome = group.step(&record, KINDS);
@@ -61,69 +12,9 @@ fn crash_of(group: &mut Group, record: Record) -> Event {
     outcome.event
 }
 
-/// Delivers, writes, reports, fetches and waits until nothing more is taken or one step was what
-/// is looked for.
-fn settle_until(group: &mut Group, last: impl Fn(Event) -> bool) -> Vec<Event> {
-    let numbers = 1..=group.size() as u8;
-    let lines = numbers.clone().flat_map(|a| numbers.clone().map(move |b| deliver(a, b)));
-    let singles = (5..=9).flat_map(|kind| numbers.clone().map(move |a| one(kind, a)));
-    let records: Vec<Record> = lines.chain(singles).collect();
-    let mut events = Vec::new();
-    while let Some(event) = records.iter().find_map(|record| {
-        let outcome = group.step(record, KINDS);
-        (outcome.answer == TAKEN).then_some(outcome.event)
-    }) {
-        events.push(event);
-        if last(event) {
-            break;
-        }
-    }
-    events
-}
-
-fn settle(group: &mut Group) -> Vec<Event> {
-    settle_until(group, |_| false)
-}
-
 fn trip_and_settle(group: &mut Group, a: u8) -> Vec<Event> {
     assert_eq!(answers(group, &[trip(a)]), [0]);
     settle(group)
-}
-
-/// Up to the commit, whose resume packets stay in the lines.
-fn save_up_to_commit(group: &mut Group, coordinator: u8) {
-    assert_eq!(answers(group, &[one(3, coordinator)]), [0]);
-    let events = settle_until(group, |event| event == Event::Commit);
-    assert_eq!(events.last(), Some(&Event::Commit));
-}
-
-fn save(group: &mut Group, coordinator: u8) {
-    save_up_to_commit(group, coordinator);
-    settle(group);
-}
-
-fn ends(events: &[Event]) -> Vec<bool> {
-    let end = |event: &Event| match event {
-        Event::RecoveryEnd { save_passed_over } => Some(*save_passed_over),
-        _ => None,
-    };
-    events.iter().filter_map(end).collect()
-}
-
-fn states(group: &Group) -> Vec<State> {
-    group.numbers().map(|number| group.cabinet(number).state).collect()
-}
-
-fn bookings(group: &Group) -> Vec<u16> {
-    group.numbers().map(|number| group.cabinet(number).booking(Outlet::A)).collect()
-}
-
-fn leads(group: &Group) -> Vec<Number> {
-    group.numbers().map(|number| group.cabinet(number).coordinator()).collect()
-}
-
-fn line(group: &Group, from: Number, to: Number) -> Vec<Packet> {
-    group.line(from, to).packets.iter().copied().collect()
 }
 
 // ------------------------------------------------------------ the step
@@ -261,7 +152,7 @@ fn a_save_whose_resume_was_taken_comes_back() {
     answers(&mut group, &[send(1, 2, 30), deliver(1, 2)]);
     save_up_to_commit(&mut group, 1);
     assert_eq!(answers(&mut group, &[deliver(1, 3), trip(1)]), [0, 0]);
-    assert_eq!(answers(&mut group, &[one(9, 2)]), [19]);
+    assert_eq!(answers(&mut group, &[unsure(1), unsure(2), unsure(3)]), [0, 0, 14]);
     assert_eq!(ends(&settle(&mut group)), [false]);
     assert_eq!(bookings(&group), [70, 80, 25]);
     assert_eq!(group.cabinet(1).version, Version::Known(1));
@@ -281,31 +172,6 @@ fn the_others_may_commit_with_a_tripped_cabinets_report() {
     assert_eq!(group.step(&one(6, 4), KINDS).event, Event::Commit);
     assert_eq!(ends(&settle(&mut group)), [false]);
     assert_eq!(bookings(&group), [100, 50, 30, 7]);
-}
-
-// ------------------------------------------------------------ wait over
-
-#[test]
-fn only_neighbours_of_the_tripped_coordinator_may_wait() {
-    let mut group = group(&[100, 50, 25], 3, ROW_OF_THREE);
-    save_up_to_commit(&mut group, 1);
-    assert_eq!(answers(&mut group, &[trip(1), one(9, 1), one(9, 2), one(9, 3)]), [0, 14, 19, 14]);
-    assert_eq!(answers(&mut group, &[deliver(2, 3), one(9, 1), one(9, 3)]), [0, 14, 14]);
-    assert!(group.all_wait());
-    assert_eq!(answers(&mut group, &[one(9, 2), one(9, 2)]), [0, 14]);
-    assert_eq!(group.cabinet(2).version, Version::Known(0));
-    assert_eq!(ends(&settle(&mut group)), [true]);
-}
-
-/// The new coordinator is the same, whoever of the two before it trips.
-#[test]
-fn nobody_waits_for_one_that_was_not_coordinator() {
-    let mut group = three();
-    trip_and_settle(&mut group, 1);
-    answers(&mut group, &[one(3, 2)]);
-    settle_until(&mut group, |event| event == Event::Commit);
-    assert_eq!(answers(&mut group, &[trip(1), one(9, 1), one(9, 2), one(9, 3)]), [0, 14, 14, 14]);
-    assert_eq!(leads(&group), [2; 3]);
 }
 
 // ------------------------------------------------------------ the third trip
@@ -418,19 +284,18 @@ fn counted(group: &mut Group, records: &[Record]) -> TripCounts {
 }
 
 /// Two cabinets commit, the first trips with its resume packet in the line, and the second, a
-/// store, waits, leads, begins and trips.
+/// store, decides, leads, begins and trips.
 #[test]
 fn a_coordinators_trip_is_counted() {
     let save = [&[one(3, 1), deliver(1, 2), deliver(2, 1)], &[one(5, 1); 4][..], &[one(5, 2); 4]];
     let commit = [one(6, 1), one(6, 2)];
-    let waits = [trip(1), one(9, 1), one(9, 2), one(9, 2)];
+    let reports = [trip(1), unsure(1), unsure(2)];
     let heard = [deliver(2, 1), deliver(2, 1), deliver(1, 2), deliver(1, 2)];
     let fetch = [[one(7, 1); 4], [one(7, 2); 4]].concat();
     let end = [one(8, 1), one(8, 2), one(3, 1), one(3, 2), trip(2), trip(1)];
-    let records = [&save.concat()[..], &commit, &waits, &heard, &fetch, &end].concat();
+    let records = [&save.concat()[..], &commit, &reports, &heard, &fetch, &end].concat();
     let counts = counted(&mut group(&[100, 50], 2, &[(1, 2)]), &records);
     assert_eq!((counts.taken, counts.of_coordinators, counts.of_joining_cabinets), (1, 1, 0));
-    assert_eq!((counts.waits_over, counts.waits_refused, counts.waits_refused_alone), (1, 1, 1));
     assert_eq!((counts.recoveries_ended, counts.saves_passed_over), (1, 1));
     assert_eq!((counts.begins_by_moved_lead, counts.commits_by_moved_lead), (1, 0));
     assert_eq!(counts.crashes, BTreeMap::from([(Crash::StoreTripped, 1)]));

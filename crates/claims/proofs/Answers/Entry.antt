@@ -16,10 +16,10 @@ use Rattle.group.specs.declared.Outcome.{Outcome}
 use Rattle.cabinet.specs.Cabinet.{inUse, coordinator}
 use Rattle.group.specs.Group.{cabinet, line, some, working, recoveringOnes, tripsOf, taken, crashAll}
 use Rattle.protocol.specs.declared.Step.{Step}
-use Rattle.protocol.specs.declared.Step.the-variants.{Send, Note, Begin, Deliver, Write, Saved, Fetch, Restored, WaitOver, Fail, Damage, Lose, Trip}
+use Rattle.protocol.specs.declared.Step.the-variants.{Send, Note, Begin, Deliver, Write, Saved, Fetch, Restored, Fail, Damage, Lose, Trip, Unsure}
 use Rattle.protocol.specs.declared.Decoded.{Decoded}
 use Rattle.protocol.specs.declared.Decoded.the-variants.{Malformed, Unused, Taken}
-use Rattle.protocol.specs.Kinds.{need, orRefuse, sendStep, noteStep, beginStep, deliverRefusal, delivered, deliverStep, writeStep, savedStep, fetchStep, restoredStep, waitOverStep, failCrashes, failStep, damageRefusal, damageStep, loseRefusal, loseStep, tripCrashes, tripOnce, tripStep}
+use Rattle.protocol.specs.Kinds.{need, orRefuse, sendStep, noteStep, beginStep, deliverRefusal, delivered, deliverStep, writeStep, savedStep, fetchStep, restoredStep, failCrashes, failStep, damageRefusal, damageStep, loseRefusal, loseStep, tripCrashes, tripOnce, tripStep, unsureStep}
 use Rattle.protocol.specs.Entry.{decode, actorWorks, entryRefusal, perform, stepDecoded, step}
 use Rattle.protocol.specs.Answers.{among, workNumbers, kindNumbers, refusalNumbers, kindRefusal}
 use Rattle.protocol.specs.Crash.{SomeRecovers, Unreached, soundLinks, LineInUse, Cause, Crashes}
@@ -43,11 +43,11 @@ kind-listed g (Write a) = search (checks, nothing)
 kind-listed g (Saved a) = search (checks, nothing)
 kind-listed g (Fetch a) = search (checks, nothing)
 kind-listed g (Restored a) = search (checks, nothing)
-kind-listed g (WaitOver a) = search (checks, nothing)
 kind-listed g (Fail a) = nothing
 kind-listed g (Damage a b p q) = search (checks, nothing)
 kind-listed g (Lose a b p) = search (checks, nothing)
 kind-listed g (Trip a) = nothing
+kind-listed g (Unsure a) = search (checks, nothing)
 
 -- what a step that passed checks 8 to 12 answers
 abbrev Answers : Group → Step → Outcome → Type 0
@@ -195,7 +195,7 @@ deliver-answers g a b =
 -- ---- all kinds
 
 performs : (g : Group) (s : Step) → Answers g s (perform g s)
-unfolding sendStep noteStep beginStep writeStep savedStep fetchStep restoredStep waitOverStep
+unfolding sendStep noteStep beginStep writeStep savedStep fetchStep restoredStep unsureStep
 performs g (Send a b p q) = harmless g (Send a b p q) _ (λ c. elim c [ ])
 performs g (Note a p q) = harmless g (Note a p q) _ (λ c. elim c [ ])
 performs g (Begin a) = harmless g (Begin a) _ (λ c. elim c [ ])
@@ -204,11 +204,11 @@ performs g (Write a) = harmless g (Write a) _ (λ c. elim c [ ])
 performs g (Saved a) = harmless g (Saved a) _ (λ c. elim c [ ])
 performs g (Fetch a) = harmless g (Fetch a) _ (λ c. elim c [ ])
 performs g (Restored a) = harmless g (Restored a) _ (λ c. elim c [ ])
-performs g (WaitOver a) = harmless g (WaitOver a) _ (λ c. elim c [ ])
 performs g (Fail a) = fail-answers g a
 performs g (Damage a b p q) = damage-answers g a b p q
 performs g (Lose a b p) = lose-answers g a b p
 performs g (Trip a) = trip-answers g a
+performs g (Unsure a) = harmless g (Unsure a) _ (λ c. elim c [ ])
 
 -- ---- checks 8 to 12
 
@@ -221,11 +221,11 @@ work-listed g (Write a) = search (checks, nothing)
 work-listed g (Saved a) = nothing
 work-listed g (Fetch a) = search (checks, nothing)
 work-listed g (Restored a) = search (checks, nothing)
-work-listed g (WaitOver a) = search (checks, nothing)
 work-listed g (Fail a) = search (checks, nothing)
 work-listed g (Damage a b p q) = nothing
 work-listed g (Lose a b p) = search (checks, nothing)
 work-listed g (Trip a) = search (checks, nothing)
+work-listed g (Unsure a) = search (checks, nothing)
 
 entry-listed : (g : Group) (s : Step) → Listed (10 ∷ 11 ∷ workNumbers s) (entryRefusal g s)
 entry-listed g s = search (checks, work-listed)
@@ -253,11 +253,11 @@ not-fifty (Taken (Write a)) = refl
 not-fifty (Taken (Saved a)) = refl
 not-fifty (Taken (Fetch a)) = refl
 not-fifty (Taken (Restored a)) = refl
-not-fifty (Taken (WaitOver a)) = refl
 not-fifty (Taken (Fail a)) = refl
 not-fifty (Taken (Damage a b p q)) = refl
 not-fifty (Taken (Lose a b p)) = refl
 not-fifty (Taken (Trip a)) = refl
+not-fifty (Taken (Unsure a)) = refl
 
 -- ---- the theorems
 

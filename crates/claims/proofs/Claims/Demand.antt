@@ -12,7 +12,7 @@ use native.Mathlib.Decide.{ℕ-discrete, decLt}
 use Rattle.marks.specs.Marks.{lowest}
 use Rattle.marks.specs.MarksLaws.{lowest-le-marked}
 use Rattle.state.specs.declared.State.{State}
-use Rattle.state.specs.declared.State.the-variants.{Normal, Recovered, Crashed}
+use Rattle.state.specs.declared.State.the-variants.{Normal, Error, Recovered, Crashed}
 use Rattle.image.specs.declared.Image.{Image}
 use Rattle.cabinet.specs.declared.Cabinet.{Cabinet}
 use Rattle.state.specs.State.{isIn, works, inRecovery}
@@ -35,7 +35,7 @@ use Rattle.protocol.specs.Points.{pointOf, pointRefusal, takePoint, returned, r
 use Rattle.protocol.specs.History.{History, Operation, stepping, pointing, returning, World, notePoint, noteReturn, ifTaken, recordDecoded, advance, run, opening, ends}
 use Rattle.protocol.specs.Restored.{Restored, Octets, OctetsIn, AllOctets, worldAfter, DemandThree}
 use Rattle.claims.proofs.State.Fun.{never, and-true, and-intro, not-true-false, cond-elim}
-use Rattle.claims.proofs.State.Every.{passed, every-step, FitsIn, decode-fits}
+use Rattle.claims.proofs.State.Every.{passed, every-step, FitsIn, decode-fits, asksUnsure, asksIn}
 use Rattle.claims.proofs.State.Counting.{step-n}
 use Rattle.claims.proofs.State.View.{view}
 use Rattle.claims.proofs.State.Shape.{Shaped, Lined, Pictured, shaped}
@@ -46,10 +46,11 @@ use Rattle.claims.proofs.Answers.Entry.{refusal-keeps, crash-stops}
 use Rattle.claims.proofs.Invariant.States.{failed-state, not-both}
 use Rattle.claims.proofs.Invariant.Facts.{Ghost, unaware}
 use Rattle.claims.proofs.Invariant.Whole.{Inv}
-use Rattle.claims.proofs.Invariant.Past.{Past, Next, Stays, after}
+use Rattle.claims.proofs.Invariant.Past.{Past, Next, Ended, after, goes-not-normal, quiet-of}
 use Rattle.claims.proofs.Invariant.Words.{un-or-aware, un-not-aware, aware-faulted, chief-of}
-use Rattle.claims.proofs.Invariant.Opening.{starts-inv, starts-past}
+use Rattle.claims.proofs.Invariant.Opening.{starts-inv, starts-past, starts-silent}
 use Rattle.claims.proofs.Invariant.Points.{PointsHeld, none-held, found}
+use Rattle.claims.proofs.Invariant.Staying.{Goes, Reports, reports-kept, Silent, reports-none}
 use Rattle.claims.proofs.Moves.Returning.{keeps-point, past-point, keeps-return, fit-returned, n-returned, states-returned}
 use Rattle.claims.proofs.Claims.Left.{step-leaves}
 use Rattle.claims.proofs.Claims.Stepping.{entered}
@@ -63,6 +64,7 @@ pub record Runs (total : ℕ) (g : Group) (h : History) : Type 0 where
   pub fit : Fit g
   pub inv : Inv (g .n) total (view g) ghost
   pub past : Past (g .n) (view g) ghost h
+  pub reports : Reports (view g)
 
 abbrev pub Going : ℕ → Group → History → Type 0
 Going total g h = (isCrashed g ≡ true) ⊎ Runs total g h
@@ -108,6 +110,16 @@ crash-normal g c = elim (decLt c 8) [
   | no n ↦ ap (λ (x : Cabinet). isIn (x .phase .state) Normal) (crash-past g c (omega arith))
 ]
 
+-- nor is one in error
+not-error : (c : Cabinet) → isIn (crashing c .phase .state) Error ≡ false
+not-error c = cond-elim (λ (x : Cabinet). isIn (x .phase .state) Error ≡ false) (works (c .phase .state)) (λ _. refl) (λ e. ap (λ (s : State). isIn s Error) (failed-state (c .phase .state) e))
+
+pub crash-error : (g : Group) (c : ℕ) → isIn (stateOf (crashAll g) c) Error ≡ false
+crash-error g c = elim (decLt c 8) [
+  | yes l ↦ ap (λ (x : Cabinet). isIn (x .phase .state) Error) (crash-cabinet g c l) ∙ not-error (cabinet g c)
+  | no n ↦ ap (λ (x : Cabinet). isIn (x .phase .state) Error) (crash-past g c (omega arith))
+]
+
 crashed-one : (g : Group) (c : ℕ) → c < 8 → works (stateOf g c) ≡ true → isCrashed (crashAll g) ≡ true
 unfolding isCrashed any
 crashed-one g c l w =
@@ -118,7 +130,7 @@ crashed-one g c l w =
     lt-ltb (lowest m) 8 (omega (arith, lowest-le-marked m c e))
 
 -- nothing more is taken
-stopped : (g : Group) (r : List ℕ) → isCrashed g ≡ true → step g r .group ≡ g
+pub stopped : (g : Group) (r : List ℕ) → isCrashed g ≡ true → step g r .group ≡ g
 unfolding step
 stopped g r c = go (decode r)
   where
@@ -135,6 +147,14 @@ open-step g r = refl
 pub same-state : (g : Group) (j : ℕ) → ends g g j ≡ true → ⊥
 same-state g j e = never e (not-both (stateOf g (coordinator (cabinet g j))) Recovered Normal refl)
 
+-- some cabinet works: the home of the coordinator
+pub works-one : (total : ℕ) (g : Group) (h : History) → Runs total g h → (c : ℕ) × (c < 8) × (works (stateOf g c) ≡ true)
+works-one total g h w =
+    let u = w .inv .core .ground in
+    let k = cabinet g (w .ghost .big .chief) .home in
+    let v = u .storeWorks k (u .homeStores (w .ghost .big .chief) (u .within (w .ghost .big .chief) (u .chiefIn))) in
+    (k, omega (arith, u .within k (w .inv .core .nodes k .placed v), u .most), v)
+
 -- ---- one step
 
 module _ (total : ℕ) (g : Group) (h : History) (r : List ℕ) (o : Octets r) where
@@ -145,7 +165,7 @@ module _ (total : ℕ) (g : Group) (h : History) (r : List ℕ) (o : Octets r) w
   h′ = recordDecoded h g (step g r) (decode r)
 
   -- where a coordinator ends a recovery, all is as demanded
-  abbrev Demanded : Type 0
+  abbrev pub Demanded : Type 0
   Demanded = (j : ℕ) → works (stateOf g j) ≡ true → ends g g′ j ≡ true → Restored (g .n) total h′ g′
 
   module _ (w : Runs total g h) where
@@ -153,8 +173,8 @@ module _ (total : ℕ) (g : Group) (h : History) (r : List ℕ) (o : Octets r) w
     γ = w .ghost
 
     -- a coordinator that ends a recovery is aware of the fault
-    stays-ends : Stays (view g) γ (view g′) → (j : ℕ) → works (stateOf g j) ≡ true → ends g g′ j ≡ true → ⊥
-    stays-ends stays j wj e = ⊎-elim calm (λ a. never (went .1) (stays k a)) (un-or-aware (γ .big) (view g .own k) (ap works recovered))
+    pub stays-ends : {δ : Ghost} → Goes (view g) γ (view g′) δ → (j : ℕ) → works (stateOf g j) ≡ true → ends g g′ j ≡ true → ⊥
+    stays-ends stays j wj e = ⊎-elim calm (λ a. never (went .1) (goes-not-normal stays k a)) (un-or-aware (γ .big) (view g .own k) (ap works recovered))
       where
         k : ℕ
         k = coordinator (cabinet g j)
@@ -172,53 +192,62 @@ module _ (total : ℕ) (g : Group) (h : History) (r : List ℕ) (o : Octets r) w
             (λ v. un-not-aware (γ .big) (view g .own k) u (and-intro (aware-faulted (γ .big) (view g .own j) v) (ap inRecovery recovered)))
             (un-or-aware (γ .big) (view g .own j) wj)
 
-    went-on : (s : Step) → Next total g γ g′ (after h g g′ s) → h′ ≡ after h g g′ s → Runs total g′ h′ × Demanded
-    went-on s n e = (
+    -- who is aware of a fault stays so, or the recovery ends
+    abbrev pub Fated : Runs total g′ h′ → Type 0
+    Fated u = Goes (view g) γ (view g′) (u .ghost) ⊎ Ended total g g′ h′
+
+    -- .. and no report comes unless the record is one
+    abbrev pub Unasked : Type 0
+    Unasked = asksIn (decode r) ≡ false → Silent (view g) → Silent (view g′)
+
+    abbrev pub Onward : Type 0
+    Onward = (u : Runs total g′ h′) × Fated u × Demanded × Unasked
+
+    went-on : (s : Step) → Next total g γ g′ (after h g g′ s) (asksUnsure s) → h′ ≡ after h g g′ s → asksIn (decode r) ≡ asksUnsure s → Onward
+    went-on s n e k = (
       record {
         ghost = n .ghost;
         fit = every-step Shaped Lined Pictured shaped g r o (w .fit);
         inv = subst (λ (m : ℕ). Inv m total (view g′) (n .ghost)) (sym (step-n g r)) (n .inv);
         past = subst (λ (m : ℕ). Past m (view g′) (n .ghost) h′) (sym (step-n g r)) (subst (Past (g .n) (view g′) (n .ghost)) (sym e) (n .past));
+        reports = n .reports;
       },
-      λ j v f. ⊎-elim (λ x. absurd (stays-ends x j v f)) (λ x. subst (λ (y : History). Restored (g .n) total y g′) (sym e) x) (n .fate),
+      subst (λ (y : History). Goes (view g) γ (view g′) (n .ghost) ⊎ Ended total g g′ y) (sym e) (n .fate),
+      λ j v f. ⊎-elim (λ x. absurd (stays-ends x j v f)) (λ x. subst (λ (y : History). Restored (g .n) total y g′) (sym e) (x .restored)) (n .fate),
+      λ f. n .silent (sym k ∙ f),
     )
 
-    taken-step : (d : Decoded) → FitsIn d → stepDecoded g d .answer ≡ 0 → step g r ≡ stepDecoded g d → h′ ≡ recordDecoded h g (step g r) d → Runs total g′ h′ × Demanded
-    taken-step Malformed f a e q = absurd (omega arith)
-    taken-step Unused f a e q = absurd (omega arith)
-    taken-step (Taken s) f a e q =
+    taken-step : (d : Decoded) → FitsIn d → stepDecoded g d .answer ≡ 0 → step g r ≡ stepDecoded g d → h′ ≡ recordDecoded h g (step g r) d → asksIn (decode r) ≡ asksIn d → Onward
+    taken-step Malformed f a e q k = absurd (omega arith)
+    taken-step Unused f a e q k = absurd (omega arith)
+    taken-step (Taken s) f a e q k =
         went-on s
-        (subst (λ (x : Outcome). Next total g γ (x .group) (after h g (x .group) s)) (sym e) (entered total g h γ (w .fit) (w .inv) (w .past) s f a))
-        (q ∙ ap (λ (t : Bool). cond t (after h g g′ s) h) (eq-eqb (step g r .answer) 0 (ap (λ (x : Outcome). x .answer) e ∙ a)))
+        (subst (λ (x : Outcome). Next total g γ (x .group) (after h g (x .group) s) (asksUnsure s)) (sym e) (entered total g h γ (w .fit) (w .inv) (w .past) (w .reports) s f a))
+        (q ∙ ap (λ (t : Bool). cond t (after h g g′ s) h) (eq-eqb (step g r .answer) 0 (ap (λ (x : Outcome). x .answer) e ∙ a))) k
 
-    pub taken-runs : step g r .answer ≡ 0 → Runs total g′ h′ × Demanded
+    pub taken-runs : step g r .answer ≡ 0 → Onward
     taken-runs a =
-        let e = open-step g r in taken-step (decode r) (decode-fits r o) (ap (λ (x : Outcome). x .answer) (sym e) ∙ a) e refl
+        let e = open-step g r in taken-step (decode r) (decode-fits r o) (ap (λ (x : Outcome). x .answer) (sym e) ∙ a) e refl refl
 
-    -- some cabinet works: the home of the coordinator
-    works-one : (c : ℕ) × (c < 8) × (works (stateOf g c) ≡ true)
-    works-one =
-        let u = w .inv .core .ground in
-        let l = u .within (γ .big .chief) (u .chiefIn) in
-        let v = u .storeWorks (cabinet g (γ .big .chief) .home) (u .homeStores (γ .big .chief) l) in
-        (cabinet g (γ .big .chief) .home, omega (arith, u .within (cabinet g (γ .big .chief) .home) (w .inv .core .nodes (cabinet g (γ .big .chief) .home) .placed v), u .most), v)
-
-    refused-same : (d : Decoded) → (step g r .answer ≡ 0 → ⊥) → recordDecoded h g (step g r) d ≡ h
+    pub refused-same : (d : Decoded) → (step g r .answer ≡ 0 → ⊥) → recordDecoded h g (step g r) d ≡ h
     refused-same Malformed n = refl
     refused-same Unused n = refl
     refused-same (Taken s) n = ap (λ (t : Bool). cond t (after h g g′ s) h) (ne-eqb (step g r .answer) 0 n)
 
-    crash-ends : (j : ℕ) → step g r .answer ≡ 50 → ends g g′ j ≡ true → ⊥
+    pub crash-ends : (j : ℕ) → step g r .answer ≡ 50 → ends g g′ j ≡ true → ⊥
     crash-ends j f e =
         let k = coordinator (cabinet g j) in
         never (and-true {s = isIn (stateOf g k) Recovered} e .1) (ap (λ (x : Group). isIn (stateOf x k) Normal) (crash-stops g r f) ∙ crash-normal g k)
 
+    pub crash-holds : step g r .answer ≡ 50 → isCrashed g′ ≡ true
+    crash-holds f = let c = works-one total g h w in ap isCrashed (crash-stops g r f) ∙ crashed-one g (c .0) (c .1) (c .2)
+
     one-step : Going total g′ h′ × Demanded
     one-step = elim (ℕ-discrete (step g r .answer) 0) [
-      | yes a ↦ let t = taken-runs a in (inr (t .0), t .1)
+      | yes a ↦ let t = taken-runs a in (inr (t .0), t .2)
       | no n ↦ elim (ℕ-discrete (step g r .answer) 50) [
         | yes f ↦ (
-          inl (ap isCrashed (crash-stops g r f) ∙ crashed-one g (works-one .0) (works-one .1) (works-one .2)),
+          inl (crash-holds f),
           λ j v e. absurd (crash-ends j f e),
         )
         | no m ↦ let same = refusal-keeps g r n m in (
@@ -227,6 +256,7 @@ module _ (total : ℕ) (g : Group) (h : History) (r : List ℕ) (o : Octets r) w
             fit = subst Fit (sym same) (w .fit);
             inv = subst (λ (x : Group). Inv (x .n) total (view x) γ) (sym same) (w .inv);
             past = subst (λ (x : Group). Past (x .n) (view x) γ h′) (sym same) (subst (Past (g .n) (view g) γ) (sym (refused-same (decode r) n)) (w .past));
+            reports = subst (λ (x : Group). Reports (view x)) (sym same) (w .reports);
           }),
           λ j v e. absurd (same-state g j (subst (λ (x : Group). ends g x j ≡ true) same e)),
         )
@@ -252,10 +282,10 @@ module _ (total : ℕ) (w : World) (good : Good total w) where
   n₀ = g₀ .n
 
   -- what holds of the world after an operation, and of a recovery that ends in it
-  abbrev Onward : World → Type 0
-  Onward u = Good total u × ((j : ℕ) → works (stateOf g₀ j) ≡ true → ends g₀ (u .group) j ≡ true → Restored n₀ total (u .history) (u .group))
+  abbrev WorldOn : World → Type 0
+  WorldOn u = Good total u × ((j : ℕ) → works (stateOf g₀ j) ≡ true → ends g₀ (u .group) j ≡ true → Restored n₀ total (u .history) (u .group))
 
-  by-step : (r : List ℕ) → Octets r → Onward (advance w (stepping r))
+  by-step : (r : List ℕ) → Octets r → WorldOn (advance w (stepping r))
   unfolding advance
   by-step r o =
       let s = going-on total g₀ h₀ r o (good .going) in (
@@ -272,10 +302,10 @@ module _ (total : ℕ) (w : World) (good : Good total w) where
   runs : not (isCrashed g₀) ≡ true → Runs total g₀ h₀
   runs e = ⊎-elim (λ c. absurd (never c (not-true-false e))) (λ x. x) (good .going)
 
-  by-point : (name : List ℕ) → Onward (advance w (pointing name))
+  by-point : (name : List ℕ) → WorldOn (advance w (pointing name))
   unfolding advance takePoint
   by-point name =
-      cond-elim (λ (x : Noted). Onward (record { group = g₀; points = x .points; history = ifTaken (x .answer) (notePoint h₀ name) h₀ })) (eqb k 0)
+      cond-elim (λ (x : Noted). WorldOn (record { group = g₀; points = x .points; history = ifTaken (x .answer) (notePoint h₀ name) h₀ })) (eqb k 0)
       (λ e. (taken-point (eqb-true k 0 e), λ j v f. absurd (same-state g₀ j f)))
       (λ e. (subst (λ (t : Bool). Good total (record { group = g₀; points = w .points; history = cond t (notePoint h₀ name) h₀ })) (sym e) good, λ j v f. absurd (same-state g₀ j f)))
     where
@@ -291,13 +321,13 @@ module _ (total : ℕ) (w : World) (good : Good total w) where
           record {
             fit = good .fit;
             points = keeps-point total g₀ h₀ (u .ghost) (u .fit) (u .inv) (u .past) (two .0) name (good .points) (three .0);
-            going = inr (record { ghost = u .ghost; fit = u .fit; inv = u .inv; past = past-point (u .past) name });
+            going = inr (record { ghost = u .ghost; fit = u .fit; inv = u .inv; past = past-point (u .past) name; reports = u .reports });
           }
 
-  by-return : (name : List ℕ) → Onward (advance w (returning name))
+  by-return : (name : List ℕ) → WorldOn (advance w (returning name))
   unfolding advance returnTo
   by-return name =
-      cond-elim (λ (x : Outcome). Onward (record { group = x .group; points = w .points; history = ifTaken (x .answer) (noteReturn (h₀ .points name) h₀ g₀) h₀ })) (eqb k 0)
+      cond-elim (λ (x : Outcome). WorldOn (record { group = x .group; points = w .points; history = ifTaken (x .answer) (noteReturn (h₀ .points name) h₀ g₀) h₀ })) (eqb k 0)
       (λ e. returns (eqb-true k 0 e))
       (λ e. (subst (λ (t : Bool). Good total (record { group = g₀; points = w .points; history = cond t (noteReturn (h₀ .points name) h₀ g₀) h₀ })) (sym e) good, λ j v f. absurd (same-state g₀ j f)))
     where
@@ -307,7 +337,7 @@ module _ (total : ℕ) (w : World) (good : Good total w) where
       p : Point
       p = pointAt (w .points) (placeOf (w .points) name)
 
-      returns : k ≡ 0 → Onward (record { group = returned g₀ p; points = w .points; history = noteReturn (h₀ .points name) h₀ g₀ })
+      returns : k ≡ 0 → WorldOn (record { group = returned g₀ p; points = w .points; history = noteReturn (h₀ .points name) h₀ g₀ })
       returns e =
           let one = passed (not (isCrashed g₀)) 9 _ e in
           let two = passed (ltb (placeOf (w .points) name) 4) 20 _ (one .1) in
@@ -317,7 +347,7 @@ module _ (total : ℕ) (w : World) (good : Good total w) where
           let m = keeps-return total g₀ h₀ (u .ghost) (u .fit) (u .inv) (u .past) (three .0) p (f .0) (f .2) in
           let fit = fit-returned g₀ (good .fit) p (f .2) in
           let n = sym (n-returned g₀ (good .fit) p (f .2)) in
-          subst (λ (x : Option (ℕ → Option Image)). Onward (record { group = returned g₀ p; points = w .points; history = noteReturn x h₀ g₀ })) (sym (f .1)) (
+          subst (λ (x : Option (ℕ → Option Image)). WorldOn (record { group = returned g₀ p; points = w .points; history = noteReturn x h₀ g₀ })) (sym (f .1)) (
             record {
               fit = fit;
               points = subst (λ (c : ℕ). PointsHeld c total (w .points) (h₀ .points)) n (good .points);
@@ -326,6 +356,7 @@ module _ (total : ℕ) (w : World) (good : Good total w) where
                 fit = fit;
                 inv = subst (λ (c : ℕ). Inv c total (view (returned g₀ p)) (m .ghost)) n (m .inv);
                 past = subst (λ (c : ℕ). Past c (view (returned g₀ p)) (m .ghost) (noteReturn (some (f .0)) h₀ g₀)) n (m .past);
+                reports = reports-kept (view g₀) (u .ghost) (quiet-of (u .inv)) (view (returned g₀ p)) (m .ghost) (m .stays) (u .reports);
               });
             },
             λ j v t. absurd (same-ends j (states-returned g₀ (good .fit) p (f .2)) t),
@@ -336,7 +367,7 @@ module _ (total : ℕ) (w : World) (good : Good total w) where
               let c = coordinator (cabinet g₀ j) in
               same-state g₀ j (ap (λ (s : State). isIn (stateOf g₀ c) Recovered && isIn s Normal) (sym (same c)) ∙ t)
 
-  pub one-more : (x : Operation) → OctetsIn x → Onward (advance w x)
+  pub one-more : (x : Operation) → OctetsIn x → WorldOn (advance w x)
   one-more (stepping r) o = by-step r o
   one-more (pointing name) o = by-point name
   one-more (returning name) o = by-return name
@@ -352,7 +383,7 @@ return-n : (ps : Points) (g : Group) (name : List ℕ) → returnTo ps g name .g
 unfolding returnTo returned
 return-n ps g name = cond-elim (λ (x : Outcome). x .group .n ≡ g .n) (eqb (returnRefusal ps g name) 0) (λ _. refl) (λ _. refl)
 
-advance-n : (x : Operation) (w : World) → advance w x .group .n ≡ w .group .n
+pub advance-n : (x : Operation) (w : World) → advance w x .group .n ≡ w .group .n
 unfolding advance
 advance-n (stepping r) w = step-n (w .group) r
 advance-n (pointing name) w = refl
@@ -370,7 +401,7 @@ every-list f of e xs o =
     good-run (feederTotal f) xs (opening (load f .group)) o (record {
       fit = fit;
       points = none-held (load f .group .n) (feederTotal f);
-      going = inr (record { ghost = _; fit = fit; inv = starts-inv f (load f .group) st fit; past = starts-past f (load f .group) st fit });
+      going = inr (record { ghost = _; fit = fit; inv = starts-inv f (load f .group) st fit; past = starts-past f (load f .group) st fit; reports = reports-none (view (load f .group)) (starts-silent f (load f .group) st fit) });
     })
 
 -- a list and then another

@@ -1,4 +1,4 @@
--- Demand 3 for each of the runs of `specs/Examples`, `specs/Returns`, `specs/Outlets`, `specs/Losses` and `specs/Trips`: its premises are met in runs that restore a save.
+-- Demand 3 for each of the runs of `specs/Examples`, `specs/Returns`, `specs/Outlets`, `specs/Losses`, `specs/Trips` and `specs/Unsure`: its premises are met in runs that restore a save.
 use Prim.Native.Nat.{ℕ, zero, suc}
 use mathlib.Core.Path.{_≡_, refl, ap, sym, subst, _∙_}
 use mathlib.Core.Bool.{Bool, true, _&&_}
@@ -20,29 +20,31 @@ use Rattle.protocol.specs.Returns.{foundKept, return-first, return-first-finds,
 use Rattle.protocol.proofs.Closed.Examples.{runs-found}
 use Rattle.protocol.specs.Outlets.{both-outlets, both-outlets-finds}
 use Rattle.protocol.specs.Losses.{silent-loss, silent-loss-finds}
-use Rattle.protocol.specs.Trips.{comes-back, comes-back-finds, trip-passed-over, trip-passed-over-finds, trip-after-resume, trip-after-resume-finds, third-trip-fails, third-trip-fails-finds, lead-moves-on, lead-moves-on-finds, middle-trips, middle-trips-finds, trips-while-saving, trips-while-saving-finds}
+use Rattle.protocol.specs.Trips.{comes-back, comes-back-finds, trip-passed-over, trip-passed-over-finds, third-trip-fails, third-trip-fails-finds, lead-moves-on, lead-moves-on-finds, middle-trips, middle-trips-finds, trips-while-saving, trips-while-saving-finds}
 use Rattle.protocol.proofs.Closed.Returns.{returns-found}
 use Rattle.protocol.proofs.Closed.Outlets.{outlets-found}
 use Rattle.protocol.proofs.Closed.Losses.{loss-found}
 use Rattle.protocol.proofs.Closed.Trips.{trips-found}
+use Rattle.protocol.specs.Unsure.{decided-after-fail, decided-after-fail-finds, decided-after-trip, decided-after-trip-finds, early, early-finds}
+use Rattle.protocol.proofs.Closed.Unsure.{decisions-found}
 
 -- ---- octets
 
 -- every number of the list is below 256
-abbrev allOctets : List ℕ → Bool
+abbrev pub allOctets : List ℕ → Bool
 allOctets [] = true
 allOctets (x ∷ xs) = ltb x 256 && allOctets xs
 
-abbrev octetsIn : Operation → Bool
+abbrev pub octetsIn : Operation → Bool
 octetsIn (stepping r) = allOctets r
 octetsIn (pointing name) = true
 octetsIn (returning name) = true
 
-abbrev allIn : List Operation → Bool
+abbrev pub allIn : List Operation → Bool
 allIn [] = true
 allIn (x ∷ xs) = octetsIn x && allIn xs
 
-octets-of : (l : List ℕ) → allOctets l ≡ true → Octets l
+pub octets-of : (l : List ℕ) → allOctets l ≡ true → Octets l
 octets-of [] e i = omega arith
 octets-of (x ∷ xs) e zero = ltb-true x 256 (and-true {s = ltb x 256} e .0)
 octets-of (x ∷ xs) e (suc i) = octets-of xs (and-true {s = ltb x 256} e .1) i
@@ -52,7 +54,7 @@ operation-of (stepping r) e = octets-of r e
 operation-of (pointing name) e = tt
 operation-of (returning name) e = tt
 
-operations-of : (xs : List Operation) → allIn xs ≡ true → AllOctets xs
+pub operations-of : (xs : List Operation) → allIn xs ≡ true → AllOctets xs
 operations-of [] e = tt
 operations-of (x ∷ xs) e = (operation-of x (and-true {s = octetsIn x} e .0), operations-of xs (and-true {s = octetsIn x} e .1))
 
@@ -129,17 +131,25 @@ comes-back-restored = demanded comes-back comes-back-finds (trips-found .0) refl
 pub trip-passed-over-restored : Demanded trip-passed-over
 trip-passed-over-restored = demanded trip-passed-over trip-passed-over-finds (trips-found .1) refl refl refl refl refl
 
-pub trip-after-resume-restored : Demanded trip-after-resume
-trip-after-resume-restored = demanded trip-after-resume trip-after-resume-finds (trips-found .2) refl refl refl refl refl
-
 pub third-trip-fails-restored : Demanded third-trip-fails
-third-trip-fails-restored = demanded third-trip-fails third-trip-fails-finds (trips-found .3) refl refl refl refl refl
+third-trip-fails-restored = demanded third-trip-fails third-trip-fails-finds (trips-found .2) refl refl refl refl refl
 
 pub lead-moves-on-restored : Demanded lead-moves-on
-lead-moves-on-restored = demanded lead-moves-on lead-moves-on-finds (trips-found .4) refl refl refl refl refl
+lead-moves-on-restored = demanded lead-moves-on lead-moves-on-finds (trips-found .3) refl refl refl refl refl
 
 pub middle-trips-restored : Demanded middle-trips
-middle-trips-restored = demanded middle-trips middle-trips-finds (trips-found .5) refl refl refl refl refl
+middle-trips-restored = demanded middle-trips middle-trips-finds (trips-found .4) refl refl refl refl refl
 
 pub trips-while-saving-restored : Demanded trips-while-saving
-trips-while-saving-restored = demanded trips-while-saving trips-while-saving-finds (trips-found .6) refl refl refl refl refl
+trips-while-saving-restored = demanded trips-while-saving trips-while-saving-finds (trips-found .5) refl refl refl refl refl
+
+-- recoveries in which cabinets report unsure
+
+pub decided-after-fail-restored : Demanded decided-after-fail
+decided-after-fail-restored = demanded decided-after-fail decided-after-fail-finds (decisions-found .0) refl refl refl refl refl
+
+pub decided-after-trip-restored : Demanded decided-after-trip
+decided-after-trip-restored = demanded decided-after-trip decided-after-trip-finds (decisions-found .1) refl refl refl refl refl
+
+pub early-restored : Demanded early
+early-restored = demanded early early-finds (decisions-found .2) refl refl refl refl refl

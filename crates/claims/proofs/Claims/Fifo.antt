@@ -19,9 +19,9 @@ use Rattle.group.specs.declared.Outcome.{Outcome}
 use Rattle.group.specs.Group.{cabinet, stateOf, line, rowsOf, isCrashed, some, recoveringOnes, tripsOf}
 use Rattle.load.specs.Load.{feederTotal}
 use Rattle.protocol.specs.declared.Step.{Step}
-use Rattle.protocol.specs.declared.Step.the-variants.{Send, Note, Begin, Deliver, Write, Saved, Fetch, Restored, WaitOver, Fail, Damage, Lose, Trip}
+use Rattle.protocol.specs.declared.Step.the-variants.{Send, Note, Begin, Deliver, Write, Saved, Fetch, Restored, Fail, Damage, Lose, Trip, Unsure}
 use Rattle.protocol.specs.declared.Decoded.the-variants.{Taken}
-use Rattle.protocol.specs.Kinds.{need, orRefuse, sendRefusal, carried, sent, sendStep, noteRefusal, noteStep, beginRefusal, beginStep, deliverRefusal, deliverStep, writeRefusal, writeStep, savedRefusal, savedStep, fetchRefusal, fetchStep, restoredRefusal, restoredStep, waitOverRefusal, waitOverStep, failCrashes, failStep, damageRefusal, hurt, damageStep, loseRefusal, lost, loseStep, tripCrashes, tripOnce, tripStep}
+use Rattle.protocol.specs.Kinds.{need, orRefuse, sendRefusal, carried, sent, sendStep, noteRefusal, noteStep, beginRefusal, beginStep, deliverRefusal, deliverStep, writeRefusal, writeStep, savedRefusal, savedStep, fetchRefusal, fetchStep, restoredRefusal, restoredStep, failCrashes, failStep, damageRefusal, hurt, damageStep, loseRefusal, lost, loseStep, tripCrashes, tripOnce, tripStep, unsureRefusal, unsureStep}
 use Rattle.protocol.specs.Entry.{step, stepDecoded, decode, firstOf, secondOf, actorWorks, isCabinet, entryRefusal, perform}
 use Rattle.protocol.specs.History.{History}
 use Rattle.protocol.specs.Restored.{worldAfter}
@@ -43,8 +43,8 @@ use Rattle.claims.proofs.Fifo.Unbounded.{Unbounded, idle-same, still}
 use Rattle.claims.proofs.Fifo.Alarms.{puts-fail, puts-trip}
 use Rattle.claims.proofs.Fifo.Rooms.{ready}
 use Rattle.claims.proofs.Fifo.Delivers.{line-at, puts-deliver}
-use Rattle.claims.proofs.Fifo.Steps.{cabinet-puts, fetch-puts, write-puts, begin-puts, wait-puts, saved-puts, restored-puts}
-use Rattle.claims.proofs.Claims.Stepping.{below}
+use Rattle.claims.proofs.Fifo.Steps.{cabinet-puts, fetch-puts, write-puts, begin-puts, saved-puts, restored-puts, unsure-puts}
+use Rattle.claims.proofs.Claims.Stepping.{named-below}
 use Rattle.claims.proofs.Claims.Demand.{Runs, every-list}
 
 module _ (total : ℕ) (g : Group) (h : History) (γ : Ghost) (w : Fit g) (i : Inv (g .n) total (view g) γ) (past : Past (g .n) (view g) γ h) where
@@ -65,7 +65,7 @@ module _ (total : ℕ) (g : Group) (h : History) (γ : Ghost) (w : Fit g) (i : I
   checked s k o f = cond-elim (Owed s) (eqb k 0) (λ e. f (eqb-true k 0 e)) (λ e a. absurd (eqb-false k 0 e a))
 
   at : (x : ℕ) → isCabinet g x ≡ true → (x - 1 < g .n) × (x - 1 < 8)
-  at = below total g h γ w i past
+  at = named-below total g γ i
 
   -- nobody recovers where a fail or a trip does not crash the group
   second : (s t u : Bool) → (s || (t || u)) ≡ false → t ≡ false
@@ -87,7 +87,7 @@ module _ (total : ℕ) (g : Group) (h : History) (γ : Ghost) (w : Fit g) (i : I
       (λ _. failed a x o)
 
   performed : (s : Step) → Fits s → isCabinet g (firstOf s) ≡ true → isCabinet g (secondOf s) ≡ true → actorWorks g s ≡ true → Owed s (perform g s)
-  unfolding sendStep noteStep beginStep deliverStep writeStep savedStep fetchStep restoredStep waitOverStep damageStep loseStep
+  unfolding sendStep noteStep beginStep deliverStep writeStep savedStep fetchStep restoredStep damageStep loseStep unsureStep
   performed (Send a b p q) f x y o =
       checked (Send a b p q) (sendRefusal g (a - 1) (b - 1) p q) _ (λ e _.
       let seen = send-seen total g h γ w i past (a - 1) (b - 1) p q (at a x .1) (at b y .1) f e in
@@ -103,7 +103,6 @@ module _ (total : ℕ) (g : Group) (h : History) (γ : Ghost) (w : Fit g) (i : I
   performed (Saved a) f x y o = checked (Saved a) (savedRefusal g (a - 1)) _ (λ e _. saved-puts total g γ w i (a - 1) (at a x .1) e)
   performed (Fetch a) f x y o = checked (Fetch a) (fetchRefusal g (a - 1)) _ (λ e _. fetch-puts total g γ w i (a - 1) (at a x .1) e)
   performed (Restored a) f x y o = checked (Restored a) (restoredRefusal g (a - 1)) _ (λ e _. restored-puts total g γ w i (a - 1) (at a x .1) e)
-  performed (WaitOver a) f x y o = checked (WaitOver a) (waitOverRefusal g (a - 1)) _ (λ e _. wait-puts total g γ w i (a - 1) (at a x .1) o e)
   performed (Fail a) f x y o = failed a x o
   performed (Damage a b p q) f x y o =
       checked (Damage a b p q) (damageRefusal g (a - 1) (b - 1) p q) _ (λ e.
@@ -118,6 +117,7 @@ module _ (total : ℕ) (g : Group) (h : History) (γ : Ghost) (w : Fit g) (i : I
       line-ends (Lose a b p) (view (lost g (a - 1) (b - 1) p)) (λ c. ap (λ (u : View). u .own c .state) seen)
       (λ c d. ap (λ (u : View). u .lines c d) seen ∙ line-at (v .lines) (λ l. left l p) (a - 1) (b - 1) c d)))
   performed (Trip a) f x y o = tripped a x o
+  performed (Unsure a) f x y o = checked (Unsure a) (unsureRefusal g (a - 1)) _ (λ e _. unsure-puts total g γ w i (a - 1) (at a x .1) e)
 
   -- the checks that come before every step
   entered : (s : Step) → Fits s → Owed s (orRefuse (entryRefusal g s) g (perform g s))

@@ -16,7 +16,7 @@ use Rattle.group.specs.declared.Group.{Group}
 use Rattle.group.specs.declared.Outcome.{Outcome}
 use Rattle.group.specs.Group.{cabinet, line}
 use Rattle.protocol.specs.declared.Step.{Step}
-use Rattle.protocol.specs.declared.Step.the-variants.{Send, Note, Begin, Deliver, Write, Saved, Fetch, Restored, WaitOver, Fail, Damage, Lose, Trip}
+use Rattle.protocol.specs.declared.Step.the-variants.{Send, Note, Begin, Deliver, Write, Saved, Fetch, Restored, Fail, Damage, Lose, Trip, Unsure}
 use Rattle.protocol.specs.declared.Decoded.{Decoded}
 use Rattle.protocol.specs.declared.Decoded.the-variants.{Malformed, Unused, Taken}
 use Rattle.protocol.specs.Receive.{takesFrom}
@@ -73,11 +73,11 @@ observed-leaves h g g′ (Saved a) =
     let k = coordinator (cabinet g (cabinet g (a - 1) .home)) in commit-leaves (commits g g′ k) h k
 observed-leaves h g g′ (Fetch a) = known-leaves (goes g g′ (a - 1) Recovering Recovered) h
 observed-leaves h g g′ (Restored a) = end-leaves (ends g g′ (a - 1)) h g′
-observed-leaves h g g′ (WaitOver a) = nothing h
 observed-leaves h g g′ (Fail a) = record { points = refl; lost = λ c m e. e }
 observed-leaves h g g′ (Damage a b p q) = damage-leaves (isNormal (packetAt (line g (a - 1) (b - 1)) p)) h (a - 1) (b - 1)
 observed-leaves h g g′ (Lose a b p) = record { points = refl; lost = λ c m e. e }
 observed-leaves h g g′ (Trip a) = record { points = refl; lost = λ c m e. e }
+observed-leaves h g g′ (Unsure a) = nothing h
 
 pub step-leaves : (h : History) (g : Group) (o : Outcome) (d : Decoded) → Leaves h (recordDecoded h g o d)
 step-leaves h g o Malformed = nothing h

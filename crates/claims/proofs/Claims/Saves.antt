@@ -6,13 +6,14 @@ use mathlib.Core.Logic.{inl}
 use mathlib.Core.Bool.{Bool, true, false, not, _&&_, true≢false}
 use mathlib.Core.List.{List, _∷_}
 use mathlib.Core.Option.{some}
+use native.Mathlib.Omega.{arith}
 use lib.ListN.{getD}
 use lib.Dec.{eqb}
 use borrow.Author.Tests.{eqb-true, eqb-false, ne-eqb}
 use Rattle.packet.specs.declared.Packet.the-variants.{Empty, Resume}
 use Rattle.packet.specs.Packet.{isEmpty}
 use Rattle.line.specs.Line.{packetAt}
-use Rattle.state.specs.declared.State.the-variants.{Checkpointing, Checkpointed, Recovering}
+use Rattle.state.specs.declared.State.the-variants.{Checkpointing, Checkpointed, Error, Recovering}
 use Rattle.state.specs.declared.Version.{Version}
 use Rattle.state.specs.declared.Version.the-variants.{Known, Unknown, Lost}
 use Rattle.image.specs.declared.Image.{Image}
@@ -26,11 +27,11 @@ use Rattle.load.specs.Load.{load, feederTotal}
 use Rattle.protocol.specs.declared.Step.the-variants.{Saved}
 use Rattle.protocol.specs.declared.Decoded.{Decoded}
 use Rattle.protocol.specs.declared.Decoded.the-variants.{Taken}
-use Rattle.protocol.specs.Kinds.{need, orRefuse, writeRefusal, fetchRefusal, waitOverRefusal, savedRefusal, savedStep, reportSaved, commitIfAll}
+use Rattle.protocol.specs.Kinds.{need, orRefuse, writeRefusal, fetchRefusal, isUnsure, unsureRefusal, savedRefusal, savedStep, reportSaved, commitIfAll}
 use Rattle.protocol.specs.Entry.{step, stepDecoded, entryRefusal, isCabinet}
 use Rattle.protocol.specs.History.{Cut, Save, History, Operation, advance, commits, noteCommit, recordDecoded, latest, newest, imageNow}
 use Rattle.protocol.specs.Restored.{Octets, AllOctets, worldAfter, Balanced, amperes}
-use Rattle.claims.specs.Saves.{Commits, savedTotal, CommitsWhole, CommitsUnhurt, CommitsBetweenResumes, TakesResume, ResumeOfNewest, VersionsNameNewest, KnownWhereUsed, WaitedByOld, FetchedOfNewest, CutsSinceBegin}
+use Rattle.claims.specs.Saves.{Commits, savedTotal, CommitsWhole, CommitsUnhurt, CommitsBetweenResumes, TakesResume, ResumeOfNewest, VersionsNameNewest, KnownWhereUsed, OfNewest, LastReport, DecidedByOld, FetchedOfNewest, CutsSinceBegin}
 use Rattle.claims.proofs.State.Fun.{never, is-true, and-true, and-intro, not-true-false, cond-elim, sum-cong}
 use Rattle.claims.proofs.State.Every.{passed}
 use Rattle.claims.proofs.State.Counting.{step-n}
@@ -43,8 +44,8 @@ use Rattle.claims.proofs.Invariant.Past.{held-now, cut-held, tops-add}
 use Rattle.claims.proofs.Invariant.Words.{un-of}
 use Rattle.claims.proofs.Moves.Waking.{resume-open, resume-fresh}
 use Rattle.claims.proofs.Moves.Saving.{chief-alive, all-wrote}
-use Rattle.claims.proofs.Moves.WaitingOver.{waits-by-old}
-use Rattle.claims.proofs.Claims.Stepping.{below}
+use Rattle.claims.proofs.Moves.UnsureStep.{old}
+use Rattle.claims.proofs.Claims.Stepping.{named-below}
 use Rattle.claims.proofs.Claims.Demand.{Runs, open-step, taken-runs, count-after}
 use Rattle.claims.proofs.Claims.Bounds.{running}
 
@@ -95,17 +96,26 @@ module _ (total : ℕ) (g : Group) (h : History) (w : Runs total g h) where
       go (Unknown v) is k = absurd (true≢false k)
       go Lost is k = absurd (true≢false k)
 
-  -- the old version names the newest save
-  waited-newest : (a : ℕ) → waitOverRefusal g a ≡ 0
-      → (v : Bool) × (cabinet g a .phase .version ≡ Unknown v) × ((c : ℕ) → works (stateOf g c) ≡ true → (y : Cut) × (latest h .cut c ≡ some y) × (slot g c v ≡ y .image))
-  waited-newest a e =
-      let o = waits-by-old total g γ (w .inv) a e in (
+  -- the old version of a coordinator that decides names the newest save
+  decided-newest : (a : ℕ) → unsureRefusal g a ≡ 0 → LastReport g a (coordinator (cabinet g a))
+      → (v : Bool) × (cabinet g (coordinator (cabinet g a)) .phase .version ≡ Unknown v) × ((c : ℕ) → works (stateOf g c) ≡ true → OfNewest g h c v)
+  decided-newest a e full =
+      let o = old total g h γ (w .fit) (w .inv) (w .past) (w .reports) a below e full in (
         o .0,
         o .1,
         λ c wc.
             let y = cut-held (w .inv) (w .past) c wc in
             (y .0, y .1, ap (slot g c) (o .2) ∙ w .inv .core .nodes c .slotTop (w .inv .core .nodes c .placed wc) ∙ sym (y .2)),
       )
+    where
+      one : (isUnsure (cabinet g a) && cabinet g a .noted .former) ≡ true
+      one = passed (isUnsure (cabinet g a) && cabinet g a .noted .former) 13 _ e .0
+
+      in-error : stateOf g a ≡ Error
+      in-error = in-state (stateOf g a) Error .0 (and-true {s = isIn (stateOf g a) Error} (and-true {s = isUnsure (cabinet g a)} one .0) .0)
+
+      below : a < 8
+      below = let n = w .inv .core in omega (arith, n .ground .within a (n .nodes a .placed (ap works in-error)), n .ground .most)
 
   -- ---- begins
 
@@ -149,8 +159,8 @@ module _ (total : ℕ) (g : Group) (h : History) (w : Runs total g h) where
   whole-save : Whole (g .n)
   whole-save = (w .past .balanced, (λ c l. (γ .mind c .top, held-image c l)), saved-sum ∙ tops-add (w .inv) (w .past))
 
-pub waited-by-old : WaitedByOld
-waited-by-old f of e xs o c a = waited-newest _ _ _ (running f of e xs o c) a
+pub decided-by-old : DecidedByOld
+decided-by-old f of e xs o c a = decided-newest _ _ _ (running f of e xs o c) a
 
 pub known-where-used : KnownWhereUsed
 known-where-used f of e xs o c a = let w = running f of e xs o c in (writes-known _ _ _ w a, fetches-known _ _ _ w a)
@@ -201,7 +211,7 @@ module _ (g : Group) (r : List ℕ) (c : Commits g r) where
 
   module _ (total : ℕ) (h : History) (w : Runs total g h) where
     named : a < 8
-    named = below total g h (w .ghost) (w .fit) (w .inv) (w .past) (c .about) (entered .1) .1
+    named = named-below total g (w .ghost) (w .inv) (c .about) (entered .1) .1
 
     -- every cabinet of the save has its cut
     all-cut : (y : ℕ) → w .ghost .mind y .tab ≡ true → w .ghost .mind y .done ≡ true

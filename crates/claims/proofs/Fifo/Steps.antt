@@ -13,8 +13,8 @@ use Rattle.state.specs.State.{isIn, works, inRecovery, inRestoring, inSaving, b
 use Rattle.cabinet.specs.Cabinet.{inUse, coordinator}
 use Rattle.group.specs.declared.Group.{Group}
 use Rattle.group.specs.Group.{cabinet, withCabinet, stateOf}
-use Rattle.protocol.specs.Moves.{join, cutIfAll, resumeWith, commit, endRecovery, noteLost, recoverWith}
-use Rattle.protocol.specs.Kinds.{beginRefusal, writeRefusal, writePiece, oweIf, savedRefusal, reportSaved, commitIfAll, fetchRefusal, fetchPiece, restoredRefusal, mayReport, reportRestored, endIfAll, lostCoordinator, waitOverRefusal}
+use Rattle.protocol.specs.Moves.{join, cutIfAll, resumeWith, commit, endRecovery, noteLost}
+use Rattle.protocol.specs.Kinds.{beginRefusal, writeRefusal, writePiece, oweIf, savedRefusal, reportSaved, commitIfAll, fetchRefusal, fetchPiece, restoredRefusal, mayReport, reportRestored, endIfAll, isUnsure, takesUnsure, unsureRefusal, reportUnsure, decideIfAll}
 use Rattle.protocol.specs.History.{upd}
 use Rattle.claims.proofs.State.Fun.{and-true, and-false, cond-elim, kept-at, kept-pair, upd-case, upd-same}
 use Rattle.claims.proofs.State.Every.{passed, with-cabinet, ok-join, ok-writePiece, ok-reportSaved, ok-noteLost}
@@ -22,7 +22,7 @@ use Rattle.claims.proofs.State.View.{View, Own, Side, used, ownOf, side
 use Rattle.claims.proofs.State.Shape.{Shaped, Lined, Pictured, shaped}
 use Rattle.claims.proofs.State.Sim.{Fit, view-cabinet}
 use Rattle.claims.proofs.State.Methods.{sOwed}
-use Rattle.claims.proofs.State.ViewMoves.{Room, view-forget, vOwe, vRestored, sim-join, sim-owe, sim-restored, sim-note}
+use Rattle.claims.proofs.State.ViewMoves.{Room, view-forget, vOwe, vRestored, vUnsure, sim-join, sim-owe, sim-restored, sim-unsure, sim-note}
 use Rattle.claims.proofs.Answers.Tests.{in-state}
 use Rattle.claims.proofs.Invariant.States.{saving-works, restoring-works}
 use Rattle.claims.proofs.Invariant.Facts.{Ghost}
@@ -109,12 +109,6 @@ module _ (total : ℕ) (g : Group) (γ : Ghost) (w : Fit g) (i : Inv (g .n) tota
       normal =
           in-state (stateOf g a) Normal .0
           (and-true {s = isIn (stateOf g a) Normal} (passed (isIn (stateOf g a) Normal && eqb (coordinator (cabinet g a)) a) 13 0 fine .0) .0)
-
-  pub wait-puts : (a : ℕ) → a < 8 → works (stateOf g a) ≡ true → waitOverRefusal g a ≡ 0 → Puts (view (recoverWith g a (bitOf (cabinet g a .phase .version))))
-  wait-puts a la up fine =
-      puts-recover (v .lines) (λ c d. false) v g w same-states same-lines a la (works-room total g γ w i a up) (bitOf (cabinet g a .phase .version))
-      (in-state (stateOf g a) Error .0
-      (and-true {s = isIn (stateOf g a) Error} (passed (isIn (stateOf g a) Error && lostCoordinator (cabinet g a .phase .alarm) (cabinet g a)) 13 _ fine .0) .0))
 
   -- after a report that changes marks only, k may enter normal
   module _ (u : Group) (fit : Fit u) (k : ℕ) (up : works (stateOf g k) ≡ true) (away : isIn (stateOf g k) Normal ≡ false)
@@ -211,3 +205,41 @@ module _ (total : ℕ) (g : Group) (γ : Ghost) (w : Fit g) (i : Inv (g .n) tota
         (λ c. ap (λ (o : Own). o .state) (n .own c .1) ∙ states c) (λ d. ap used (n .sides chief d) ∙ sides d)
         (λ c d. ap (λ (f : ℕ → ℕ → List Packet). f c d) (n .lines) ∙ lines c d) _)
         (λ _. report-puts r fit chief chief-works away states sides lines)
+
+  -- the report on a goes to the coordinator that its table names now, which is in error: with the last mark it goes on
+  module _ (a : ℕ) (la : a < 8) (fine : unsureRefusal g a ≡ 0) where
+    abbrev decider : ℕ
+    decider = coordinator (cabinet g a)
+
+    abbrev t : Group
+    t = reportUnsure g a decider
+
+    errs : stateOf g decider ≡ Error
+    errs =
+        let e = passed (takesUnsure (cabinet g decider) a) 18 0 (passed (isUnsure (cabinet g a) && cabinet g a .noted .former) 13 _ fine .1) .0 in
+        in-state (stateOf g decider) Error .0 (and-true {s = not (marked (cabinet g decider .noted .unsure) a)} e .1)
+
+    errs-works : works (stateOf g decider) ≡ true
+    errs-works = ap works errs
+
+    errs-below : decider < 8
+    errs-below = works-below total g γ w i decider errs-works
+
+    reported : view t ≡ vUnsure v decider a
+    unfolding reportUnsure
+    reported = sim-unsure g w decider a errs-below la
+
+    fits : Fit t
+    unfolding reportUnsure
+    fits = with-cabinet Shaped Lined Pictured shaped g decider _ (shaped .unsureFor (cabinet g decider) a (w .cabs decider)) w
+
+    pub unsure-puts : Puts (view (decideIfAll t decider))
+    unfolding decideIfAll
+    unsure-puts =
+        let states : (c : ℕ) → view t .own c .state ≡ v .own c .state = λ c. ap (λ (x : View). x .own c .state) reported ∙ kept-at (λ (x : Own). x .state) (v .own) decider (v .own decider) refl c in
+        let sides : (d : ℕ) → used (view t .side decider d) ≡ used (v .side decider d) = λ d. ap (λ (x : View). used (x .side decider d)) reported ∙ kept-pair used (v .side) decider a _ refl decider d in
+        let lines : (c d : ℕ) → view t .lines c d ≡ v .lines c d = λ c d. ap (λ (x : View). x .lines c d) reported in
+        cond-elim (λ (x : Group). Puts (view x)) (covers (cabinet t decider .noted .unsure) (cabinet t decider .table .cabinets))
+        (λ _. puts-recover (v .lines) (λ c d. false) v t fits states lines decider errs-below
+        (λ d e. rw (lines decider d) (works-room total g γ w i decider errs-works d (sym (sides d) ∙ e))) _ errs)
+        (λ _. still (v .lines) (λ c d. false) v (view t) states lines)

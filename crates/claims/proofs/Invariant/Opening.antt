@@ -36,11 +36,12 @@ use Rattle.claims.proofs.State.Sim.{Fit}
 use Rattle.claims.proofs.State.Methods.{no-marks, all-start}
 use Rattle.claims.proofs.Invariant.Facts.{Big, Mind, Wire, Ghost, Pair, Node, Stream, unaware, behind, closed, amountsIn, count, checkpLast, Amounts, amount, same, isCheckp}
 use Rattle.claims.proofs.Invariant.Whole.{Inv, PairAt, NodeAt, BooksAt, LeadAt, GroundOf, PlacesOf, ChainOf, workOf, outOf, gotOf}
-use Rattle.claims.proofs.Invariant.Past.{Past, bare-balanced}
+use Rattle.claims.proofs.Invariant.Past.{Past, bare-balanced, quiet-of}
 use Rattle.claims.proofs.Invariant.Logs.{check-none, no-checkp-end, count-none}
 use Rattle.claims.proofs.Invariant.Words.{un-works}
 use Rattle.claims.proofs.Invariant.Reaching.{reach-group}
 use Rattle.claims.proofs.Invariant.States.{known-not-lost}
+use Rattle.claims.proofs.Invariant.Staying.{Silent}
 use Rattle.claims.proofs.State.Leading.{next-one}
 
 -- ---- the ghost at the start
@@ -317,6 +318,7 @@ module _ (f : List ℕ) (g : Group) (st : Starts f g) (fit : Fit g) where
     reach = reach-group g (rowsOf (g .sound)) (st .joined) (λ c e. omega (arith, below c (sym (works₀ c) ∙ e), st .most)) (λ c d. rw sound₀ (st .both-ways c d));
     othersWork = λ e. absurd (true≢false e);
     othersReach = λ e. absurd (true≢false e);
+    lostStore = λ e. absurd (true≢false e);
   }
     where
       stored : (c : ℕ) → cabinet g c .store ≡ true → tab₀ c ≡ true
@@ -363,6 +365,9 @@ module _ (f : List ℕ) (g : Group) (st : Starts f g) (fit : Fit g) where
     meets = λ c d w u.
         works₀ d ∙ sym (tables₀ c d (sym (works₀ c) ∙ w) .0) ∙ and-true {s = view g .side c d .link} u .1;
   }
+
+  pub starts-silent : Silent (view g)
+  starts-silent c e = absurd (never e (quiet-of starts-inv c refl))
 
   abbrev first : ℕ → Cut
   first c = record { image = cabinet g c .image; sent = λ j. []; taken = λ j. [] }

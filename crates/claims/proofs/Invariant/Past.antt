@@ -7,20 +7,22 @@ use mathlib.Core.List.{List, [], _∷_}
 use mathlib.Core.Option.{Option, none, some}
 use native.Mathlib.Omega.{arith}
 use Rattle.state.specs.declared.State.{State}
-use Rattle.state.specs.declared.State.the-variants.{Normal, Checkpointing, Checkpointed}
+use Rattle.state.specs.declared.State.the-variants.{Normal, Checkpointing, Checkpointed, Error}
 use Rattle.image.specs.declared.Image.{Image}
 use Rattle.state.specs.State.{isIn, works, inRecovery, inSaving}
 use Rattle.image.specs.Image.{booked}
 use Rattle.group.specs.declared.Group.{Group}
 use Rattle.group.specs.Group.{stateOf, sum}
 use Rattle.protocol.specs.declared.Step.{Step}
-use Rattle.protocol.specs.History.{Cut, Save, History, upd, bareCut, bareSave, latest, newest, savedImage, imageIn, withCuts, observe, noteCuts, cutIn}
+use Rattle.protocol.specs.History.{Cut, Save, History, upd, bareCut, bareSave, latest, newest, savedImage, imageIn, withCuts, observe, noteCuts, cutIn, ends}
 use Rattle.protocol.specs.Restored.{sentIn, takenIn, Balanced, Restored}
 use Rattle.claims.proofs.State.Fun.{never, is-false, and-true, or-left, or-right, upd-elim, kept-at, sum-tail}
-use Rattle.claims.proofs.State.View.{View, Own, view}
+use Rattle.claims.proofs.State.View.{View, Own, Side, view}
 use Rattle.claims.proofs.Invariant.States.{apart}
-use Rattle.claims.proofs.Invariant.Facts.{Big, Ghost, aware}
+use Rattle.claims.proofs.Invariant.Facts.{Big, Ghost, aware, unaware}
 use Rattle.claims.proofs.Invariant.Whole.{Inv, awareOf, workOf}
+use Rattle.claims.proofs.Invariant.Staying.{Goes, Stays, Reports, Silent, reports-kept, none-comes, stays-calm, error-aware}
+use Rattle.claims.proofs.Invariant.Words.{un-not-aware}
 
 -- the image of a cabinet in a save: its cut's, or for one lost before, the image that it was lost with
 abbrev pub HeldIn : Option Image → Option Cut → Image → Type 0
@@ -89,10 +91,6 @@ tops-add {n} {γ} i p = sym (sum-tail (λ c. booked (γ .mind c .top)) n 8 (i .c
 
 -- ---- what a taken step owes
 
--- no cabinet that is aware of a fault goes to normal
-abbrev pub Stays : View → Ghost → View → Type 0
-Stays v γ w = (c : ℕ) → awareOf v γ c ≡ true → isIn (w .own c .state) Normal ≡ false
-
 -- the history once step s took group g to g′
 abbrev pub after : History → Group → Group → Step → History
 after h g g′ s = noteCuts (observe h g g′ s) g g′
@@ -101,7 +99,7 @@ pub record Kept (total : ℕ) (g : Group) (γ : Ghost) (g′ : Group) (h′ : Hi
   pub ghost : Ghost
   pub inv : Inv (g .n) total (view g′) ghost
   pub past : Past (g .n) (view g′) ghost h′
-  pub stays : Stays (view g) γ (view g′)
+  pub stays : Stays (view g) γ (view g′) ghost
 
 -- ---- the history where no cabinet has its cut in the step, and where no cabinet's work changes nor comes to wait
 
@@ -165,12 +163,63 @@ past-turn {h} g g′ c o e same off p =
 pub aware-not-normal : (b : Big) (o : Own) → aware b o ≡ true → isIn (o .state) Normal ≡ false
 aware-not-normal b o e = apart (λ s. inRecovery s) (o .state) Normal (and-true {s = b .faulted} e .1) refl
 
--- what a step owes that may end a recovery
-pub record Next (total : ℕ) (g : Group) (γ : Ghost) (g′ : Group) (h′ : History) : Type 0 where
+-- who is aware of a fault does not go to normal
+pub goes-not-normal : {v : View} {γ : Ghost} {w : View} {δ : Ghost} → Goes v γ w δ → (c : ℕ) → awareOf v γ c ≡ true → isIn (w .own c .state) Normal ≡ false
+goes-not-normal {w} {δ} o c a = aware-not-normal (δ .big) (w .own c) (o .on c a .0)
+
+-- nobody is in error without a fault
+pub quiet-of : {n total : ℕ} {v : View} {γ : Ghost} → Inv n total v γ → (c : ℕ) → γ .big .faulted ≡ false → isIn (v .own c .state) Error ≡ false
+quiet-of i c e = i .core .nodes c .quiet e .0
+
+-- nor is one in error that is not aware of a fault
+pub calm-error : {n total : ℕ} {v : View} {γ : Ghost} → Inv n total v γ → (c : ℕ) → unaware (γ .big) (v .own c) ≡ true → isIn (v .own c .state) Error ≡ false
+calm-error {v} {γ} i c un = is-false _ (λ e. un-not-aware (γ .big) (v .own c) un (error-aware v γ (quiet-of i) c e))
+
+-- a move of a cabinet that is not aware of a fault, and stays out of error
+pub calm-stays : {n total : ℕ} {v : View} {γ : Ghost} → Inv n total v γ → (w : View) (δ : Ghost) (c : ℕ) (o : Own) (s : ℕ → Side)
+    → w .own ≡ upd (v .own) c o → w .side ≡ upd (v .side) c s → unaware (γ .big) (v .own c) ≡ true → isIn (o .state) Error ≡ false
+    → (γ .big .faulted ≡ true → δ .big .faulted ≡ true) → Stays v γ w δ
+calm-stays {v} {γ} i w δ c o s own side un out =
+    stays-calm v γ (quiet-of i) w δ c o s own side un (λ e. absurd (never e out))
+
+-- all working cabinets are in error for one place
+abbrev pub OnePlace : View → Type 0
+OnePlace v = (c d : ℕ) → workOf v c ≡ true → workOf v d ≡ true → v .own c .alarm ≡ v .own d .alarm
+
+-- what a step brings in which a recovery ends
+pub record Ended (total : ℕ) (g g′ : Group) (h′ : History) : Type 0 where
+  pub restored : Restored (g .n) total h′ g′
+  pub known : latest h′ .known ≡ true
+  pub place : OnePlace (view g)
+  pub who : (j : ℕ) × (works (stateOf g j) ≡ true) × (ends g g′ j ≡ true)
+
+-- what a step owes that may end a recovery, or be a report
+pub record Next (total : ℕ) (g : Group) (γ : Ghost) (g′ : Group) (h′ : History) (asks : Bool) : Type 0 where
   pub ghost : Ghost
   pub inv : Inv (g .n) total (view g′) ghost
   pub past : Past (g .n) (view g′) ghost h′
-  pub fate : Stays (view g) γ (view g′) ⊎ Restored (g .n) total h′ g′
+  pub reports : Reports (view g′)
+  pub silent : asks ≡ false → Silent (view g) → Silent (view g′)
+  pub fate : Goes (view g) γ (view g′) ghost ⊎ Ended total g g′ h′
 
-pub kept-next : {total : ℕ} {g : Group} {γ : Ghost} {g′ : Group} {h′ : History} → Kept total g γ g′ h′ → Next total g γ g′ h′
-kept-next k = record { ghost = k .ghost; inv = k .inv; past = k .past; fate = inl (k .stays) }
+-- and one that ends none
+pub record Went (total : ℕ) (g : Group) (γ : Ghost) (g′ : Group) (h′ : History) : Type 0 where
+  pub ghost : Ghost
+  pub inv : Inv (g .n) total (view g′) ghost
+  pub past : Past (g .n) (view g′) ghost h′
+  pub reports : Reports (view g′)
+  pub goes : Goes (view g) γ (view g′) ghost
+
+pub went-next : {total : ℕ} {g : Group} {γ : Ghost} {g′ : Group} {h′ : History} {asks : Bool} → (asks ≡ false → Silent (view g) → Silent (view g′))
+    → Went total g γ g′ h′ → Next total g γ g′ h′ asks
+went-next s k = record { ghost = k .ghost; inv = k .inv; past = k .past; reports = k .reports; silent = s; fate = inl (k .goes) }
+
+pub kept-next : {total : ℕ} {g : Group} {γ : Ghost} {g′ : Group} {h′ : History} {asks : Bool} → Inv (g .n) total (view g) γ → Reports (view g)
+    → Kept total g γ g′ h′ → Next total g γ g′ h′ asks
+kept-next {g} {γ} {g′} i r k = went-next (λ _. none-comes (view g) γ (view g′) (k .ghost) (k .stays)) (record {
+  ghost = k .ghost;
+  inv = k .inv;
+  past = k .past;
+  reports = reports-kept (view g) γ (quiet-of i) (view g′) (k .ghost) (k .stays) r;
+  goes = k .stays .goes;
+})

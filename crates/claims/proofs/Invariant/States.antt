@@ -35,6 +35,9 @@ failed-state s e = in-state s Failed .0 (sym (not-not (isIn s Failed)) ∙ ap no
 pub recovering-works : (s : State) → inRecovery s ≡ true → works s ≡ true
 recovering-works s e = ap not (apart (λ x. inRecovery x) s Failed e refl)
 
+pub error-recovers : (s : State) → isIn s Error ≡ true → inRecovery s ≡ true
+error-recovers s e = or-left (isIn s Error) _ e
+
 pub serving-calm : (s : State) → serving s ≡ true → (works s ≡ true) × (inRecovery s ≡ false)
 serving-calm s e =
     let off : (t : State) → serving t ≡ false → isIn s t ≡ false = λ t n. apart (λ x. serving x) s t e n in

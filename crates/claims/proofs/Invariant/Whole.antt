@@ -36,6 +36,8 @@ pub record Ground (n chief heir : ℕ) (alive : Bool) (work tab store : ℕ → 
   -- A13: the coordinator is lost: all others work, and without it they are reached over the links of the last recovery's end
   pub othersWork : alive ≡ false → (c : ℕ) → tab c ≡ true → c ≢ chief → work c ≡ true
   pub othersReach : alive ≡ false → Reach (λ c. tab c && not (eqb c chief)) lk
+  -- it is no store, so that there are others: its home
+  pub lostStore : alive ≡ false → store chief ≡ false
 
 -- ---- fault places (A5, A6)
 

@@ -26,7 +26,7 @@ use Rattle.group.specs.Group.{cabinet, withCabinet, stateOf, line, withLine}
 use Rattle.protocol.specs.History.{History, Save, upd, goes, newest, markKnown, noteKnown, noteCuts, withKnown}
 use Rattle.protocol.specs.Restored.{Balanced}
 use Rattle.protocol.specs.Moves.{adopt}
-use Rattle.claims.proofs.State.Fun.{and-true, and-intro, upd-elim, upd-same, upd-other, not-not}
+use Rattle.claims.proofs.State.Fun.{and-true, and-intro, upd-same, upd-other, not-not}
 use Rattle.claims.proofs.State.Every.{with-cabinet, with-line}
 use Rattle.claims.proofs.State.View.{View, Own, used, content, view, setLines, setLine}
 use Rattle.claims.proofs.State.Shape.{Shaped, Lined, Pictured, shaped}
@@ -34,9 +34,9 @@ use Rattle.claims.proofs.State.Sim.{Fit, view-outgoing, in-use, past-us
 use Rattle.claims.proofs.State.Methods.{unmark}
 use Rattle.claims.proofs.State.ViewMoves.{Room, view-resumed, sim-off, view-off}
 use Rattle.claims.proofs.Answers.Tests.{in-state}
-use Rattle.claims.proofs.Invariant.Facts.{Ghost, aware, unaware, linked, behind}
+use Rattle.claims.proofs.Invariant.Facts.{Ghost, unaware, linked, behind}
 use Rattle.claims.proofs.Invariant.Whole.{Inv}
-use Rattle.claims.proofs.Invariant.Past.{Past, Kept, Stays, aware-not-normal, past-turn}
+use Rattle.claims.proofs.Invariant.Past.{Past, Kept, past-turn, calm-stays}
 use Rattle.claims.proofs.Invariant.Logs.{resumedBy}
 use Rattle.claims.proofs.Invariant.Words.{un-of, un-not-aware, room-calm, used-linked}
 use Rattle.claims.proofs.Moves.Waking.{woken, gAdopted, woken-swap, woken-off, sender-ahead, resume-other, resume-fresh}
@@ -124,17 +124,6 @@ past-adopted n v γ h p = record {
         go true f = ap (λ (s : List Save). newest s (h .start) .known) (sym e) ∙ p .known ∙ f
         go false f = absurd (nil≢cons (sym e ∙ p .below f .2))
 
--- ---- a step that lets one cabinet go on
-
-module _ (g g′ : Group) (γ : Ghost) (b : ℕ) (o : Own) (normal : o .state ≡ Normal) (seen : view g′ .own ≡ upd (view g .own) b o)
-    (calm : unaware (γ .big) (view g .own b) ≡ true) where
-  pub went-stays : Stays (view g) γ (view g′)
-  went-stays c e =
-      ap (λ (y : ℕ → Own). isIn (y c .state) Normal) seen
-      ∙ upd-elim (λ (y : Own). isIn (y .state) Normal ≡ false) (view g .own) b o c
-      (λ d. absurd (un-not-aware (γ .big) (view g .own b) calm (ap (λ (j : ℕ). aware (γ .big) (view g .own j)) (sym d) ∙ e)))
-      (λ d. aware-not-normal (γ .big) (view g .own c) e)
-
 -- ---- the step
 
 module _ (total : ℕ) (g : Group) (h : History) (γ : Ghost) (w : Fit g) (i : Inv (g .n) total (view g) γ) (past : Past (g .n) (view g) γ h)
@@ -217,5 +206,5 @@ module _ (total : ℕ) (g : Group) (h : History) (γ : Ghost) (w : Fit g) (i : I
     inv = subst (λ (u : View). Inv (g .n) total u (gAdopted γ)) (sym seen)
         (woken-off (g .n) total v γ i a b k is-first waiting fresh not-chief r (λ d e. and-true {s = used (v .side b d)} e .0) reached);
     past = past-turn g g′ b _ (λ c. ap (λ (u : View). u .own c .state) seen) (sym (ap works saved)) refl (past-adopted (g .n) v γ h past);
-    stays = went-stays g g′ γ b _ refl (ap (λ (u : View). u .own) seen) calm;
+    stays = calm-stays i (view g′) (gAdopted γ) b _ _ (ap (λ (u : View). u .own) seen) (ap (λ (u : View). u .side) seen) calm refl (λ f. f);
   }

@@ -39,8 +39,9 @@ use Rattle.claims.proofs.State.ViewMoves.{Room, vPut, vJoin, vCompare, 
 use Rattle.claims.proofs.Answers.Tests.{in-state, same-check}
 use Rattle.claims.proofs.Invariant.Facts.{Mind, Wire, Ghost, unaware}
 use Rattle.claims.proofs.Invariant.Whole.{Inv}
-use Rattle.claims.proofs.Invariant.Past.{Past, Kept, Stays, after, no-cuts, past-one, past-same, aware-not-normal}
+use Rattle.claims.proofs.Invariant.Past.{Past, Kept, after, no-cuts, past-one, past-same, quiet-of, calm-stays}
 use Rattle.claims.proofs.Invariant.Words.{un-of, un-works, chief-of, room-calm}
+use Rattle.claims.proofs.Invariant.Staying.{Stays, phase-same, stays-marked, stays-then, stays-self}
 use Rattle.claims.proofs.Moves.Joining.{Joins, mJoined, gJoin, join-inv}
 use Rattle.claims.proofs.Moves.Comparing.{wCovered, gCompare, checkp-joined, checkp-other, between, compare-inv}
 use Rattle.claims.proofs.Moves.Cutting.{mCut, gCut, cut-inv}
@@ -142,7 +143,7 @@ past-compare n v γ h a b p =
 -- ---- the cut, if all checkps have come
 
 module _ (total : ℕ) (g₀ : Group) (γ₀ : Ghost) (h : History) (g : Group) (w : Fit g) (γ : Ghost) (i : Inv (g₀ .n) total (view g) γ)
-    (past : Past (g₀ .n) (view g) γ h) (stays : Stays (view g₀) γ₀ (view g)) (c : ℕ) (lc : c < 8) (begins : stateOf g c ≡ CheckpBegin)
+    (past : Past (g₀ .n) (view g) γ h) (stays : Stays (view g₀) γ₀ (view g) γ) (c : ℕ) (lc : c < 8) (begins : stateOf g c ≡ CheckpBegin)
     (before : (d : ℕ) → isIn (stateOf g d) Checkpointing ≡ true → isIn (stateOf g₀ d) Checkpointing ≡ true)
     (uncut : isIn (stateOf g₀ c) Checkpointing ≡ false) where
   un : unaware (γ .big) (view g .own c) ≡ true
@@ -172,7 +173,7 @@ module _ (total : ℕ) (g₀ : Group) (γ₀ : Ghost) (h : History) (g : Group) 
     inv = subst (λ (x : View). Inv (g₀ .n) total x γ) (sym same-view) i;
     past = rw (no-cuts h g₀ (Cutting false) (λ d e. before d (ap (λ (s : State). isIn s Checkpointing) (sym (same-state d)) ∙ e)))
         (subst (λ (x : View). Past (g₀ .n) x γ h) (sym same-view) past);
-    stays = λ d e. ap (λ (s : State). isIn s Normal) (same-state d) ∙ stays d e;
+    stays = stays-marked stays (view (Cutting false)) γ (λ d. phase-same (ap (λ (x : View). x .own d) same-view)) (λ d j. ap (λ (x : View). x .side d j .unsure) same-view) (λ f. f);
   }
 
   -- all have come
@@ -243,10 +244,7 @@ module _ (total : ℕ) (g₀ : Group) (γ₀ : Ghost) (h : History) (g : Group) 
       ghost = γ′;
       inv = subst (λ (x : View). Inv (g₀ .n) total x γ′) (sym seen) (cut-inv (g₀ .n) total (view g) γ i c un begins (w .cabs c .image) come-all);
       past = past-one c _ (λ d. ap (λ (x : View). x .own d .state) seen) (sym (ap works begins)) refl past-cut;
-      stays = λ d e. elim (ℕ-discrete d c) [
-        | yes q ↦ rw (ap (λ (x : ℕ). stateOf g′ x) q, cut-state)
-        | no n ↦ ap (λ (s : State). isIn s Normal) (other-state d n) ∙ stays d e
-      ];
+      stays = stays-then stays (view g′) γ′ c _ _ (ap (λ (u : View). u .own) seen) (ap (λ (u : View). u .side) seen) un (λ e. absurd (never e refl)) (λ f. f);
     }
 
   pub keeps-cut : Kept total g₀ γ₀ (cutIfAll g c) (noteCuts h g₀ (cutIfAll g c))
@@ -292,10 +290,7 @@ module _ (total : ℕ) (g : Group) (h : History) (γ : Ghost) (w : Fit g) (i : I
       (subst (λ (x : View). Inv (g .n) total x (gJoin γ a)) (sym begin-seen) (join-inv (g .n) total (view g) γ i a calm normal (inl (chief, fresh))))
       (past-one a _ (λ d. ap (λ (x : View). x .own d .state) begin-seen) (sym (ap works normal)) refl
       (past-begin (g .n) total (view g) γ h a i fresh past g (cutIfAll (join g a) a)))
-      (λ d e. elim (ℕ-discrete d a) [
-        | yes q ↦ rw (ap (λ (x : ℕ). stateOf (join g a) x) q, begin-state)
-        | no n ↦ ap (λ (s : State). isIn s Normal) (begin-other d n) ∙ aware-not-normal (γ .big) (view g .own d) e
-      ]) a la begin-state
+      (calm-stays i (view (join g a)) (gJoin γ a) a _ _ (ap (λ (u : View). u .own) begin-seen) (ap (λ (u : View). u .side) begin-seen) calm refl (λ f. f)) a la begin-state
       (λ d e. elim (ℕ-discrete d a) [
         | yes q ↦ absurd (never e (rw (ap (λ (x : ℕ). stateOf (join g a) x) q, begin-state)))
         | no n ↦ ap (λ (s : State). isIn s Checkpointing) (sym (begin-other d n)) ∙ e
@@ -342,7 +337,7 @@ module _ (v : View) (a b : ℕ) (k : List Packet) (other : b ≢ a) where
 
 -- in checkp-begin: u is the view with the packet still in the line
 module _ (total : ℕ) (g₀ : Group) (γ₀ : Ghost) (h : History) (g : Group) (w : Fit g) (γ : Ghost) (u : View)
-    (i : Inv (g₀ .n) total u γ) (past : Past (g₀ .n) u γ h) (a b : ℕ) (la : a < 8) (lb : b < 8) (x : Check) (k : List Packet)
+    (i : Inv (g₀ .n) total u γ) (past : Past (g₀ .n) u γ h) (went : Stays (view g₀) γ₀ u γ) (a b : ℕ) (la : a < 8) (lb : b < 8) (x : Check) (k : List Packet)
     (first : u .lines a b ≡ Checkp x ∷ k) (off : view g ≡ setLine u a b k) (begins : u .own b .state ≡ CheckpBegin)
     (equal : x ≡ u .side b a .took) (others : (d : ℕ) → d ≢ b → u .own d .state ≡ stateOf g₀ d)
     (uncut : isIn (stateOf g₀ b) Checkpointing ≡ false) where
@@ -363,10 +358,10 @@ module _ (total : ℕ) (g₀ : Group) (γ₀ : Ghost) (h : History) (g : Group) 
       (subst (λ (y : View). Inv (g₀ .n) total y (gCompare γ a b)) (sym compared-seen)
       (compare-inv (g₀ .n) total u γ i a b x k first (un-of (γ .big) (u .own b) (rw begins) (rw begins)) equal begins))
       (past-same compared-state (past-compare (g₀ .n) u γ h a b past))
-      (λ d e. elim (ℕ-discrete d b) [
-        | yes q ↦ rw (ap (λ (y : ℕ). stateOf compared y) q, compared-state b, begins)
-        | no n ↦ ap (λ (s : State). isIn s Normal) (compared-state d ∙ others d n) ∙ aware-not-normal (γ₀ .big) (view g₀ .own d) e
-      ]) b lb (compared-state b ∙ begins)
+      (stays-marked went (view compared) (gCompare γ a b)
+      (λ d. phase-same (ap (λ (y : View). y .own d) compared-seen ∙ kept-at (λ (o : Own). o) (u .own) b (u .own b) refl d))
+      (λ d j. ap (λ (y : View). y .side d j .unsure) compared-seen ∙ kept-pair (λ (s : Side). s .unsure) (u .side) b a _ refl d j) (λ f. f))
+      b lb (compared-state b ∙ begins)
       (λ d e. elim (ℕ-discrete d b) [
         | yes q ↦ absurd (never e (rw (ap (λ (y : ℕ). stateOf compared y) q, compared-state b, begins)))
         | no n ↦ ap (λ (s : State). isIn s Checkpointing) (sym (compared-state d ∙ others d n)) ∙ e
@@ -429,6 +424,7 @@ module _ (total : ℕ) (g : Group) (h : History) (γ : Ghost) (w : Fit g) (i : I
         keeps-taken total g γ h (join g₁ b) (ok-join Shaped Lined Pictured shaped g₁ b off-fit) (gJoin γ b) (vJoin (view g) b)
         (join-inv (g .n) total (view g) γ i b calm-b normal joins)
         (past-one b _ (λ d. refl) (sym (ap works normal)) refl (past-join (g .n) (view g) γ h b has-begun past))
+        (calm-stays i (vJoin (view g) b) (gJoin γ b) b _ _ refl refl calm-b refl (λ f. f))
         a b la lb x left (ap (λ (f : ℕ → List Packet). f b) (upd-other (view g .lines) b _ a (λ e. other (sym e))) ∙ in-line) joined-seen
         (ap (λ (o : Own). o .state) (upd-same (view g .own) b _))
         (equal ∙ sym (ap (λ (f : ℕ → Side). f a .took) (upd-same (view g .side) b _)))
@@ -449,4 +445,4 @@ module _ (total : ℕ) (g : Group) (h : History) (γ : Ghost) (w : Fit g) (i : I
       go true e f = keeps-joined (sym (off-state b) ∙ in-state (stateOf g₁ b) Normal .0 e) equal
       go false e f =
           let begins : stateOf g b ≡ CheckpBegin = sym (off-state b) ∙ in-state (stateOf g₁ b) CheckpBegin .0 f in
-          keeps-taken total g γ h g₁ off-fit γ (view g) i past a b la lb x left in-line off-seen begins equal (λ d n. refl) (rw begins)
+          keeps-taken total g γ h g₁ off-fit γ (view g) i past (stays-self (view g) γ (quiet-of i)) a b la lb x left in-line off-seen begins equal (λ d n. refl) (rw begins)

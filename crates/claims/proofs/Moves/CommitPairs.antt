@@ -51,7 +51,7 @@ abbrev pub gCommit : Ghost → Ghost
 gCommit γ = record { big = bCommit (γ .big); mind = λ c. mCommit (γ .mind c); wire = γ .wire }
 
 abbrev pub sUnsaved : Side → Side
-sUnsaved s = sMarks s (s .come) false (s .restored) (s .heard)
+sUnsaved s = sMarks s (s .come) false (s .restored) (s .heard) (s .unsure)
 
 -- every cabinet in use has gone through the whole save
 abbrev pub Through : Mind → Type 0

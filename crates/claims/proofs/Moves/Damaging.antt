@@ -19,8 +19,8 @@ use Rattle.packet.specs.declared.Packet.the-variants.{Empty, Normal as NormalPa
 use Rattle.packet.specs.Packet.{isEmpty, isNormal, damaged}
 use Rattle.line.specs.Line.{packetAt, replaced}
 use Rattle.state.specs.declared.State.{State}
-use Rattle.state.specs.declared.State.the-variants.{Normal, Checkpointing}
-use Rattle.state.specs.State.{isIn}
+use Rattle.state.specs.declared.State.the-variants.{Checkpointing, Error}
+use Rattle.state.specs.State.{isIn, works}
 use Rattle.group.specs.declared.Group.{Group}
 use Rattle.group.specs.Group.{line, withLine, rowsOf, some, recoveringOnes}
 use Rattle.protocol.specs.Kinds.{need, hurtAlready, damageRefusal, hurt}
@@ -33,9 +33,11 @@ use Rattle.claims.proofs.State.Shape.{Shaped, Lined, Pictured, shaped}
 use Rattle.claims.proofs.State.Sim.{Fit, view-line}
 use Rattle.claims.proofs.Invariant.Facts.{Wire, Ghost, amountOf, amountsIn, count, isFault, isCheckp, isSafe, checkpLast, resumes, resumeFirst, Amounts, Differ, here, amount}
 use Rattle.claims.proofs.Invariant.Whole.{Inv}
-use Rattle.claims.proofs.Invariant.Past.{Past, Kept, no-cuts, aware-not-normal, past-same}
+use Rattle.claims.proofs.Invariant.Past.{Past, Kept, no-cuts, past-same}
 use Rattle.claims.proofs.Invariant.Logs.{head-eq, tail-eq}
 use Rattle.claims.proofs.Invariant.Words.{nobody-recovers}
+use Rattle.claims.proofs.Invariant.Staying.{stays-none}
+use Rattle.claims.proofs.Invariant.States.{error-recovers}
 use Rattle.claims.proofs.Moves.Sending.{wire-kept}
 use Rattle.claims.proofs.Moves.Hurting.{Hit, resumes-later, differ-later, small-later, gUncalm, wHurt, vHit, gHit, hurt-inv, seen-mark, note-hit, hit-past}
 
@@ -275,5 +277,6 @@ module _ (total : ℕ) (g : Group) (h : History) (γ : Ghost) (w : Fit g) (i : I
     ghost = δ (isNormal old);
     inv = subst (λ (x : View). Inv (g .n) total x (δ (isNormal old))) (sym seen) kept-inv;
     past = rw (no-cuts (noteDamage (isNormal old) h a b) g g′ (λ c e. ap (λ (s : State). isIn s Checkpointing) (sym (state-kept c)) ∙ e)) (past-mark (isNormal old));
-    stays = λ c e. ap (λ (s : State). isIn s Normal) (state-kept c) ∙ aware-not-normal (γ .big) (v .own c) e;
+    stays = stays-none v γ (view g′) (δ (isNormal old)) (nobody-recovers g w still) (λ c e. ap works (state-kept c) ∙ e)
+        (λ c e. absurd (never (error-recovers (v .own c .state) (ap (λ (s : State). isIn s Error) (sym (state-kept c)) ∙ e)) (nobody-recovers g w still c)));
   }

@@ -1,7 +1,7 @@
 -- A packet taken off a line and dropped: where it is no normal packet that counts, no resume that is waited for and no fault packet that
 -- is still to be heard, all facts stay. Only the pair of sender and receiver reads the line.
 use Prim.Native.Nat.{ℕ, _<_}
-use mathlib.Core.Path.{_≡_, sym, ap, _∙_, subst}
+use mathlib.Core.Path.{_≡_, sym, ap, subst}
 use mathlib.Core.Logic.{_⊎_, inl, ⊎-elim}
 use mathlib.Core.Bool.{Bool, true, false, not, _&&_}
 use mathlib.Core.List.{List, [], _∷_, _++_, nil≢cons}
@@ -13,8 +13,7 @@ use Rattle.packet.specs.declared.Packet.{Packet}
 use Rattle.packet.specs.declared.Packet.the-variants.{Recover}
 use Rattle.packet.specs.Packet.{isEmpty, isNormal}
 use Rattle.line.specs.Line.{oldest, rest}
-use Rattle.state.specs.declared.State.{State}
-use Rattle.state.specs.declared.State.the-variants.{Normal, Recovered}
+use Rattle.state.specs.declared.State.the-variants.{Recovered}
 use Rattle.state.specs.State.{isIn}
 use Rattle.group.specs.declared.Group.{Group}
 use Rattle.group.specs.Group.{line, withLine}
@@ -25,8 +24,9 @@ use Rattle.claims.proofs.State.Sim.{Fit}
 use Rattle.claims.proofs.State.ViewMoves.{sim-off, view-off}
 use Rattle.claims.proofs.Invariant.Facts.{Big, Mind, Wire, Ghost, Pair, Stream, aware, unaware, linked, behind, count, isFault, isCheckp, isInvalid, checkpLast, resumeFirst, Differ, amount}
 use Rattle.claims.proofs.Invariant.Whole.{Inv, PairAt}
-use Rattle.claims.proofs.Invariant.Past.{Past, Kept, aware-not-normal, past-still}
+use Rattle.claims.proofs.Invariant.Past.{Past, Kept, past-still, quiet-of}
 use Rattle.claims.proofs.Invariant.Logs.{head-eq, tail-eq, alarms-rest, amounts-rest, amount-rest, small-rest, count-rest}
+use Rattle.claims.proofs.Invariant.Staying.{stays-same, phase-same}
 
 -- ---- the pair of sender and receiver
 
@@ -150,5 +150,5 @@ module _ (total : ℕ) (g : Group) (h : History) (γ : Ghost) (w : Fit g) (i : I
     inv = subst (λ (x : View). Inv (g .n) total x γ) (sym seen)
         (drop-inv (g .n) total (view g) γ i a b (oldest (line g a b)) left (sim-off g a b full) plain waits hears);
     past = past-still g g′ state-kept past;
-    stays = λ c e. ap (λ (s : State). isIn s Normal) (state-kept c) ∙ aware-not-normal (γ .big) (view g .own c) e;
+    stays = stays-same (view g) γ (quiet-of i) (view g′) γ (λ c. phase-same (ap (λ (x : View). x .own c) seen)) (λ c d. ap (λ (x : View). x .side c d .unsure) seen) (λ f. f);
   }

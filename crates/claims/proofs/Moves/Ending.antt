@@ -38,7 +38,7 @@ use Rattle.claims.proofs.Moves.EndNodes.{ended-node, ended-chief, ended
 
 -- whether a place concerns a cabinet that works, or a link that stands
 module _ {work tab knows : ℕ → Bool} {alarm : ℕ → Alarm} {lk sound : ℕ → ℕ → Bool} where
-  misses : (q : Place) → Place-of work tab knows alarm lk sound q → (d : ℕ) → work d ≡ true → hitsCabinet q d ≡ false
+  pub misses : (q : Place) → Place-of work tab knows alarm lk sound q → (d : ℕ) → work d ≡ true → hitsCabinet q d ≡ false
   misses _ (failed x t w) d e = ne-eqb d x (λ f. never e (ap work f ∙ w))
   misses _ (tripped x k a) d e = refl
   misses _ (faulty x y l k s) d e = refl
@@ -104,7 +104,7 @@ module _ (n total : ℕ) (v : View) (γ : Ghost) (i : Inv n total v γ) (k : ℕ
       (f .1 ∙ rw (i .core .ground .soundLinks c d s, stands (p .0) at (i .core .ground .soundBoth) c d s))
       (f .0 ∙ rw (i .core .nodes d .placed wd, misses (p .0) at d wd))
 
-  one-place : (d : ℕ) → workOf v d ≡ true → v .own d .alarm ≡ At q
+  pub one-place : (d : ℕ) → workOf v d ≡ true → v .own d .alarm ≡ At q
   one-place d w =
       fault-for (v .own d .alarm) q .0
       (i .core .ground .reach (λ j. isFor (v .own j .alarm) q)
@@ -309,6 +309,7 @@ module _ (n total : ℕ) (v : View) (γ : Ghost) (i : Inv n total v γ) (k : ℕ
           reach = g .reach;
           othersWork = λ e. absurd (true≢false e);
           othersReach = λ e. absurd (true≢false e);
+          lostStore = λ e. absurd (true≢false e);
         })))
 
     ended-chain : ChainOf v′ γ′

@@ -19,7 +19,7 @@ use Rattle.group.specs.declared.Group.{Group}
 use Rattle.group.specs.Group.{cabinet}
 use Rattle.protocol.specs.History.{upd}
 use Rattle.protocol.specs.Moves.{recoverWith, recoverIfKnown, raise, enterError}
-use Rattle.claims.proofs.State.Fun.{and-true, upd-elim, upd-same, upd-other, upd-id, kept-at, upd-twice}
+use Rattle.claims.proofs.State.Fun.{and-true, upd-same, upd-other, upd-id, kept-at, upd-twice}
 use Rattle.claims.proofs.State.Every.{ok-raise}
 use Rattle.claims.proofs.State.View.{View, Own, Side, used, view}
 use Rattle.claims.proofs.State.Shape.{Shaped, Lined, Pictured, shaped}
@@ -287,8 +287,3 @@ pub error-here : (v : View) (c : ℕ) (q : Place) → isIn (vError v c q .own c 
 error-here v c q =
     ap (λ (u : View). isIn (u .own c .state) Normal) (error-seen v c q)
     ∙ ap (λ (o : Own). isIn (o .state) Normal) (upd-same (v .own) c (oErred (v .own c) q (leadAfter v c q))) ∙ erred-not-normal (v .own c .version)
-
-pub error-not-normal : (v : View) (c : ℕ) (q : Place) (j : ℕ) → isIn (v .own j .state) Normal ≡ false → isIn (vError v c q .own j .state) Normal ≡ false
-error-not-normal v c q j e =
-    ap (λ (u : View). isIn (u .own j .state) Normal) (error-seen v c q)
-    ∙ upd-elim (λ (x : Own). isIn (x .state) Normal ≡ false) (v .own) c (oErred (v .own c) q (leadAfter v c q)) j (λ s. erred-not-normal (v .own c .version)) (λ n. e)

@@ -16,7 +16,7 @@ use Rattle.marks.specs.Reach.{connected}
 use Rattle.packet.specs.declared.Place.the-variants.{Failed as AtFailed}
 use Rattle.table.specs.Table.{isAt}
 use Rattle.state.specs.declared.State.{State}
-use Rattle.state.specs.declared.State.the-variants.{Checkpointing, Checkpointed}
+use Rattle.state.specs.declared.State.the-variants.{Checkpointing, Checkpointed, Error}
 use Rattle.image.specs.declared.Image.{Image}
 use Rattle.state.specs.State.{isIn, works, inRecovery, inSaving}
 use Rattle.image.specs.Image.{booked}
@@ -28,17 +28,17 @@ use Rattle.protocol.specs.History.{Save, History, newest, passesOver, passOver,
 use Rattle.claims.proofs.State.Fun.{never, is-false, and-true, and-not}
 use Rattle.claims.proofs.State.Methods.{sAlarmed}
 use Rattle.claims.proofs.State.Every.{ok-markFailed}
-use Rattle.claims.proofs.State.View.{View, Own, used, view}
+use Rattle.claims.proofs.State.View.{View, Own, used, view, Side}
 use Rattle.claims.proofs.State.Shape.{Shaped, Lined, Pictured, shaped}
 use Rattle.claims.proofs.State.Sim.{Fit}
 use Rattle.claims.proofs.State.ViewMoves.{vFailed, sim-failed}
 use Rattle.claims.proofs.Answers.Tests.{in-state}
-use Rattle.claims.proofs.Invariant.States.{saving-works}
+use Rattle.claims.proofs.Invariant.States.{saving-works, error-recovers}
 use Rattle.claims.proofs.Invariant.Facts.{Big, Ghost}
 use Rattle.claims.proofs.Invariant.Whole.{Core, Inv, workOf}
 use Rattle.claims.proofs.Invariant.Past.{Past, Kept, no-cuts}
-use Rattle.claims.proofs.Invariant.Words.{aware-recovers}
 use Rattle.claims.proofs.Invariant.Reaching.{Reach, reach-of, working-at, working-marks}
+use Rattle.claims.proofs.Invariant.Staying.{stays-none}
 use Rattle.claims.proofs.Moves.FirstFault.{gFaulted, gBig}
 use Rattle.claims.proofs.Moves.Unopened as openly
 use Rattle.claims.proofs.Moves.Undoing.{gLost, gUndo}
@@ -238,12 +238,28 @@ module _ (total : ℕ) (g : Group) (h : History) (γ : Ghost) (fit : Fit g) (i :
               | no d ↦ ap (λ (x : Own). isIn (x .state) s) (sym (o ∙ other-own v a c d)) ∙ e
             ]
 
+    -- nobody's report stands at one that entered error
+    no-reports : (c : ℕ) → isIn (stateOf g′ c) Error ≡ true → (d : ℕ) → view g′ .side c d .unsure ≡ false
+    no-reports c e d = go (near (vFailed v a) a c) refl
+      where
+        go : (t : Bool) → near (vFailed v a) a c ≡ t → view g′ .side c d .unsure ≡ false
+        go true f =
+            let w = still-works v a c (and-true {s = workOf (vFailed v a) c} f .0) .1 in
+            ap (λ (s : Side). s .unsure) (alarmed .told c (below-eight (g .n) total a v γ i unfaulted up another nobody c w) f .2 d)
+        go false f =
+            let o = alarmed .others c (inr f) .0 in
+            let r : inRecovery (vFailed v a .own c .state) ≡ true = ap (λ (x : Own). inRecovery (x .state)) (sym o) ∙ error-recovers (stateOf g′ c) e in
+            elim (ℕ-discrete c a) [
+              | yes q ↦ absurd (false≢true (sym (ap (λ (x : Own). inRecovery (x .state)) (ap (λ (k : ℕ). vFailed v a .own k) q ∙ failed-own v a)) ∙ r))
+              | no n ↦ absurd (never (ap (λ (x : Own). inRecovery (x .state)) (sym (other-own v a c n)) ∙ r) (nobody c))
+            ]
+
     settled : Kept total g γ g′ (noteCuts h′ g g′)
     settled = record {
       ghost = gSaid δ (alarmed .said);
       inv = alarmed-inv (g .n) total a v γ i unfaulted up another nobody δ (view g′) alarmed faulted tabs links;
       past = rw (no-cuts h′ g g′ (no-new Checkpointing refl)) (left (view g′) (alarmed .said) fewer-work (no-new Checkpointed refl));
-      stays = λ c e. absurd (never (aware-recovers (γ .big) (v .own c) e) (nobody c));
+      stays = stays-none v γ (view g′) (gSaid δ (alarmed .said)) nobody (λ c f. is-false _ (λ e. never (fewer-work c e) f)) no-reports;
     }
 
   pub keeps-fail : Kept total g γ g′ (noteCuts h′ g g′)

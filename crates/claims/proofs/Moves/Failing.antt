@@ -240,9 +240,9 @@ module _ (n total : ℕ) (v : View) (γ : Ghost) (i : Core n total v γ) (none :
   -- who works, by the check of the fail
   failed-ground : Reach (workOf (vFailed v a)) (v .sound) → (alive : Bool)
       → (alive ≡ false → (c : ℕ) → tabOf γ c ≡ true → c ≢ γ .big .chief → workOf (vFailed v a) c ≡ true)
-      → (alive ≡ false → Reach (λ c. tabOf γ c && not (eqb c (γ .big .chief))) (lkOf γ))
+      → (alive ≡ false → Reach (λ c. tabOf γ c && not (eqb c (γ .big .chief))) (lkOf γ)) → (alive ≡ false → storeOf v (γ .big .chief) ≡ false)
       → Ground n (γ .big .chief) (γ .big .heir) alive (workOf (vFailed v a)) (tabOf γ) (storeOf (vFailed v a)) (homeOf (vFailed v a)) (lkOf γ) (v .sound)
-  failed-ground reach alive others left =
+  failed-ground reach alive others left bare =
       let g = i .ground in
       rw (kept (λ (x : Own). x .home) (v .own) a o′ refl, kept (λ (x : Own). x .store) (v .own) a o′ refl) (record {
         most = g .most;
@@ -258,6 +258,7 @@ module _ (n total : ℕ) (v : View) (γ : Ghost) (i : Core n total v γ) (none :
         reach = reach;
         othersWork = others;
         othersReach = left;
+        lostStore = bare;
       })
 
   no-version : (c : ℕ) → works (v .own c .state) ≡ true → v .own c .version ≡ Lost → ⊥
@@ -285,7 +286,7 @@ module _ (n total : ℕ) (v : View) (γ : Ghost) (i : Core n total v γ) (none :
       nodes = failed-nodes;
       books = failed-books;
       leads = λ c. upd-case (λ k o. Lead (γ .big) k o) (v .own) a o′ (lead-failed other) (λ k d. i .leads k) c;
-      ground = failed-ground reach (γ .big .alive) (λ e. absurd (never alive e)) (λ e. absurd (never alive e));
+      ground = failed-ground reach (γ .big .alive) (λ e. absurd (never alive e)) (λ e. absurd (never alive e)) (λ e. absurd (never alive e));
       chain = record {
         noCommit = λ f.
             ⊎-elim (λ e. inl (calm-less (γ .big) refl _ e)) (λ e. inr (e .0, e .1, calm-less (γ .big) refl _ (e .2), e .3)) (i .chain .noCommit f);
@@ -328,7 +329,7 @@ module _ (n total : ℕ) (v : View) (γ : Ghost) (i : Core n total v γ) (none :
         nodes = λ c. lost-node _ _ _ _ _ (failed-nodes c);
         books = λ c. lost-books _ _ _ _ _ (failed-books c);
         leads = leads-lost (bLost (γ .big)) refl refl;
-        ground = failed-ground reach false (λ e. rest-works) (λ e. rest-reached);
+        ground = failed-ground reach false (λ e. rest-works) (λ e. rest-reached) (λ e. ap (storeOf v) (sym chief) ∙ no-store);
         chain = record {
           noCommit = λ f. inl (no-calm (bLost (γ .big)));
           lives = λ e. absurd (never adopted e);
@@ -371,7 +372,7 @@ module _ (n total : ℕ) (v : View) (γ : Ghost) (i : Core n total v γ) (none :
             (λ q. ap (λ (k : ℕ). γ .mind k .tab) q ∙ i .ground .chiefIn) (λ q. ap (λ (k : ℕ). γ .mind k .done) q ∙ uncut fresh);
         books = λ c. undone-books _ _ _ _ _ (failed-books c);
         leads = leads-lost (bUndo (γ .big)) refl refl;
-        ground = failed-ground reach false (λ e. rest-works) (λ e. rest-reached);
+        ground = failed-ground reach false (λ e. rest-works) (λ e. rest-reached) (λ e. ap (storeOf v) (sym chief) ∙ no-store);
         chain = record {
           noCommit = λ f. inl (no-calm (bUndo (γ .big)));
           lives = λ e. absurd (true≢false e);

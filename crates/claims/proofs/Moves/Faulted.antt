@@ -21,17 +21,18 @@ use Rattle.group.specs.Group.{cabinet, stateOf, line}
 use Rattle.protocol.specs.Receive.{serving}
 use Rattle.protocol.specs.Moves.{enterError, hear}
 use Rattle.protocol.specs.History.{History, upd, noteCuts}
-use Rattle.claims.proofs.State.Fun.{never, and-intro, upd-elim, upd-same, upd-other, kept, kept-at, upd-swap}
+use Rattle.claims.proofs.State.Fun.{never, and-intro, upd-elim, upd-same, upd-other, kept, kept-at, upd-swap, kept-pair}
 use Rattle.claims.proofs.State.Every.{ok-enterError}
-use Rattle.claims.proofs.State.View.{View, Own, used, view, setLine}
+use Rattle.claims.proofs.State.View.{View, Own, used, view, setLine, Side}
 use Rattle.claims.proofs.State.Shape.{Shaped, Lined, Pictured, shaped}
 use Rattle.claims.proofs.State.Sim.{Fit}
 use Rattle.claims.proofs.State.ViewMoves.{vHear, leadAfter, sim-hear, view-off}
 use Rattle.claims.proofs.Invariant.States.{serving-calm, place-same}
 use Rattle.claims.proofs.Invariant.Facts.{Ghost, aware, unaware}
 use Rattle.claims.proofs.Invariant.Whole.{Core, Inv, Place-of, failed, tripped, faulty, PlacesOf, MeetsOf, workOf, alarmOf, awareOf, tabOf, lkOf}
-use Rattle.claims.proofs.Invariant.Past.{Past, Kept, aware-not-normal, past-turn}
+use Rattle.claims.proofs.Invariant.Past.{Past, Kept, past-turn, quiet-of}
 use Rattle.claims.proofs.Invariant.Words.{un-of, un-works, un-not-aware, aware-faulted}
+use Rattle.claims.proofs.Invariant.Staying.{phase-same, stays-calm, stays-marked}
 use Rattle.claims.proofs.Moves.FirstFault.{gError}
 use Rattle.claims.proofs.Moves.ErrorSeen.{vError, oErred, sErred, erredLine, erred, error-seen, strike-used, sim-error, erred-recovers, erred-works, erred-not-normal, erred-not-saving}
 use Rattle.claims.proofs.Moves.Erring.{error-core, error-meets, place-map}
@@ -176,11 +177,6 @@ module _ (total : ℕ) (g : Group) (h : History) (γ : Ghost) (w : Fit g) (i : I
   state-at : (c : ℕ) → view g′ .own c .state ≡ v2 .own c .state
   state-at c = ap (λ (x : View). x .own c .state) seen ∙ kept-at (λ (x : Own). x .state) (v2 .own) b _ refl c
 
-  stays-at : (c : ℕ) → aware (γ .big) (view g .own c) ≡ true → isIn (v2 .own c .state) Normal ≡ false
-  stays-at c e =
-      upd-elim (λ (o : Own). isIn (o .state) Normal ≡ false) (view g .own) b o2 c
-      (λ x. erred-not-normal (cabinet g b .phase .version)) (λ x. aware-not-normal (γ .big) (view g .own c) e)
-
   pub fault-not-normal : isIn (stateOf g′ b) Normal ≡ false
   fault-not-normal =
       ap (λ (s : State). isIn s Normal) (state-at b) ∙ ap (λ (o : Own). isIn (o .state) Normal) at-b ∙ erred-not-normal (cabinet g b .phase .version)
@@ -191,5 +187,7 @@ module _ (total : ℕ) (g : Group) (h : History) (γ : Ghost) (w : Fit g) (i : I
     inv = subst (λ (x : View). Inv (g .n) total x δ′) (sym seen) heard-inv;
     past = past-turn g g′ b o2 state-at (erred-works (cabinet g b .phase .version) ∙ sym (un-works (γ .big) (view g .own b) calm))
         (erred-not-saving (cabinet g b .phase .version)) (frozen-past (g .n) (view g) γ h _ past);
-    stays = λ c e. ap (λ (s : State). isIn s Normal) (state-at c) ∙ stays-at c e;
+    stays = stays-marked (stays-calm (view g) γ (quiet-of i) v2 δ′ b _ _ refl refl calm (λ e d. refl) (λ f. f)) (view g′) δ′
+        (λ c. phase-same (ap (λ (x : View). x .own c) seen ∙ kept-at (λ (x : Own). x) (v2 .own) b _ refl c))
+        (λ c d. ap (λ (x : View). x .side c d .unsure) seen ∙ kept-pair (λ (s : Side). s .unsure) (v2 .side) b a _ refl c d) (λ f. f);
   }

@@ -10,9 +10,9 @@ use borrow.Author.Tests.{ltb-true, ltb-false}
 use native.Mathlib.Omega.{arith}
 use Rattle.packet.specs.declared.Packet.{Packet}
 use Rattle.state.specs.declared.State.{State}
-use Rattle.state.specs.declared.State.the-variants.{Normal, CheckpBegin, Checkpointing, Error, Recovering, Recovered}
+use Rattle.state.specs.declared.State.the-variants.{CheckpBegin, Checkpointing, Error, Recovering, Recovered}
 use Rattle.image.specs.declared.Image.{Image}
-use Rattle.state.specs.State.{isIn, works, inRestoring, bitOf}
+use Rattle.state.specs.State.{isIn, works, inRestoring, isUnknown, bitOf}
 use Rattle.image.specs.Image.{withPiece}
 use Rattle.registers.specs.Registers.{startRegisters}
 use Rattle.cabinet.specs.Cabinet.{withImage, withPieces, withRegisters, withState, fetched}
@@ -20,7 +20,7 @@ use Rattle.group.specs.declared.Group.{Group}
 use Rattle.group.specs.Group.{cabinet, withCabinet, stateOf, slot}
 use Rattle.protocol.specs.History.{History, upd, goes, noteKnown, noteCuts}
 use Rattle.protocol.specs.Kinds.{fetchRefusal, fetchPiece}
-use Rattle.claims.proofs.State.Fun.{never, is-true, is-false, and-true, and-intro, upd-elim, upd-same}
+use Rattle.claims.proofs.State.Fun.{never, is-true, is-false, and-true, and-intro, upd-same, kept-at}
 use Rattle.claims.proofs.State.Every.{passed}
 use Rattle.claims.proofs.State.View.{View, Own, Side, view, ownOf, sideOf, setCabinet}
 use Rattle.claims.proofs.State.Shape.{Pictured, shaped}
@@ -31,9 +31,10 @@ use Rattle.claims.proofs.Answers.Tests.{in-state}
 use Rattle.claims.proofs.Invariant.States.{known-is-known, restoring-works, other-state}
 use Rattle.claims.proofs.Invariant.Facts.{Big, Mind, Wire, Ghost, Pair, Node, Books, SameTo, aware, unaware, behind, closed}
 use Rattle.claims.proofs.Invariant.Whole.{Inv, PairAt}
-use Rattle.claims.proofs.Invariant.Past.{Past, Kept, Stays, aware-not-normal, past-turn}
+use Rattle.claims.proofs.Invariant.Past.{Past, Kept, past-turn, quiet-of}
 use Rattle.claims.proofs.Invariant.Words.{un-not-aware, aware-works, aware-not-un, lead-same}
 use Rattle.claims.proofs.Invariant.Frame.{same-ghost, minded, move-pairs, move-nodes, move-books, move-leads, move-ground, move-places, move-meets, move-chain, move-sums, quiet-inv}
+use Rattle.claims.proofs.Invariant.Staying.{Stays, stays-on}
 use Rattle.claims.proofs.Moves.Waking.{gAdopted, adopted-pair, adopted-node, adopted-books, adopted-lead}
 use Rattle.claims.proofs.Moves.Pieces.{piece-more, all-pieces}
 use Rattle.claims.proofs.Moves.Adopting.{past-adopted}
@@ -409,6 +410,10 @@ module _ (total : ℕ) (g : Group) (h : History) (γ : Ghost) (w : Fit g) (i : I
       side : sideOf (fetched (cabinet g a) x) ≡ (λ d. sFresh (v .side a d))
       side = fun-ext (λ d. side-fetched (cabinet g a) x d ∙ rw e)
 
+  -- its version is known
+  sure : isUnknown (v .own a .version) ≡ false
+  sure = i .core .nodes a .unknownAware aw ∙ rw state
+
   -- no cabinet but this one changes its state, and it stays in the recovery
   module _ (o : Own) (restores : inRestoring (o .state) ≡ true) (seen : view g′ .own ≡ upd (v .own) a o) where
     past-kept : {δ : Ghost} {e : History} → Past (g .n) v δ e → Past (g .n) (view g′) δ (noteCuts e g g′)
@@ -416,11 +421,12 @@ module _ (total : ℕ) (g : Group) (h : History) (γ : Ghost) (w : Fit g) (i : I
         past-turn g g′ a o (λ c. ap (λ (y : ℕ → Own). y c .state) seen)
         (restoring-works (o .state) restores .4 ∙ sym (aware-works (γ .big) (v .own a) aw)) (restoring-works (o .state) restores .2)
 
-    stays-so : Stays v γ (view g′)
-    stays-so c e =
-        ap (λ (y : ℕ → Own). isIn (y c .state) Normal) seen
-        ∙ upd-elim (λ (y : Own). isIn (y .state) Normal ≡ false) (v .own) a o c
-        (λ d. restoring-works (o .state) restores .3) (λ d. aware-not-normal (γ .big) (v .own c) e)
+    stays-so : (δ : Ghost) → (γ .big .faulted ≡ true → δ .big .faulted ≡ true)
+        → (o .version ≡ v .own a .version) × (o .alarm ≡ v .own a .alarm) × (o .lead ≡ v .own a .lead) × (o .former ≡ v .own a .former)
+        → ((d j : ℕ) → view g′ .side d j .unsure ≡ v .side d j .unsure) → Stays v γ (view g′) δ
+    stays-so δ f same sides =
+        stays-on v γ (quiet-of i) (view g′) δ a o seen f aw (restoring-works (o .state) restores .0) (same .1, same .2, same .3) sides
+        (restoring-works (o .state) restores .1) (ap isUnknown (same .0) ∙ sure) (λ u. absurd (never u sure))
 
     goes-is : goes g g′ a Recovering Recovered ≡ isIn (o .state) Recovered
     goes-is =
@@ -444,7 +450,8 @@ module _ (total : ℕ) (g : Group) (h : History) (γ : Ghost) (w : Fit g) (i : I
             (pieced-inv (g .n) total v γ i a aw state (k + 1) x (omega (arith, ltb-true k 3 e)) more);
         past = subst (λ (t : Bool). Past (g .n) (view g′) γ (noteCuts (noteKnown t h) g g′)) (sym none)
             (past-kept o still own past);
-        stays = stays-so o still own;
+        stays = stays-so o still own γ (λ f. f) (refl, refl, refl, refl)
+            (λ d j. ap (λ (u : View). u .side d j .unsure) seen ∙ ap (λ (s : ℕ → Side). s j .unsure) (kept-at (λ (s : ℕ → Side). s) (v .side) a (v .side a) refl d));
       }
 
   keeps-last : ltb k 3 ≡ false → Owed
@@ -462,7 +469,8 @@ module _ (total : ℕ) (g : Group) (h : History) (γ : Ghost) (w : Fit g) (i : I
             (lasted-inv (g .n) total v (gAdopted γ) (adopted-inv (g .n) total v γ faulted i) a aw state refl x whole);
         past = subst (λ (t : Bool). Past (g .n) (view g′) (gAdopted γ) (noteCuts (noteKnown t h) g g′)) (sym (goes-is o refl own))
             (past-kept o refl own (past-adopted (g .n) v γ h past));
-        stays = stays-so o refl own;
+        stays = stays-so o refl own (gAdopted γ) (λ f. f) (refl, refl, refl, refl)
+            (λ d j. ap (λ (u : View). u .side d j .unsure) seen ∙ kept-at (λ (s : ℕ → Side). s j .unsure) (v .side) a (λ c. sFresh (v .side a c)) refl d);
       }
 
   pub keeps-fetch : Owed

@@ -12,17 +12,15 @@ use Rattle.packet.specs.declared.Packet.{Packet}
 use Rattle.packet.specs.declared.Packet.the-variants.{Recover, Fault}
 use Rattle.packet.specs.Packet.{isEmpty}
 use Rattle.line.specs.Line.{oldest, rest}
-use Rattle.state.specs.declared.State.{State}
-use Rattle.state.specs.declared.State.the-variants.{Normal}
 use Rattle.state.specs.declared.Version.{Version}
 use Rattle.cabinet.specs.declared.Alarm.the-variants.{Fault as At}
 use Rattle.cabinet.specs.Alarm.{isFor}
-use Rattle.state.specs.State.{isIn, works, inRecovery}
+use Rattle.state.specs.State.{works, inRecovery}
 use Rattle.group.specs.declared.Group.{Group}
 use Rattle.group.specs.Group.{cabinet, stateOf, line, withLine}
 use Rattle.protocol.specs.History.{History, upd, noteCuts}
 use Rattle.protocol.specs.Moves.{hear}
-use Rattle.claims.proofs.State.Fun.{never, is-true, and-true, and-intro, upd-elim, upd-same, upd-other, kept-at}
+use Rattle.claims.proofs.State.Fun.{never, is-true, and-true, and-intro, upd-elim, upd-same, upd-other, kept-at, kept-pair}
 use Rattle.claims.proofs.State.Every.{with-line}
 use Rattle.claims.proofs.State.View.{View, Own, Side, used, content, view, setLine}
 use Rattle.claims.proofs.State.Shape.{Shaped, Lined, Pictured, shaped}
@@ -33,9 +31,10 @@ use Rattle.claims.proofs.Answers.Tests.{fault-for}
 use Rattle.claims.proofs.Invariant.States.{place-same}
 use Rattle.claims.proofs.Invariant.Facts.{Big, Mind, Wire, Ghost, Pair, Alarms, aware, unaware, isFault, isInvalid, count, amountsIn}
 use Rattle.claims.proofs.Invariant.Whole.{Inv}
-use Rattle.claims.proofs.Invariant.Past.{Past, Kept, aware-not-normal, past-still}
+use Rattle.claims.proofs.Invariant.Past.{Past, Kept, past-still, quiet-of}
 use Rattle.claims.proofs.Invariant.Words.{un-not-aware, un-or-aware, aware-faulted, live-line}
 use Rattle.claims.proofs.Invariant.Frame.{same-ghost, minded, move-pairs, move-nodes, move-books, quiet-inv}
+use Rattle.claims.proofs.Invariant.Staying.{stays-same, phase-same}
 
 -- ---- a fault packet at the head of a line
 
@@ -77,7 +76,7 @@ module _ {b : Big} {c d : ℕ} {o : Own} {m : Mind} {p : Own} {n : Mind} {s t : 
 -- ---- the pair of the line, and the pair back
 
 abbrev pub sHeard : Side → Side
-sHeard s = sMarks s (s .come) (s .saved) (s .restored) true
+sHeard s = sMarks s (s .come) (s .saved) (s .restored) true (s .unsure)
 
 module _ (b : Big) (c d : ℕ) (o : Own) (m : Mind) (p : Own) (n : Mind) (s t : Side) (k : List Packet) (w : Wire) (q : Place)
     (h : Pair b c d o m p n s t (Fault q ∷ k) w) (known : (aware b o ≡ true) → (r : Place) × (o .alarm ≡ At r)) (up : aware b p ≡ true) (for-it : p .alarm ≡ At q) where
@@ -240,11 +239,17 @@ module _ (total : ℕ) (g : Group) (h : History) (γ : Ghost) (w : Fit g) (i : I
   state-kept : (c : ℕ) → view g′ .own c .state ≡ view g .own c .state
   state-kept c = ap (λ (x : View). x .own c .state) seen ∙ kept-at (λ (x : Own). x .state) (view g .own) b _ refl c
 
+  own-kept : (c : ℕ) → view g′ .own c ≡ view g .own c
+  own-kept c = ap (λ (x : View). x .own c) seen ∙ kept-at (λ (x : Own). x) (view g .own) b _ refl c
+
+  unsure-kept : (c d : ℕ) → view g′ .side c d .unsure ≡ view g .side c d .unsure
+  unsure-kept c d = ap (λ (x : View). x .side c d .unsure) seen ∙ kept-pair (λ (s : Side). s .unsure) (view g .side) b a _ refl c d
+
   pub keeps-heard : Kept total g γ g′ (noteCuts h g g′)
   keeps-heard = record {
     ghost = γ;
     inv = subst (λ (x : View). Inv (g .n) total x γ) (sym seen)
         (hear-inv (g .n) total (view g) γ i a b other q k is-line heard-aware (fault-for (cabinet g b .phase .alarm) q .0 for-it));
     past = past-still g g′ state-kept past;
-    stays = λ c e. ap (λ (s : State). isIn s Normal) (state-kept c) ∙ aware-not-normal (γ .big) (view g .own c) e;
+    stays = stays-same (view g) γ (quiet-of i) (view g′) γ (λ c. phase-same (own-kept c)) unsure-kept (λ f. f);
   }

@@ -29,7 +29,7 @@ use Rattle.claims.proofs.State.Sim.{Fit}
 use Rattle.claims.proofs.Invariant.States.{serves-or-restores, not-both}
 use Rattle.claims.proofs.Invariant.Facts.{Ghost}
 use Rattle.claims.proofs.Invariant.Whole.{Inv}
-use Rattle.claims.proofs.Invariant.Past.{Past, Kept}
+use Rattle.claims.proofs.Invariant.Past.{Past, Kept, goes-not-normal}
 use Rattle.claims.proofs.Invariant.Words.{live-line}
 use Rattle.claims.proofs.Moves.Hearing.{off, off-line, keeps-heard, heard-aware}
 use Rattle.claims.proofs.Moves.Recovering.{error-aware, keeps-recover, keeps-recover-dropped}
@@ -82,7 +82,7 @@ module _ (total : ℕ) (g : Group) (h : History) (γ : Ghost) (w : Fit g) (i : I
     taken-restoring : inRecovery (stateOf g b) ≡ true → isFor (cabinet g b .phase .alarm) q ≡ true → Unnoted (taken (hear (off g a b) a b))
     taken-restoring e m f =
         let k = keeps-heard total g h γ w i past a b la lb other q fault e m in
-        (k, and-off (isIn (stateOf g b) Checkpointed) _ (k .stays b (heard-aware total g h γ w i past a b la lb other q fault e m)))
+        (k, and-off (isIn (stateOf g b) Checkpointed) _ (goes-not-normal (k .stays .goes) b (heard-aware total g h γ w i past a b la lb other q fault e m)))
 
     pub keeps-receive-fault : Unnoted (receiveFault g (off g a b) a b q)
     unfolding receiveFault
@@ -98,7 +98,7 @@ module _ (total : ℕ) (g : Group) (h : History) (γ : Ghost) (w : Fit g) (i : I
     taken-error : isIn (stateOf g b) Error ≡ true → marked (cabinet g b .noted .heard) a ≡ true → Unnoted (taken (recoverWith (off g a b) b x))
     taken-error e m f =
         let k = keeps-recover total g h γ w i past a b la lb x recover e m in
-        (k, and-off (isIn (stateOf g b) Checkpointed) _ (k .stays b (error-aware total g h γ w i past a b la lb x recover e m)))
+        (k, and-off (isIn (stateOf g b) Checkpointed) _ (goes-not-normal (k .stays .goes) b (error-aware total g h γ w i past a b la lb x recover e m)))
 
     left-out : Unnoted (taken (off g a b))
     left-out f = (

@@ -40,13 +40,14 @@ use Rattle.claims.proofs.State.ViewMoves.{leadAfter, sim-off, view-off}
 use Rattle.claims.proofs.Invariant.States.{serving-calm}
 use Rattle.claims.proofs.Invariant.Facts.{Ghost, aware, unaware, count, isInvalid}
 use Rattle.claims.proofs.Invariant.Whole.{Core, Inv, GroundOf, Place-of, faulty, workOf, awareOf, alarmOf, tabOf, lkOf}
-use Rattle.claims.proofs.Invariant.Past.{Past, Kept, aware-not-normal, past-turn}
+use Rattle.claims.proofs.Invariant.Past.{Past, Kept, past-turn, quiet-of}
 use Rattle.claims.proofs.Invariant.Words.{un-of, un-not-aware}
 use Rattle.claims.proofs.Invariant.Reaching.{Reach, reach-group, length-rows, view-sound}
+use Rattle.claims.proofs.Invariant.Staying.{stays-calm}
 use Rattle.claims.proofs.Moves.Dropping.{drop-inv}
 use Rattle.claims.proofs.Moves.Comparing.{unequal-hurt}
 use Rattle.claims.proofs.Moves.FirstFault.{gFaulted, gError}
-use Rattle.claims.proofs.Moves.ErrorSeen.{vError, erred, erredLine, sErred, error-seen, error-knows, error-side, error-line, error-works, erred-not-saving, error-here, error-not-normal, strike-used, sim-error, oErred, erred-works}
+use Rattle.claims.proofs.Moves.ErrorSeen.{vError, erred, erredLine, sErred, error-seen, error-knows, error-side, error-line, error-works, erred-not-saving, error-here, strike-used, sim-error, oErred, erred-works}
 use Rattle.claims.proofs.Moves.Erring.{error-meets, error-past, error-places-at, enter-core}
 
 -- ---- a link's place
@@ -191,6 +192,7 @@ module _ (n total : ℕ) (v : View) (γ : Ghost) (i : Inv n total v γ) (a b : �
             reach P (λ c d pc wc wd s. passes c d pc (same c ∙ wc) (same d ∙ wd) s) x (sym (same x) ∙ wx) px y (sym (same y) ∙ wy);
         othersWork = h .othersWork;
         othersReach = h .othersReach;
+        lostStore = h .lostStore;
       }
 
   struck-inv : Inv n total (setSound (vError v b q) sound) δ
@@ -306,8 +308,10 @@ module _ (total : ℕ) (g : Group) (h : History) (γ : Ghost) (w : Fit g) (i : I
           (λ c. ap (λ (u : View). u .own c .state) seen ∙ ap (λ (u : View). u .own c .state) (error-seen (view g) b (linkPlace a b)))
           (erred-works (cabinet g b .phase .version) ∙ sym (calm .0)) (erred-not-saving (cabinet g b .phase .version))
           (error-past (g .n) (view g) γ h (view g .own b) past);
-      stays = λ c e. ap (λ (u : View). isIn (u .own c .state) Normal) seen
-          ∙ error-not-normal (view g) b (linkPlace a b) c (aware-not-normal (γ .big) (view g .own c) e);
+      stays = stays-calm (view g) γ (quiet-of i) (view g′) (gError (gFaulted γ) (view g .own b)) b _ _
+          (ap (λ (u : View). u .own) seen ∙ ap (λ (u : View). u .own) (error-seen (view g) b (linkPlace a b)))
+          (ap (λ (u : View). u .side) seen ∙ ap (λ (u : View). u .side) (error-seen (view g) b (linkPlace a b)))
+          (un-of (γ .big) (view g .own b) (calm .0) (calm .1)) (λ e d. refl) (λ f. refl);
     }
 
   pub fault-state : isIn (stateOf g′ b) Normal ≡ false

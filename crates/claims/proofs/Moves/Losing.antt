@@ -13,8 +13,8 @@ use Rattle.packet.specs.declared.Packet.the-variants.{Empty, Normal as NormalPa
 use Rattle.packet.specs.Packet.{isEmpty, isNormal}
 use Rattle.line.specs.Line.{packetAt, without}
 use Rattle.state.specs.declared.State.{State}
-use Rattle.state.specs.declared.State.the-variants.{Normal, Checkpointing}
-use Rattle.state.specs.State.{isIn}
+use Rattle.state.specs.declared.State.the-variants.{Checkpointing, Error}
+use Rattle.state.specs.State.{isIn, works}
 use Rattle.group.specs.declared.Group.{Group}
 use Rattle.group.specs.Group.{line, withLine, rowsOf, some, recoveringOnes}
 use Rattle.protocol.specs.Kinds.{need, hurtAlready, loseRefusal, lost}
@@ -27,9 +27,11 @@ use Rattle.claims.proofs.State.Shape.{Shaped, Lined, Pictured, shaped}
 use Rattle.claims.proofs.State.Sim.{Fit, view-line}
 use Rattle.claims.proofs.Invariant.Facts.{Ghost, amountOf, amountsIn, count, isFault, isSafe, isCheckp, checkpLast, resumes, resumeFirst, Amounts, Differ, missing, amount}
 use Rattle.claims.proofs.Invariant.Whole.{Inv}
-use Rattle.claims.proofs.Invariant.Past.{Past, Kept, no-cuts, aware-not-normal, past-same}
+use Rattle.claims.proofs.Invariant.Past.{Past, Kept, no-cuts, past-same}
 use Rattle.claims.proofs.Invariant.Logs.{head-eq, tail-eq, amount-rest, small-rest}
 use Rattle.claims.proofs.Invariant.Words.{nobody-recovers}
+use Rattle.claims.proofs.Invariant.Staying.{stays-none}
+use Rattle.claims.proofs.Invariant.States.{error-recovers}
 use Rattle.claims.proofs.Moves.Hurting.{Hit, resumes-later, differ-later, small-later, gUncalm, vHit, gHit, hurt-inv, seen-mark, note-hit, hit-past}
 
 -- ---- a line without one packet
@@ -213,5 +215,6 @@ module _ (total : ℕ) (g : Group) (h : History) (γ : Ghost) (w : Fit g) (i : I
         (λ e. less-left (v .lines a b) p));
     past = rw (no-cuts (noteHurt h a b) g g′ (λ c e. ap (λ (s : State). isIn s Checkpointing) (sym (state-kept c)) ∙ e))
         (hit-past (past-same state-kept past) a b true (γ .big .clean) (h .damaged) _ (past .damaged) (note-hit past a b));
-    stays = λ c e. ap (λ (s : State). isIn s Normal) (state-kept c) ∙ aware-not-normal (γ .big) (v .own c) e;
+    stays = stays-none v γ (view g′) δ (nobody-recovers g w still) (λ c e. ap works (state-kept c) ∙ e)
+        (λ c e. absurd (never (error-recovers (v .own c .state) (ap (λ (s : State). isIn s Error) (sym (state-kept c)) ∙ e)) (nobody-recovers g w still c)));
   }

@@ -10,8 +10,7 @@ use Rattle.packet.specs.declared.Place.{Place}
 use Rattle.packet.specs.declared.Packet.{Packet}
 use Rattle.packet.specs.declared.Packet.the-variants.{Recover}
 use Rattle.line.specs.Line.{oldest}
-use Rattle.state.specs.declared.State.{State}
-use Rattle.state.specs.declared.State.the-variants.{Normal, Error, Recovering}
+use Rattle.state.specs.declared.State.the-variants.{Error, Recovering}
 use Rattle.state.specs.declared.Version.{Version}
 use Rattle.state.specs.declared.Version.the-variants.{Known}
 use Rattle.state.specs.State.{isIn, works, isUnknown}
@@ -19,17 +18,18 @@ use Rattle.group.specs.declared.Group.{Group}
 use Rattle.group.specs.Group.{cabinet, stateOf, line}
 use Rattle.protocol.specs.History.{History, upd, noteCuts}
 use Rattle.protocol.specs.Moves.{recoverWith}
-use Rattle.claims.proofs.State.Fun.{never, is-true, and-intro, upd-elim}
-use Rattle.claims.proofs.State.View.{View, Own, view, setLine}
+use Rattle.claims.proofs.State.Fun.{never, is-true, and-intro, kept-at}
+use Rattle.claims.proofs.State.View.{View, Own, view, setLine, Side}
 use Rattle.claims.proofs.State.Sim.{Fit}
 use Rattle.claims.proofs.State.ViewMoves.{oPhase, view-off}
 use Rattle.claims.proofs.Answers.Tests.{in-state}
 use Rattle.claims.proofs.Invariant.Facts.{Ghost, Alarms, aware, isFault, resumeFirst}
 use Rattle.claims.proofs.Invariant.Whole.{Core, Inv, PlacesOf}
-use Rattle.claims.proofs.Invariant.Past.{Past, Kept, aware-not-normal, past-still, past-turn}
+use Rattle.claims.proofs.Invariant.Past.{Past, Kept, past-still, past-turn, quiet-of}
 use Rattle.claims.proofs.Invariant.Logs.{alarm-first}
 use Rattle.claims.proofs.Invariant.Words.{aware-works}
 use Rattle.claims.proofs.Invariant.Frame.{same-ghost, move-places, move-meets}
+use Rattle.claims.proofs.Invariant.Staying.{Goes, SomeKnows, phase-same, stays-same, goes-on, stays-on}
 use Rattle.claims.proofs.Moves.Dropping.{head-pair, line-inv, drop-pair}
 use Rattle.claims.proofs.Moves.FirstFault.{gBig, bFrozen}
 use Rattle.claims.proofs.Moves.ErrorSeen.{vRecover, sim-recover′}
@@ -67,7 +67,8 @@ module _ (total : ℕ) (g : Group) (h : History) (γ : Ghost) (w : Fit g) (i : I
     ghost = γ;
     inv = subst (λ (y : View). Inv (g .n) total y γ) (sym (view-off g w a b la lb)) off-inv;
     past = past-still g g1 state-kept past;
-    stays = λ c e. ap (λ (s : State). isIn s Normal) (state-kept c) ∙ aware-not-normal (γ .big) (view g .own c) e;
+    stays = stays-same (view g) γ (quiet-of i) (view g1) γ (λ c. phase-same (ap (λ (y : View). y .own c) (view-off g w a b la lb)))
+        (λ c d. ap (λ (y : View). y .side c d .unsure) (view-off g w a b la lb)) (λ f. f);
   }
 
 -- ---- a cabinet in error goes on with the version of the save that the rule gives
@@ -98,9 +99,9 @@ module _ (n total : ℕ) (v : View) (γ : Ghost) (i : Inv n total v γ) (c : ℕ
 pub frozen-past : (n : ℕ) (v : View) (γ : Ghost) (h : History) (t : Bool) → Past n v γ h → Past n v (gBig γ (bFrozen (γ .big) t)) h
 frozen-past n v γ h t p = search
 
--- what such a step owes; the view before it has the cabinets of g
+-- such a step; the view before it has the cabinets of g, but for marks
 module _ (total : ℕ) (g : Group) (h : History) (γ δ : Ghost) (g′ : Group) (v : View) (c : ℕ) (x : Bool) (same : v .own ≡ view g .own)
-    (up : works (stateOf g c) ≡ true) (seen : view g′ ≡ vRecover v c x) where
+    (faulted : γ .big .faulted ≡ true → δ .big .faulted ≡ true) (aw : aware (γ .big) (view g .own c) ≡ true) (seen : view g′ ≡ vRecover v c x) where
   abbrev goes : ℕ → Own
   goes = upd (view g .own) c (oPhase (view g .own c) Recovering (Known x) (view g .own c .alarm))
 
@@ -109,17 +110,30 @@ module _ (total : ℕ) (g : Group) (h : History) (γ δ : Ghost) (g′ : Group) 
       ap (λ (y : View). y .own d .state) seen
       ∙ ap (λ (f : ℕ → Own). upd f c (oPhase (f c) Recovering (Known x) (f c .alarm)) d .state) same
 
-  stays-at : (d : ℕ) → aware (γ .big) (view g .own d) ≡ true → isIn (goes d .state) Normal ≡ false
-  stays-at d e =
-      upd-elim (λ (o : Own). isIn (o .state) Normal ≡ false) (view g .own) c _ d (λ q. refl) (λ n. aware-not-normal (γ .big) (view g .own d) e)
+  own-at : view g′ .own ≡ goes
+  own-at =
+      ap (λ (y : View). y .own) seen ∙ ap (λ (f : ℕ → Own). upd f c (oPhase (f c) Recovering (Known x) (f c .alarm))) same
 
-  pub keeps-going : Past (g .n) (view g) δ h → Inv (g .n) total (vRecover v c x) δ → Kept total g γ g′ (noteCuts h g g′)
-  keeps-going past inv = record {
+  pub past-going : Past (g .n) (view g) δ h → Past (g .n) (view g′) δ (noteCuts h g g′)
+  past-going past = past-turn g g′ c _ state-at (sym (aware-works (γ .big) (view g .own c) aw)) refl past
+
+  pub goes-going : (i : Inv (g .n) total (view g) γ) → Goes (view g) γ (view g′) δ
+  goes-going i = goes-on (view g) γ (quiet-of i) (view g′) δ c _ own-at faulted aw refl (refl, refl, refl)
+
+  -- where the version is one that another knows
+  pub keeps-going : (i : Inv (g .n) total (view g) γ) → Past (g .n) (view g) δ h → Inv (g .n) total (vRecover v c x) δ → v .side ≡ view g .side → SomeKnows (view g) γ
+      → Kept total g γ g′ (noteCuts h g g′)
+  keeps-going i past inv sides known = record {
     ghost = δ;
     inv = subst (λ (y : View). Inv (g .n) total y δ) (sym seen) inv;
-    past = past-turn g g′ c _ state-at (sym up) refl past;
-    stays = λ d e. ap (λ (s : State). isIn s Normal) (state-at d) ∙ stays-at d e;
+    past = past-going past;
+    stays = stays-on (view g) γ (quiet-of i) (view g′) δ c _ own-at faulted aw refl (refl, refl, refl) unsure-kept refl refl (λ _. known);
   }
+    where
+      unsure-kept : (d j : ℕ) → view g′ .side d j .unsure ≡ view g .side d j .unsure
+      unsure-kept d j =
+          ap (λ (y : View). y .side d j .unsure) seen ∙ ap (λ (f : ℕ → Side). f j .unsure) (kept-at (λ (f : ℕ → Side). f) (v .side) c (v .side c) refl d)
+          ∙ ap (λ (f : ℕ → ℕ → Side). f d j .unsure) sides
 
 -- ---- the step, where the packet is taken
 
@@ -173,5 +187,6 @@ module _ (total : ℕ) (g : Group) (h : History) (γ : Ghost) (w : Fit g) (i : I
 
   pub keeps-recover : Kept total g γ g2 (noteCuts h g g2)
   keeps-recover =
-      keeps-going total g h γ γ g2 v1 b x refl (rw in-error) going past
+      keeps-going total g h γ γ g2 v1 b x refl (λ f. f) error-aware going i past
       (subst (λ (y : Bool). Inv (g .n) total (vRecover v1 b y) γ) (sym is-top) (recover-inv (g .n) total v1 γ inv-off b error-aware in-error is-frozen))
+      refl (a, a-aware, ap isUnknown a-knows)

@@ -75,7 +75,7 @@ module _ (n total : ℕ) (v : View) (γ : Ghost) (i : Inv n total v γ) (a : ℕ
 -- ---- the coordinator's mark
 
 abbrev sSaved : Side → Side
-sSaved s = sMarks s (s .come) true (s .restored) (s .heard)
+sSaved s = sMarks s (s .come) true (s .restored) (s .heard) (s .unsure)
 
 module _ (b : Big) (c d : ℕ) (o : Own) (m : Mind) (p : Own) (n : Mind) (s t : Side) (l : List Packet) (w : Wire) (h : Pair b c d o m p n s t l w) where
   saved-from : n .wrote ≡ true → n .told ≡ true → inSaving (o .state) ≡ true → Pair b c d o m p n (sSaved s) t l w

@@ -25,7 +25,7 @@ use Rattle.protocol.specs.Moves.{endRecovery, noteLost}
 use Rattle.protocol.specs.Kinds.{mayReport, restoredRefusal, reportRestored, endIfAll}
 use Rattle.protocol.specs.History.{Cut, History, latest, imageIn, lostNow, noteEnd, noteCuts, ends, goes}
 use Rattle.protocol.specs.Restored.{Restored, counted, amperes}
-use Rattle.claims.proofs.State.Fun.{never, is-true, is-false, and-true, and-intro, cond-elim, upd-same, upd-other, sum-cong, kept-at}
+use Rattle.claims.proofs.State.Fun.{never, is-true, is-false, and-true, and-intro, cond-elim, upd-same, upd-other, sum-cong, kept-at, kept-pair}
 use Rattle.claims.proofs.State.Every.{passed, with-cabinet, ok-noteLost}
 use Rattle.claims.proofs.State.View.{View, Own, Side, view, used}
 use Rattle.claims.proofs.State.Leading.{nextOver}
@@ -37,20 +37,21 @@ use Rattle.claims.proofs.Answers.Tests.{in-state}
 use Rattle.claims.proofs.Invariant.States.{restoring-one, restoring-works, known-is-known}
 use Rattle.claims.proofs.Invariant.Facts.{Mind, Ghost, unaware}
 use Rattle.claims.proofs.Invariant.Whole.{Inv, workOf, awareOf}
-use Rattle.claims.proofs.Invariant.Past.{Past, HeldIn, Kept, Next, kept-next, no-cuts, aware-not-normal, past-same, cut-held, tops-add}
+use Rattle.claims.proofs.Invariant.Past.{Past, HeldIn, Kept, Next, OnePlace, kept-next, no-cuts, quiet-of, past-same, cut-held, tops-add}
 use Rattle.claims.proofs.Invariant.Words.{un-not-aware, un-or-aware, aware-works, aware-faulted, chief-of, room-aware}
 use Rattle.claims.proofs.Invariant.Marking.{past-mind}
+use Rattle.claims.proofs.Invariant.Staying.{Reports, reports-none, phase-same, stays-same}
 use Rattle.claims.proofs.Moves.Rousing.{oResumed, roused, seen-roused}
 use Rattle.claims.proofs.Moves.Restoring.{gReady, ready-inv, marked-inv, mReady}
 use Rattle.claims.proofs.Moves.EndPairs.{bEnd, mEnd, wEnd}
 use Rattle.claims.proofs.Moves.Remembering.{Remembered, remembered}
-use Rattle.claims.proofs.Moves.Ending.{the-place, tabs-at, one-lead, ended-inv, all-aware, all-recovered}
+use Rattle.claims.proofs.Moves.Ending.{the-place, one-place, tabs-at, one-lead, ended-inv, all-aware, all-recovered}
 
 past-row : (m : Marks) (j : ℕ) → length m ≡ 8 → marked m j ≡ true → j < 8
 past-row m j e t = elim (decLt j 8) [ yes l ↦ l | no n ↦ absurd (never t (List·getD-eq-default m false {n = j} (omega arith))) ]
 
 module _ (total : ℕ) (g : Group) (h : History) (γ : Ghost) (w : Fit g) (i : Inv (g .n) total (view g) γ) (past : Past (g .n) (view g) γ h)
-    (a : ℕ) (la : a < 8) (works-a : works (stateOf g a) ≡ true) (fine : restoredRefusal g a ≡ 0) where
+    (reports : Reports (view g)) (a : ℕ) (la : a < 8) (works-a : works (stateOf g a) ≡ true) (fine : restoredRefusal g a ≡ 0) where
   abbrev k : ℕ
   k = coordinator (cabinet g a)
 
@@ -110,8 +111,11 @@ module _ (total : ℕ) (g : Group) (h : History) (γ : Ghost) (w : Fit g) (i : I
       subst (λ (x : View). Inv (g .n) total x γ1) (sym seen1)
       (marked-inv (g .n) total (view g) γ1 (ready-inv (g .n) total (view g) γ i a aware-a recovered-a heard-all) k a (ap (λ (m : Mind). m .ready) (upd-same (γ .mind) a _)))
 
+  own1 : (c : ℕ) → view g1 .own c ≡ view g .own c
+  own1 c = ap (λ (x : View). x .own c) seen1 ∙ kept-at (λ (x : Own). x) (view g .own) k (view g .own k) refl c
+
   state1 : (c : ℕ) → stateOf g1 c ≡ stateOf g c
-  state1 c = ap (λ (x : View). x .own c .state) seen1 ∙ kept-at (λ (x : Own). x .state) (view g .own) k (view g .own k) refl c
+  state1 c = ap (λ (o : Own). o .state) (own1 c)
 
   past1 : Past (g .n) (view g1) γ1 h
   past1 = past-same state1 (past-mind (g .n) (view g) γ h past a (mReady (γ .mind a)) refl refl refl refl refl refl)
@@ -131,7 +135,8 @@ module _ (total : ℕ) (g : Group) (h : History) (γ : Ghost) (w : Fit g) (i : I
     ghost = γ1;
     inv = inv1;
     past = rw (no-cuts h g g1 (λ c e. ap (λ (s : State). isIn s Checkpointing) (sym (state1 c)) ∙ e)) past1;
-    stays = λ c e. ap (λ (s : State). isIn s Normal) (state1 c) ∙ aware-not-normal (γ .big) (view g .own c) e;
+    stays = stays-same (view g) γ (quiet-of i) (view g1) γ1 (λ c. phase-same (own1 c))
+        (λ c d. ap (λ (x : View). x .side c d .unsure) seen1 ∙ kept-pair (λ (s : Side). s .unsure) (view g .side) k a _ refl c d) (λ f. f);
   }
 
   -- ---- where it was
@@ -360,12 +365,21 @@ module _ (total : ℕ) (g : Group) (h : History) (γ : Ghost) (w : Fit g) (i : I
       adds = sum-cong _ _ (g .n) (λ c l. counts c l) ∙ tops-add invN pastN;
     }
 
-    pub ended-next : Next total g γ g2 (noteCuts (noteEnd (ends g g2 a) h g2) g g2)
-    ended-next = record {
+    -- they were all in error for one place
+    one-alarm : OnePlace (view g)
+    one-alarm c d wc wd =
+        let at-one : (j : ℕ) → workOf (view g) j ≡ true → view g .own j .alarm ≡ At (at .0) = λ j x.
+        ap (λ (o : Own). o .alarm) (sym (own1 j)) ∙ one-place (g .n) total (view g1) γ1 inv1 k aware-1 reported-1 j (ap works (state1 j) ∙ x) in
+        at-one c wc ∙ sym (at-one d wd)
+
+    pub ended-next : (t : Bool) → Next total g γ g2 (noteCuts (noteEnd (ends g g2 a) h g2) g g2) t
+    ended-next t = record {
       ghost = γ2;
       inv = inv2;
       past = subst (Past (g .n) (view g2) γ2) (sym history2) past2;
-      fate = inr (subst (λ (y : History). Restored (g .n) total y g2) (sym history2) demand-three);
+      reports = reports-none (view g2) (λ c f. absurd (never f (quiet-of inv2 c refl)));
+      silent = λ _ _ c f. absurd (never f (quiet-of inv2 c refl));
+      fate = inr (record { restored = subst (λ (y : History). Restored (g .n) total y g2) (sym history2) demand-three; known = subst (λ (y : History). latest y .known ≡ true) (sym history2) (past2 .known); place = one-alarm; who = (a, works-a, ending) });
     }
 
   not-yet : ends g g1 a ≡ false
@@ -376,10 +390,10 @@ module _ (total : ℕ) (g : Group) (h : History) (γ : Ghost) (w : Fit g) (i : I
           let f = and-true {s = isIn (stateOf g k) Recovered} e in
           never (ap (λ (s : State). isIn s Normal) (sym (state1 k)) ∙ f .1) (ap (λ (s : State). isIn s Normal) (in-state (stateOf g k) Recovered .0 (f .0)))
 
-  reported-next : Next total g γ g1 (noteCuts (noteEnd (ends g g1 a) h g1) g g1)
-  reported-next = subst (λ (t : Bool). Next total g γ g1 (noteCuts (noteEnd t h g1) g g1)) (sym not-yet) (kept-next reported-only)
+  reported-next : (b : Bool) → Next total g γ g1 (noteCuts (noteEnd (ends g g1 a) h g1) g g1) b
+  reported-next b = subst (λ (t : Bool). Next total g γ g1 (noteCuts (noteEnd t h g1) g g1) b) (sym not-yet) (kept-next i reports reported-only)
 
-  pub keeps-restored : Next total g γ (endIfAll g1 k) (noteCuts (noteEnd (ends g (endIfAll g1 k) a) h (endIfAll g1 k)) g (endIfAll g1 k))
+  pub keeps-restored : (b : Bool) → Next total g γ (endIfAll g1 k) (noteCuts (noteEnd (ends g (endIfAll g1 k) a) h (endIfAll g1 k)) g (endIfAll g1 k)) b
   unfolding endIfAll
-  keeps-restored =
-      cond-elim (λ (y : Group). Next total g γ y (noteCuts (noteEnd (ends g y a) h y) g y)) last ended-next (λ _. reported-next)
+  keeps-restored b =
+      cond-elim (λ (y : Group). Next total g γ y (noteCuts (noteEnd (ends g y a) h y) g y) b) last (λ e. ended-next e b) (λ _. reported-next b)

@@ -76,7 +76,7 @@ module _ (n total : ℕ) (v : View) (γ : Ghost) (i : Inv n total v γ) (a : ℕ
 -- ---- the coordinator notes it
 
 abbrev sRestored : Side → Side
-sRestored s = sMarks s (s .come) (s .saved) true (s .heard)
+sRestored s = sMarks s (s .come) (s .saved) true (s .heard) (s .unsure)
 
 module _ (b : Big) (c d : ℕ) (o : Own) (m : Mind) (p : Own) (n : Mind) (s t : Side) (l : List Packet) (w : Wire) (h : Pair b c d o m p n s t l w) where
   mark-from : n .ready ≡ true → Pair b c d o m p n (sRestored s) t l w

@@ -20,7 +20,7 @@ use Rattle.packet.specs.Packet.{isEmpty}
 use Rattle.line.specs.Line.{emptyCell}
 use Rattle.outgoing.specs.Lines.{isLaden, laden}
 use Rattle.state.specs.declared.State.{State}
-use Rattle.state.specs.declared.State.the-variants.{Failed, Normal, Checkpointing, Checkpointed, Recovering}
+use Rattle.state.specs.declared.State.the-variants.{Failed, Normal, Checkpointing, Checkpointed, Recovering, Error}
 use Rattle.state.specs.declared.Version.{Version}
 use Rattle.state.specs.declared.Version.the-variants.{Known}
 use Rattle.image.specs.declared.Image.{Image}
@@ -49,6 +49,7 @@ use Rattle.claims.proofs.Invariant.Whole.{Inv, BooksAt, outOf, gotOf}
 use Rattle.claims.proofs.Invariant.Past.{Past, Kept, HeldIn, bare-balanced, held-now, cut-held}
 use Rattle.claims.proofs.Invariant.Words.{un-of, aware-recovers}
 use Rattle.claims.proofs.Invariant.Points.{PointHeld, PointsHeld, one-more}
+use Rattle.claims.proofs.Invariant.Staying.{stays-none}
 
 -- ---- eight in a row
 
@@ -395,5 +396,7 @@ module _ (total : ℕ) (g : Group) (h : History) (γ : Ghost) (w : Fit g) (i : I
         ghost = γ′;
         inv = subst (λ (x : View). Inv (g .n) total x γ′) seen set-inv;
         past = subst (λ (x : View). Past (g .n) x γ′ h′) seen set-past;
-        stays = λ c a. absurd (nobody-aware total g h γ w i past q c a);
+        stays = stays-none (view g) γ (view (returned g p)) γ′ (λ c. only total g h γ w i past q (λ s. inRecovery s ≡ false) c refl refl)
+            (λ c e. ap works (states-returned g w p held c) ∙ e)
+            (λ c e. absurd (never (ap (λ (s : State). isIn s Error) (sym (states-returned g w p held c)) ∙ e) (only total g h γ w i past q (λ s. isIn s Error ≡ false) c refl refl)));
       }

@@ -22,18 +22,19 @@ use Rattle.protocol.specs.Moves.{commit, resumeWith}
 use Rattle.protocol.specs.Kinds.{savedRefusal, reportSaved, commitIfAll}
 use Rattle.protocol.specs.History.{History, Cut, latest, commits, noteCommit, noteCuts, upd}
 use Rattle.protocol.specs.Restored.{sentIn, takenIn}
-use Rattle.claims.proofs.State.Fun.{never, is-false, and-true, upd-elim, upd-same, upd-other, kept-at}
+use Rattle.claims.proofs.State.Fun.{never, is-false, and-true, upd-elim, upd-same, upd-other, kept-at, kept-pair}
 use Rattle.claims.proofs.State.Every.{passed, ok-reportSaved}
 use Rattle.claims.proofs.State.View.{View, Own, Side, used, view}
 use Rattle.claims.proofs.State.Shape.{Shaped, Lined, Pictured, shaped}
 use Rattle.claims.proofs.State.Sim.{Fit}
-use Rattle.claims.proofs.State.ViewMoves.{Room, vBroadcast, vResumed, sim-resume, view-forget}
+use Rattle.claims.proofs.State.ViewMoves.{Room, vBroadcast, vResumed, sim-resume, view-forget, vOwe}
 use Rattle.claims.proofs.Invariant.States.{known-is-known, saving-works}
-use Rattle.claims.proofs.Invariant.Facts.{Ghost, aware, unaware, linked, Mind}
+use Rattle.claims.proofs.Invariant.Facts.{Ghost, unaware, linked, Mind}
 use Rattle.claims.proofs.Invariant.Whole.{Inv, NodeAt, workOf}
-use Rattle.claims.proofs.Invariant.Past.{Past, HeldIn, Kept, no-cuts, past-same, aware-not-normal}
-use Rattle.claims.proofs.Invariant.Words.{chief-lives, un-of, un-works, un-not-aware, chief-of, room-calm}
+use Rattle.claims.proofs.Invariant.Past.{Past, HeldIn, Kept, no-cuts, past-same, quiet-of}
+use Rattle.claims.proofs.Invariant.Words.{chief-lives, un-of, un-works, chief-of, room-calm}
 use Rattle.claims.proofs.Invariant.Marking.{past-mind}
+use Rattle.claims.proofs.Invariant.Staying.{Stays, phase-same, stays-same, stays-then}
 use Rattle.claims.proofs.Moves.Reporting.{gTold, mTold, vReported, report-inv, sim-report}
 use Rattle.claims.proofs.Moves.CommitPairs.{gCommit, mCommit}
 use Rattle.claims.proofs.Moves.CommitNodes.{wrote-state}
@@ -189,12 +190,26 @@ module _ (total : ℕ) (g : Group) (h : History) (γ : Ghost) (w : Fit g) (i : I
   past1 : Past (g .n) (view g1) γ1 h
   past1 = past-same state1 (past-mind (g .n) v γ h past a (mTold (γ .mind a)) refl refl refl refl refl refl)
 
+  own1 : (c : ℕ) → view g1 .own c ≡ v .own c
+  own1 c =
+      ap (λ (x : View). x .own c) seen1
+      ∙ kept-at (λ (x : Own). x) (upd (v .own) home (v .own home)) K (upd (v .own) home (v .own home) K) refl c
+      ∙ kept-at (λ (x : Own). x) (v .own) home (v .own home) refl c
+
+  unsure1 : (c d : ℕ) → view g1 .side c d .unsure ≡ v .side c d .unsure
+  unsure1 c d =
+      ap (λ (x : View). x .side c d .unsure) seen1
+      ∙ kept-pair (λ (x : Side). x .unsure) (vOwe v home a false .side) K a _ refl c d ∙ kept-pair (λ (x : Side). x .unsure) (v .side) home a _ refl c d
+
+  stays1 : Stays v γ (view g1) γ1
+  stays1 = stays-same v γ (quiet-of i) (view g1) γ1 (λ c. phase-same (own1 c)) unsure1 (λ f. f)
+
   keeps-report : Kept total g γ g1 (noteCuts h g g1)
   keeps-report = record {
     ghost = γ1;
     inv = inv1;
     past = rw (no-cuts h g g1 (λ c e. ap (λ (s : State). isIn s Checkpointing) (sym (state1 c)) ∙ e)) past1;
-    stays = λ c e. ap (λ (s : State). isIn s Normal) (state1 c) ∙ aware-not-normal (γ .big) (v .own c) e;
+    stays = stays1;
   }
 
   not-normal : commits g g1 K ≡ false
@@ -248,18 +263,13 @@ module _ (total : ℕ) (g : Group) (h : History) (γ : Ghost) (w : Fit g) (i : I
         ⊎-elim (λ s. ap (λ (x : State). isIn x Checkpointing) (sym s) ∙ e)
         (λ s. absurd (never e (ap (λ (x : State). isIn x Checkpointing) (s .1)))) (state-of c)
 
-    stay : (c : ℕ) → aware (γ .big) (v .own c) ≡ true → isIn (stateOf g2 c) Normal ≡ false
-    stay c e =
-        ⊎-elim (λ s. ap (λ (x : State). isIn x Normal) s ∙ aware-not-normal (γ .big) (v .own c) e)
-        (λ s. absurd (un-not-aware (γ .big) (v .own K) chief-calm (subst (λ (j : ℕ). aware (γ .big) (v .own j) ≡ true) (s .0) e))) (state-of c)
-
     keeps-commit : Kept total g γ g2 (noteCuts (noteCommit true h K) g g2)
     keeps-commit = record {
       ghost = gCommit γ1;
       inv = subst (λ (x : View). Inv (g .n) total x (gCommit γ1)) (sym seen2) (commit-inv (g .n) total (view g1) γ1 inv1 calm1 all);
       past = rw (no-cuts (noteCommit true h K) g g2 no-new-cut)
           (subst (λ (x : View). Past (g .n) x (gCommit γ1) (noteCommit true h K)) (sym seen2) (past-commit (g .n) total (view g1) γ1 h inv1 calm1 all past1));
-      stays = stay;
+      stays = stays-then stays1 (view g2) (gCommit γ1) K _ _ (ap (λ (u : View). u .own) seen2) (ap (λ (u : View). u .side) seen2) calm1 (λ e. absurd (never e refl)) (λ f. f);
     }
 
   -- ---- together

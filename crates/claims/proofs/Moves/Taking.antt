@@ -37,7 +37,7 @@ use Rattle.claims.proofs.State.Methods.{sRegisters}
 use Rattle.claims.proofs.State.ViewMoves.{oImage, vTake, sim-take, sim-off, view-off}
 use Rattle.claims.proofs.Invariant.Facts.{Big, Mind, Wire, Ghost, Pair, Node, Books, Stream, SameTo, aware, unaware, linked, behind, closed, amountsIn, count, isInvalid, checkpLast, resumeFirst, Amounts, amount}
 use Rattle.claims.proofs.Invariant.Whole.{Inv, PairAt, BooksAt, outOf, gotOf}
-use Rattle.claims.proofs.Invariant.Past.{Past, Kept, no-cuts, aware-not-normal}
+use Rattle.claims.proofs.Invariant.Past.{Past, Kept, no-cuts, calm-stays, calm-error}
 use Rattle.claims.proofs.Invariant.Logs.{check-snoc, count-rest, small-snoc, only-alarms}
 use Rattle.claims.proofs.Invariant.Words.{un-of, un-works, un-not-aware, un-or-aware, linked-used, live-line}
 use Rattle.claims.proofs.Invariant.Frame.{moved, minded, move-pairs, move-nodes, same-mind, quiet-inv}
@@ -419,5 +419,5 @@ module _ (total : ℕ) (g : Group) (γ : Ghost) (i : Inv (g .n) total (view g) �
       inv = subst (λ (x : View). Inv (g .n) total x δ) (sym seen)
           (taken-inv (g .n) total v γ i a b la q left lined calm image′ added);
       past = rw (no-cuts h′ g g′ (λ c e. ap (λ (s : State). isIn s Checkpointing) (sym (state-kept c)) ∙ e)) past′;
-      stays = λ c e. ap (λ (s : State). isIn s Normal) (state-kept c) ∙ aware-not-normal (γ .big) (v .own c) e;
+      stays = calm-stays i (view g′) δ b _ _ (ap (λ (u : View). u .own) seen) (ap (λ (u : View). u .side) seen) calm (calm-error i b calm) (λ f. f);
     }

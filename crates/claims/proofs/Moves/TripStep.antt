@@ -12,7 +12,7 @@ use Rattle.marks.specs.Reach.{connected}
 use Rattle.packet.specs.declared.Place.{Place}
 use Rattle.packet.specs.declared.Place.the-variants.{Tripped as AtTripped}
 use Rattle.state.specs.declared.State.{State}
-use Rattle.state.specs.declared.State.the-variants.{Checkpointing, Checkpointed}
+use Rattle.state.specs.declared.State.the-variants.{Checkpointing, Checkpointed, Error}
 use Rattle.cabinet.specs.declared.Alarm.the-variants.{Fault as At}
 use Rattle.state.specs.State.{isIn, inRecovery, inSaving}
 use Rattle.table.specs.Table.{isAt}
@@ -22,7 +22,7 @@ use Rattle.group.specs.Group.{cabinet, stateOf, rowsOf, working, withTripsOf, s
 use Rattle.protocol.specs.Moves.{trip, alarmTo}
 use Rattle.protocol.specs.Kinds.{tripCrashes}
 use Rattle.protocol.specs.History.{History, notePassed, noteCuts}
-use Rattle.claims.proofs.State.Fun.{never, is-true, is-false, and-true, and-intro, upd-elim}
+use Rattle.claims.proofs.State.Fun.{never, is-true, is-false, and-true, and-intro, upd-elim, upd-same}
 use Rattle.claims.proofs.State.Every.{ok-trip}
 use Rattle.claims.proofs.State.View.{View, Own, Side, used, view}
 use Rattle.claims.proofs.State.Shape.{Shaped, Lined, Pictured, shaped}
@@ -30,12 +30,13 @@ use Rattle.claims.proofs.State.Sim.{Fit}
 use Rattle.claims.proofs.State.Methods.{sAlarmed}
 use Rattle.claims.proofs.State.ViewMoves.{vTripped, sim-tripped, view-counted, fit-counted}
 use Rattle.claims.proofs.Answers.Tests.{in-state}
-use Rattle.claims.proofs.Invariant.States.{place-same, saving-works}
+use Rattle.claims.proofs.Invariant.States.{place-same, saving-works, error-recovers}
 use Rattle.claims.proofs.Invariant.Facts.{Ghost}
 use Rattle.claims.proofs.Invariant.Whole.{Core, Inv, PlacesOf, MeetsOf, Place-of, tripped, workOf, awareOf, alarmOf, tabOf, lkOf}
 use Rattle.claims.proofs.Invariant.Past.{Past, Kept, no-cuts}
 use Rattle.claims.proofs.Invariant.Words.{aware-recovers}
 use Rattle.claims.proofs.Invariant.Reaching.{Reach}
+use Rattle.claims.proofs.Invariant.Staying.{stays-none}
 use Rattle.claims.proofs.Moves.FirstFault.{gFaulted}
 use Rattle.claims.proofs.Moves.ErrorSeen.{strike-used}
 use Rattle.claims.proofs.Moves.Unopened as openly
@@ -208,12 +209,26 @@ module _ (total : ℕ) (g : Group) (h : History) (γ : Ghost) (fit : Fit g) (i :
             absurd (never (alarmed .told c l f .0) (ap inRecovery state-is ∙ saving-works s saves .1))
         go d false f = ap (λ (x : Own). isIn (x .state) s) (sym (alarmed .others c (inr f) .0 ∙ own-down c d)) ∙ e
 
+    -- nobody's report stands at one that entered error
+    no-reports : (c : ℕ) → isIn (stateOf g′ c) Error ≡ true → (d : ℕ) → view g′ .side c d .unsure ≡ false
+    no-reports c e d = go (near (vDown v a) a c) refl
+      where
+        go : (t : Bool) → near (vDown v a) a c ≡ t → view g′ .side c d .unsure ≡ false
+        go true f =
+            let l = below c (sym (works-down c) ∙ and-true {s = workOf (vDown v a) c} f .0) in
+            ap (λ (s : Side). s .unsure) (alarmed .told c l f .2 d)
+        go false f = elim (ℕ-discrete c a) [
+          | yes q ↦ ap (λ (s : ℕ → Side). s d .unsure) (alarmed .others c (inr f) .1) ∙ ap (λ (j : ℕ). vDown v a .side j d .unsure) q
+              ∙ ap (λ (s : ℕ → Side). s d .unsure) (upd-same (v .side) a (λ j. sAlarmed (AtTripped a) a j (v .side a j)))
+          | no n ↦ absurd (never (error-recovers (stateOf g′ c) e) (ap (λ (x : Own). inRecovery (x .state)) (alarmed .others c (inr f) .0 ∙ own-down c n) ∙ nobody c))
+        ]
+
     settled : Kept total g γ g′ (noteCuts h′ g g′)
     settled = record {
       ghost = δ′;
       inv = record { core = alarmed .core; places = places; meets = meets-after };
       past = rw (no-cuts h′ g g′ (no-new Checkpointing refl)) (left (view g′) (alarmed .said) (λ j e. sym (work-after j) ∙ e) (no-new Checkpointed refl));
-      stays = λ c e. absurd (never (aware-recovers (γ .big) (v .own c) e) (nobody c));
+      stays = stays-none v γ (view g′) δ′ nobody (λ c f. work-after c ∙ f) no-reports;
     }
 
   -- ---- by what the ghost makes of it
@@ -235,14 +250,14 @@ module _ (total : ℕ) (g : Group) (h : History) (γ : Ghost) (fit : Fit g) (i :
     keeps-chief : (t : Bool) → γ .big .adopted ≡ t → Kept total g γ g′ (noteCuts h′ g g′)
     keeps-chief true e =
         settled (gLost (gFaulted γ))
-        (tripped-chief (g .n) total v (gFaulted γ) flipped nobody refl a up (λ d. i .meets a d up) alive present chief others-reached e
+        (tripped-chief (g .n) total v (gFaulted γ) flipped nobody refl a up (λ d. i .meets a d up) alive present chief others-reached (checks .0) e
         (λ j d w. i .core .chain .company j d w (inl (unfaulted, e))))
         refl (λ c. refl) (λ c d. refl)
         (λ w t f s. rw (kept-known (g .n) v γ h past a e)
         (past-big (g .n) v w γ (gSaid (gLost (gFaulted γ)) t .big) h refl refl refl refl (λ x. absurd (false≢true x)) f s past))
     keeps-chief false e =
         settled (gUndo (gFaulted γ))
-        (tripped-undone (g .n) total v (gFaulted γ) flipped nobody refl a up (λ d. i .meets a d up) alive present chief others-reached e (no-cut e))
+        (tripped-undone (g .n) total v (gFaulted γ) flipped nobody refl a up (λ d. i .meets a d up) alive present chief others-reached (checks .0) e (no-cut e))
         refl (λ c. refl) (λ c d. refl)
         (λ w t f s. past-undone (g .n) v γ h past a e chief (another .0) (λ x. another .1 (x ∙ sym chief)) (another .2) (λ c m. i .core .nodes c .gone m .1 e)
         (i .core .ground .within) w (λ c u. i .core .nodes c .placed (f c u)) (gSaid (gUndo (gFaulted γ)) t .big) refl refl refl)

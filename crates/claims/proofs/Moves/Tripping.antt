@@ -282,8 +282,9 @@ module _ (n total : ℕ) (v : View) (γ : Ghost) (i : Core n total v γ) (none :
 
   -- the coordinator is lost: the others work, and are reached without it
   lost-ground : ((c : ℕ) → tabOf γ c ≡ true → workOf v c ≡ true) → Reach (λ c. tabOf γ c && not (eqb c (γ .big .chief))) (lkOf γ)
+      → storeOf v (γ .big .chief) ≡ false
       → Ground n (γ .big .chief) (γ .big .heir) false (workOf (tripped v a)) (tabOf γ) (storeOf (tripped v a)) (homeOf (tripped v a)) (lkOf γ) (v .sound)
-  lost-ground all left =
+  lost-ground all left bare =
       let g = trip-ground in
       record {
         most = g .most;
@@ -299,6 +300,7 @@ module _ (n total : ℕ) (v : View) (γ : Ghost) (i : Core n total v γ) (none :
         reach = g .reach;
         othersWork = λ e c t d. trip-works c ∙ all c t;
         othersReach = λ e. left;
+        lostStore = λ e. kept-at (λ (x : Own). x .store) (v .own) a o′ refl (γ .big .chief) ∙ bare;
       }
 
   -- ---- who leads
@@ -379,7 +381,7 @@ module _ (n total : ℕ) (v : View) (γ : Ghost) (i : Core n total v γ) (none :
     }
 
     -- the coordinator trips; left is the check with it left out
-    module _ (chief : a ≡ γ .big .chief) (left : Reach (λ c. tabOf γ c && not (eqb c (γ .big .chief))) (lkOf γ)) where
+    module _ (chief : a ≡ γ .big .chief) (left : Reach (λ c. tabOf γ c && not (eqb c (γ .big .chief))) (lkOf γ)) (bare : storeOf v a ≡ false) where
       pub tripped-chief : γ .big .adopted ≡ true
           → ((j : ℕ) → j ≢ γ .big .chief → workOf v j ≡ true
           → (c : ℕ) × (c ≢ γ .big .chief) × (workOf v c ≡ true) × ((knownOf v c ≡ true) ⊎ (γ .mind c .joined ≡ true)))
@@ -389,7 +391,7 @@ module _ (n total : ℕ) (v : View) (γ : Ghost) (i : Core n total v γ) (none :
         nodes = λ c. lost-node _ _ _ _ _ (trip-nodes c);
         books = λ c. lost-books _ _ _ _ _ (trip-bookss c);
         leads = leads-lost chief (bLost (γ .big)) fault refl refl refl;
-        ground = lost-ground all left;
+        ground = lost-ground all left (ap (storeOf v) (sym chief) ∙ bare);
         chain = record {
           noCommit = λ f. inl (no-calm chief (bLost (γ .big)) fault);
           lives = λ e. absurd (never adopted e);
@@ -429,7 +431,7 @@ module _ (n total : ℕ) (v : View) (γ : Ghost) (i : Core n total v γ) (none :
             (λ e. ap (λ (k : ℕ). γ .mind k .tab) e ∙ i .ground .chiefIn) (λ e. ap (λ (k : ℕ). γ .mind k .done) e ∙ uncut);
         books = λ c. undone-books _ _ _ _ _ (trip-bookss c);
         leads = leads-lost chief (bUndo (γ .big)) fault refl refl refl;
-        ground = lost-ground all left;
+        ground = lost-ground all left (ap (storeOf v) (sym chief) ∙ bare);
         chain = record {
           noCommit = λ f. inl (no-calm chief (bUndo (γ .big)) fault);
           lives = λ e. absurd (true≢false e);

@@ -11,7 +11,7 @@ use native.Mathlib.Omega.{arith}
 use native.Mathlib.Decide.{ℕ-discrete}
 use Rattle.packet.specs.declared.Packet.{Packet}
 use Rattle.state.specs.declared.State.{State}
-use Rattle.state.specs.declared.State.the-variants.{Normal, CheckpBegin, Checkpointing, Checkpointed, Error, Recovering}
+use Rattle.state.specs.declared.State.the-variants.{CheckpBegin, Checkpointing, Checkpointed, Error, Recovering}
 use Rattle.state.specs.declared.Version.{Version}
 use Rattle.state.specs.declared.Version.the-variants.{Known, Unknown, Lost}
 use Rattle.image.specs.declared.Image.{Image}
@@ -23,7 +23,7 @@ use Rattle.group.specs.declared.Group.{Group}
 use Rattle.group.specs.Group.{cabinet, stateOf, slot}
 use Rattle.protocol.specs.Kinds.{need, writeRefusal, writePiece, oweIf}
 use Rattle.protocol.specs.History.{History, noteCuts, upd}
-use Rattle.claims.proofs.State.Fun.{never, not-true-false, cond-elim, is-false, and-true, upd-elim, upd-same, upd-other, kept-at}
+use Rattle.claims.proofs.State.Fun.{never, not-true-false, cond-elim, is-false, and-true, upd-elim, upd-same, upd-other, kept-at, kept-pair}
 use Rattle.claims.proofs.State.Every.{passed, with-slot, ok-writePiece}
 use Rattle.claims.proofs.State.View.{View, Own, Side, ownOf, sideOf, same, view, setCabinet, setSlot}
 use Rattle.claims.proofs.State.Shape.{Shaped, Lined, Pictured, shaped}
@@ -34,10 +34,11 @@ use Rattle.claims.proofs.Answers.Tests.{in-state}
 use Rattle.claims.proofs.Invariant.States.{known-is-known, known-not-lost, unknown-not-lost, other-state}
 use Rattle.claims.proofs.Invariant.Facts.{Big, Mind, Wire, Ghost, Pair, Node, Books, SameTo, aware, unaware, behind, closed}
 use Rattle.claims.proofs.Invariant.Whole.{Inv, PairAt, NodeAt, ChainOf, workOf, calmOf, knownOf, tabOf, outOf, gotOf}
-use Rattle.claims.proofs.Invariant.Past.{Past, Kept, no-cuts, past-view, aware-not-normal}
+use Rattle.claims.proofs.Invariant.Past.{Past, Kept, no-cuts, past-view, calm-stays}
 use Rattle.claims.proofs.Invariant.Words.{un-works, un-not-aware, un-of, chief-of, lead-same}
 use Rattle.claims.proofs.Invariant.Frame.{same-ghost, moved, minded, move-pairs, move-nodes, move-books, move-leads, move-ground, move-places, move-meets, move-sums, quiet-inv}
 use Rattle.claims.proofs.Invariant.Marking.{mark-inv, past-mind}
+use Rattle.claims.proofs.Invariant.Staying.{Stays, phase-same, stays-marked}
 use Rattle.claims.proofs.Moves.Pieces.{piece-more, all-pieces}
 
 -- in a saving state no fault is known
@@ -499,12 +500,12 @@ module _ (total : ℕ) (g : Group) (h : History) (γ : Ghost) (w : Fit g) (i : I
   -- what the group and the history owe, given what becomes of the states
   closing : (g′ : Group) (δ : Ghost) → Inv (g .n) total (view g′) δ → Past (g .n) v δ h
       → ((c : ℕ) → (view g′ .own c .state ≡ v .own c .state) ⊎ ((c ≡ a) × (view g′ .own c .state ≡ Checkpointed)))
-      → δ .mind a .joined ≡ γ .mind a .joined → Kept total g γ g′ (noteCuts h g g′)
-  closing g′ δ inv p states joined = record {
+      → δ .mind a .joined ≡ γ .mind a .joined → Stays v γ (view g′) δ → Kept total g γ g′ (noteCuts h g g′)
+  closing g′ δ inv p states joined stays = record {
     ghost = δ;
     inv = inv;
     past = rw (no-cuts h g g′ no-cut) (past-view works-same waited p);
-    stays = stay;
+    stays = stays;
   }
     where
       no-cut : (c : ℕ) → isIn (stateOf g′ c) Checkpointing ≡ true → isIn (stateOf g c) Checkpointing ≡ true
@@ -519,10 +520,6 @@ module _ (total : ℕ) (g : Group) (h : History) (γ : Ghost) (w : Fit g) (i : I
       waited : (c : ℕ) → isIn (stateOf g′ c) Checkpointed ≡ true → δ .mind c .joined ≡ false → isIn (stateOf g c) Checkpointed ≡ true
       waited c e f = ⊎-elim (λ s. ap (λ (x : State). isIn x Checkpointed) (sym s) ∙ e)
           (λ s. absurd (never (at-node .doneJoined (now .0)) (sym joined ∙ ap (λ (j : ℕ). δ .mind j .joined) (sym (s .0)) ∙ f))) (states c)
-
-      stay : (c : ℕ) → aware (γ .big) (v .own c) ≡ true → isIn (stateOf g′ c) Normal ≡ false
-      stay c e = ⊎-elim (λ s. ap (λ (x : State). isIn x Normal) s ∙ aware-not-normal (γ .big) (v .own c) e)
-          (λ s. ap (λ (x : State). isIn x Normal) (s .1)) (states c)
 
   state-at : (o : Own) (z : ℕ → Bool → Image) (c : ℕ) → (o .state ≡ v .own a .state) ⊎ (o .state ≡ Checkpointed)
       → (moved v a o (v .side a) (v .lines) z .own c .state ≡ v .own c .state) ⊎ ((c ≡ a) × (moved v a o (v .side a) (v .lines) z .own c .state ≡ Checkpointed))
@@ -541,6 +538,7 @@ module _ (total : ℕ) (g : Group) (h : History) (γ : Ghost) (w : Fit g) (i : I
       (subst (λ (x : View). Inv (g .n) total x γ) (sym seen)
       (part-inv (g .n) total v γ a i calm cutting-now new (ltb-true (v .own a .pieces) 3 few) more)) past
       (λ c. subst (λ (x : View). (x .own c .state ≡ v .own c .state) ⊎ ((c ≡ a) × (x .own c .state ≡ Checkpointed))) (sym seen) (state-at o z c (inl refl))) refl
+      (calm-stays i (view (writePiece g a)) γ a _ _ (ap (λ (u : View). u .own) seen) (ap (λ (u : View). u .side) seen) calm (rw cutting-now) (λ f. f))
 
   -- ---- the last piece
 
@@ -615,6 +613,9 @@ module _ (total : ℕ) (g : Group) (h : History) (γ : Ghost) (w : Fit g) (i : I
         (past-mind (g .n) v γ h past a (mWrote (γ .mind a)) refl refl refl refl refl refl)
         (λ c. subst (λ (x : View). (x .own c .state ≡ v .own c .state) ⊎ ((c ≡ a) × (x .own c .state ≡ Checkpointed))) (sym seen-owed) (states-owed c))
         (kept-at (λ (x : Mind). x .joined) (γ .mind) a (mWrote (γ .mind a)) refl a)
+        (stays-marked (calm-stays i v1 γ1 a _ _ refl refl calm refl (λ f. f)) (view g2) γ1
+        (λ c. phase-same (ap (λ (x : View). x .own c) seen-owed ∙ kept-at (λ (x : Own). x) (v1 .own) home (v1 .own home) refl c))
+        (λ c d. ap (λ (x : View). x .side c d .unsure) seen-owed ∙ kept-pair (λ (x : Side). x .unsure) (v1 .side) home a _ refl c d) (λ f. f))
 
   abbrev gw : Group
   gw = oweIf (not (ltb (cabinet g a .noted .pieces) 3)) (writePiece g a) (cabinet g a .home) a

@@ -25,12 +25,12 @@ use Rattle.group.specs.declared.Group.{Group}
 use Rattle.group.specs.declared.Outcome.{Outcome}
 use Rattle.group.specs.Group.{cabinet, withCabinet, stateOf, withOutgoing, line, withLine, withSlot, withSlots, rowsOf, withSound, working, some, recoveringOnes, tripsOf, withTripsOf, forgetTrips, crashAll}
 use Rattle.protocol.specs.declared.Step.{Step}
-use Rattle.protocol.specs.declared.Step.the-variants.{Send, Note, Begin, Deliver, Write, Saved, Fetch, Restored, WaitOver, Fail, Damage, Lose, Trip}
+use Rattle.protocol.specs.declared.Step.the-variants.{Send, Note, Begin, Deliver, Write, Saved, Fetch, Restored, Fail, Damage, Lose, Trip, Unsure}
 use Rattle.protocol.specs.declared.Decoded.{Decoded}
 use Rattle.protocol.specs.declared.Decoded.the-variants.{Malformed, Unused, Taken}
 use Rattle.protocol.specs.Moves.{broadcast, join, cutIfAll, takeCheckp, resumeWith, commit, adopt, recoverWith, recoverIfKnown, raise, enterError, hear, findLinkFault, emptiedTo, markFailed, trip, neighbours, enterErrorIf, alarmTo, endRecovery, noteAt, noteFor, noteLost}
 use Rattle.protocol.specs.Receive.{serving, takesFrom, joinIf, resumesFrom, receiveNormal, receiveCheckp, receiveResume, receiveRecover, receiveFault, receiveInvalid, receive}
-use Rattle.protocol.specs.Kinds.{orRefuse, sendStep, sendRefusal, sent, noteStep, noteRefusal, beginStep, beginRefusal, deliverStep, deliverRefusal, delivered, writeStep, writeRefusal, writePiece, oweIf, savedStep, savedRefusal, reportSaved, commitIfAll, fetchStep, fetchRefusal, fetchPiece, restoredStep, restoredRefusal, reportRestored, endIfAll, waitOverStep, waitOverRefusal, failStep, failCrashes, hurtIf, hurt, damageStep, damageRefusal, lost, loseStep, loseRefusal, tripStep, tripOnce, tripCrashes}
+use Rattle.protocol.specs.Kinds.{orRefuse, sendStep, sendRefusal, sent, noteStep, noteRefusal, beginStep, beginRefusal, deliverStep, deliverRefusal, delivered, writeStep, writeRefusal, writePiece, oweIf, savedStep, savedRefusal, reportSaved, commitIfAll, fetchStep, fetchRefusal, fetchPiece, restoredStep, restoredRefusal, reportRestored, endIfAll, failStep, failCrashes, hurtIf, hurt, damageStep, damageRefusal, lost, loseStep, loseRefusal, tripStep, tripOnce, tripCrashes, unsureStep, unsureRefusal, reportUnsure, decideIfAll}
 use Rattle.protocol.specs.Entry.{step, stepDecoded, perform, entryRefusal, decode}
 use Rattle.claims.proofs.State.Fun.{cond-elim}
 
@@ -58,7 +58,7 @@ note-n : (g : Group) (k : ℕ) → noteLost g k .n ≡ g .n
 unfolding noteLost
 note-n g k = note-for-n (cabinet g k .phase .alarm) g (cabinet g k .phase .version)
 
-recover-n : (g : Group) (i : ℕ) (v : Bool) → recoverWith g i v .n ≡ g .n
+pub recover-n : (g : Group) (i : ℕ) (v : Bool) → recoverWith g i v .n ≡ g .n
 unfolding recoverWith broadcast withOutgoing withCabinet
 recover-n g i v = refl
 
@@ -178,6 +178,12 @@ module _ (g : Group) where
       refused (restoredRefusal g a) _
       (cond-elim (λ (x : Group). x .n ≡ g .n) (isIn (stateOf _ _) Recovered && covers (cabinet _ _ .noted .restored) (cabinet _ _ .table .cabinets)) (λ _. resume-n _ _ _ ∙ note-n _ _) (λ _. refl))
 
+  unsure-n : (a : ℕ) → Kept (unsureStep g a)
+  unfolding unsureStep reportUnsure decideIfAll withCabinet
+  unsure-n a =
+      refused (unsureRefusal g a) _
+      (cond-elim (λ (x : Group). x .n ≡ g .n) (covers (cabinet _ _ .noted .unsure) (cabinet _ _ .table .cabinets)) (λ _. recover-n _ _ _) (λ _. refl))
+
   damage-n : (a b p q : ℕ) → Kept (damageStep g a b p q)
   unfolding damageStep hurt withLine withOutgoing withCabinet
   damage-n a b p q =
@@ -202,7 +208,7 @@ module _ (g : Group) where
       (λ _. cond-elim Kept (tripCrashes g a) (λ _. crash-n g) (λ _. alarm-n 8 _ a (AtTripped a) ∙ trip-n g a (tripsOf g a + 1))) (λ _. fail-n a)
 
   perform-n : (s : Step) → Kept (perform g s)
-  unfolding sendStep sent noteStep beginStep fetchStep fetchPiece waitOverStep withCabinet withLine withOutgoing
+  unfolding sendStep sent noteStep beginStep fetchStep fetchPiece withCabinet withLine withOutgoing
   perform-n (Send a b p q) = refused (sendRefusal g (a - 1) (b - 1) p q) _ refl
   perform-n (Note a p q) = refused (noteRefusal g (a - 1) p q) _ refl
   perform-n (Begin a) = refused (beginRefusal g (a - 1)) _ (cut-n (join g (a - 1)) (a - 1) ∙ join-n g (a - 1))
@@ -211,11 +217,11 @@ module _ (g : Group) where
   perform-n (Saved a) = saved-n (a - 1)
   perform-n (Fetch a) = refused (fetchRefusal g (a - 1)) _ refl
   perform-n (Restored a) = restored-n (a - 1)
-  perform-n (WaitOver a) = refused (waitOverRefusal g (a - 1)) _ (recover-n g (a - 1) _)
   perform-n (Fail a) = fail-n (a - 1)
   perform-n (Damage a b p q) = damage-n (a - 1) (b - 1) p q
   perform-n (Lose a b p) = lose-n (a - 1) (b - 1) p
   perform-n (Trip a) = trips-n (a - 1)
+  perform-n (Unsure a) = unsure-n (a - 1)
 
   decoded-n : (d : Decoded) → Kept (stepDecoded g d)
   decoded-n Malformed = refl

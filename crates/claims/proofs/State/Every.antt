@@ -33,7 +33,7 @@ use Rattle.cabinet.specs.declared.Cabinet.{Cabinet}
 use Rattle.cabinet.specs.Alarm.{isFor}
 use Rattle.state.specs.State.{isIn, works, inRecovery, bitOf}
 use Rattle.image.specs.Image.{booking, firstNote, withOctet, withPiece}
-use Rattle.cabinet.specs.Cabinet.{absent, inUse, withImage, withState, withVersion, sending, taking, hurtFrom, beginning, comparing, cutting, wrote, owing, savedFor, resuming, alarmed, blanked, hearing, recovering, fetched, restoredFor, crashing}
+use Rattle.cabinet.specs.Cabinet.{absent, inUse, withImage, withState, withVersion, sending, taking, hurtFrom, beginning, comparing, cutting, wrote, owing, savedFor, resuming, alarmed, blanked, hearing, recovering, fetched, restoredFor, unsureFor, crashing}
 use Rattle.outgoing.specs.declared.Outgoing.{Outgoing}
 use Rattle.group.specs.declared.Slots.{Slots}
 use Rattle.group.specs.declared.Group.{Group}
@@ -41,14 +41,14 @@ use Rattle.group.specs.declared.Outcome.{Outcome}
 use Rattle.outgoing.specs.Lines.{emptyLines, lineTo, withLineTo, putIf, putRowTo, putAll, checkps, putCheckps}
 use Rattle.group.specs.Group.{cabinet, withCabinet, stateOf, outgoing, withOutgoing, line, withLine, blankSlots, slot, withSlot, rowsOf, withSound, working, some, recoveringOnes, tripsOf, withTripsOf, forgetTrips, taken, crashAll, crashed, withSlots}
 use Rattle.protocol.specs.declared.Step.{Step}
-use Rattle.protocol.specs.declared.Step.the-variants.{Send, Note, Begin, Deliver, Write, Saved, Fetch, Restored, WaitOver, Fail, Damage, Lose, Trip}
+use Rattle.protocol.specs.declared.Step.the-variants.{Send, Note, Begin, Deliver, Write, Saved, Fetch, Restored, Fail, Damage, Lose, Trip, Unsure}
 use Rattle.protocol.specs.declared.Decoded.{Decoded}
 use Rattle.protocol.specs.declared.Decoded.the-variants.{Malformed, Unused, Taken}
 use Rattle.protocol.specs.Moves.{broadcast, join, cutIfAll, takeCheckp, resumeWith, commit, adopt, recoverWith, recoverIfKnown, raise, enterError, hear, findLinkFault, emptiedTo, markFailed, trip, neighbours, enterErrorIf, alarmTo, endRecovery, noteAt, noteFor, noteLost}
 use Rattle.protocol.specs.Receive.{serving, takesFrom, receiveNormal, joinIf, receiveCheckp, resumesFrom, receiveResume, receiveRecover, receiveFault, receiveInvalid, receive}
-use Rattle.protocol.specs.Kinds.{need, orRefuse, sendRefusal, carried, sent, sendStep, noteRefusal, noteStep, beginStep, beginRefusal, deliverRefusal, delivered, deliverStep, writeRefusal, writePiece, oweIf, writeStep, savedRefusal, reportSaved, commitIfAll, savedStep, fetchRefusal, fetchPiece, fetchStep, restoredRefusal, reportRestored, endIfAll, restoredStep, waitOverRefusal, waitOverStep, failCrashes, failStep, hurtIf, hurt, damageRefusal, damageStep, loseRefusal, lost, loseStep, tripCrashes, tripOnce, tripStep}
-use Rattle.protocol.specs.Entry.{step, stepDecoded, perform, entryRefusal, decode, fieldsOf, aloneOf}
-use Rattle.claims.proofs.State.Fun.{cond-elim, and-true}
+use Rattle.protocol.specs.Kinds.{need, orRefuse, sendRefusal, carried, sent, sendStep, noteRefusal, noteStep, beginStep, beginRefusal, deliverRefusal, delivered, deliverStep, writeRefusal, writePiece, oweIf, writeStep, savedRefusal, reportSaved, commitIfAll, savedStep, fetchRefusal, fetchPiece, fetchStep, restoredRefusal, reportRestored, endIfAll, restoredStep, failCrashes, failStep, hurtIf, hurt, damageRefusal, damageStep, loseRefusal, lost, loseStep, tripCrashes, tripOnce, tripStep, unsureRefusal, reportUnsure, decideIfAll, unsureStep}
+use Rattle.protocol.specs.Entry.{step, stepDecoded, perform, entryRefusal, decode, fieldsOf, aloneOf, isKind}
+use Rattle.claims.proofs.State.Fun.{never, cond-elim, and-true}
 
 -- ---- lists: what holds of the element stored and of the old ones holds of each one after the store
 
@@ -94,6 +94,56 @@ fifth t u v w x e =
     let e3 = passed v 14 (need w 16 (need x 17 0)) e2 .1 in
     passed x 16 0 (passed w 15 (need x 17 0) e3 .1) .0
 
+-- ---- which steps are reports
+
+abbrev pub asksUnsure : Step → Bool
+asksUnsure (Send a b p q) = false
+asksUnsure (Note a p q) = false
+asksUnsure (Begin a) = false
+asksUnsure (Deliver a b) = false
+asksUnsure (Write a) = false
+asksUnsure (Saved a) = false
+asksUnsure (Fetch a) = false
+asksUnsure (Restored a) = false
+asksUnsure (Fail a) = false
+asksUnsure (Damage a b p q) = false
+asksUnsure (Lose a b p) = false
+asksUnsure (Trip a) = false
+asksUnsure (Unsure a) = true
+
+abbrev pub asksIn : Decoded → Bool
+asksIn Malformed = false
+asksIn Unused = false
+asksIn (Taken s) = asksUnsure s
+
+-- records of kind 14 alone
+abbrev Asks : Decoded → Type 0
+Asks d = asksIn d ≡ false
+
+alone-asks : (kind a : ℕ) → eqb kind 14 ≡ false → Asks (aloneOf kind a)
+alone-asks kind a e =
+    cond-elim Asks (eqb kind 3) (λ _. refl)
+    (λ _. cond-elim Asks (eqb kind 5) (λ _. refl)
+    (λ _. cond-elim Asks (eqb kind 6) (λ _. refl)
+    (λ _. cond-elim Asks (eqb kind 7) (λ _. refl)
+    (λ _. cond-elim Asks (eqb kind 8) (λ _. refl)
+    (λ _. cond-elim Asks (eqb kind 10) (λ _. refl)
+    (λ _. cond-elim Asks (eqb kind 13) (λ _. refl) (λ _. cond-elim Asks (eqb kind 14) (λ f. absurd (never f e)) (λ _. refl))))))))
+
+fields-ask : (kind a b p q : ℕ) → eqb kind 14 ≡ false → Asks (fieldsOf kind a b p q)
+fields-ask kind a b p q e =
+    cond-elim Asks (eqb kind 1) (λ _. refl)
+    (λ _. cond-elim Asks (eqb kind 2) (λ _. cond-elim Asks (eqb b 0) (λ _. refl) (λ _. refl))
+    (λ _. cond-elim Asks (eqb kind 4) (λ _. cond-elim Asks (eqb (p + q) 0) (λ _. refl) (λ _. refl))
+    (λ _. cond-elim Asks (eqb kind 11) (λ _. refl)
+    (λ _. cond-elim Asks (eqb kind 12) (λ _. cond-elim Asks (eqb q 0) (λ _. refl) (λ _. refl))
+    (λ _. cond-elim Asks (isKind kind)
+    (λ _. cond-elim Asks (eqb (b + p + q) 0) (λ _. alone-asks kind a e) (λ _. refl)) (λ _. refl))))))
+
+pub decode-asks : (r : List ℕ) → eqb (getD r 0 0) 14 ≡ false → asksIn (decode r) ≡ false
+decode-asks r e =
+    cond-elim Asks (eqb (length r) 6) (λ _. fields-ask (getD r 0 0) (getD r 1 0) (getD r 2 0) (getD r 3 0) (getD r 4 0 * 256 + getD r 5 0) e) (λ _. refl)
+
 -- ---- what a record of octets decodes to: the amount of a send and the pattern of damage have two octets
 
 abbrev pub Fits : Step → Type 0
@@ -105,11 +155,11 @@ Fits (Write a) = Unit {0}
 Fits (Saved a) = Unit {0}
 Fits (Fetch a) = Unit {0}
 Fits (Restored a) = Unit {0}
-Fits (WaitOver a) = Unit {0}
 Fits (Fail a) = Unit {0}
 Fits (Damage a b p q) = q < 65536
 Fits (Lose a b p) = Unit {0}
 Fits (Trip a) = Unit {0}
+Fits (Unsure a) = Unit {0}
 
 abbrev pub FitsIn : Decoded → Type 0
 FitsIn Malformed = Unit {0}
@@ -123,8 +173,8 @@ alone-fits kind a =
     (λ _. cond-elim FitsIn (eqb kind 6) (λ _. tt)
     (λ _. cond-elim FitsIn (eqb kind 7) (λ _. tt)
     (λ _. cond-elim FitsIn (eqb kind 8) (λ _. tt)
-    (λ _. cond-elim FitsIn (eqb kind 9) (λ _. tt)
-    (λ _. cond-elim FitsIn (eqb kind 10) (λ _. tt) (λ _. cond-elim FitsIn (eqb kind 13) (λ _. tt) (λ _. tt))))))))
+    (λ _. cond-elim FitsIn (eqb kind 10) (λ _. tt)
+    (λ _. cond-elim FitsIn (eqb kind 13) (λ _. tt) (λ _. cond-elim FitsIn (eqb kind 14) (λ _. tt) (λ _. tt))))))))
 
 fields-fit : (kind a b p q : ℕ) → q < 65536 → FitsIn (fieldsOf kind a b p q)
 fields-fit kind a b p q l =
@@ -133,7 +183,7 @@ fields-fit kind a b p q l =
     (λ _. cond-elim FitsIn (eqb kind 4) (λ _. cond-elim FitsIn (eqb (p + q) 0) (λ _. tt) (λ _. tt))
     (λ _. cond-elim FitsIn (eqb kind 11) (λ _. l)
     (λ _. cond-elim FitsIn (eqb kind 12) (λ _. cond-elim FitsIn (eqb q 0) (λ _. tt) (λ _. tt))
-    (λ _. cond-elim FitsIn (leb 1 kind && leb kind 13)
+    (λ _. cond-elim FitsIn (isKind kind)
     (λ _. cond-elim FitsIn (eqb (b + p + q) 0) (λ _. alone-fits kind a) (λ _. tt)) (λ _. tt))))))
 
 pub decode-fits : (r : List ℕ) → ((i : ℕ) → getD r i 0 < 256) → FitsIn (decode r)
@@ -163,6 +213,7 @@ pub record Closed (C : Cabinet → Type 0) (L : Line → Type 0) (I : Image → 
   pub recovering : (c : Cabinet) (v : Bool) → C c → C (recovering c v)
   pub fetched : (c : Cabinet) (m : Image) → I m → C c → C (fetched c m)
   pub restoredFor : (c : Cabinet) (j : ℕ) → C c → C (restoredFor c j)
+  pub unsureFor : (c : Cabinet) (j : ℕ) → C c → C (unsureFor c j)
   pub imaged : (c : Cabinet) → C c → I (c .image)
   pub pieced : (k : ℕ) (from to : Image) → I from → I to → I (withPiece k from to)
   pub noPackets : L emptyLine
@@ -564,6 +615,11 @@ module _ (C : Cabinet → Type 0) (L : Line → Type 0) (I : Image → Type 0) (
       cond-elim Ok (isIn (stateOf g i) Recovered && covers (cabinet g i .noted .restored) (cabinet g i .table .cabinets))
       (λ _. ok-endRecovery (noteLost g i) i (ok-noteLost g i h)) (λ _. h)
 
+  pub ok-decideIfAll : (g : Group) (i : ℕ) → Ok g → Ok (decideIfAll g i)
+  unfolding decideIfAll
+  ok-decideIfAll g i h =
+      cond-elim Ok (covers (cabinet g i .noted .unsure) (cabinet g i .table .cabinets)) (λ _. ok-recoverWith g i _ h) (λ _. h)
+
   pub ok-hurtIf : (t : Bool) (g : Group) (a b : ℕ) → Ok g → Ok (hurtIf t g a b)
   ok-hurtIf true g a b h = with-cabinet g b _ (k .hurtFrom _ a (h .cabs b)) h
   ok-hurtIf false g a b h = h
@@ -587,9 +643,9 @@ module _ (C : Cabinet → Type 0) (L : Line → Type 0) (I : Image → Type 0) (
     ok-restored =
         or-refuse (restoredRefusal g a) g _ (λ _. ok-endIfAll _ _ (with-cabinet g _ _ (k .restoredFor _ a (h .cabs _)) h)) h
 
-    pub ok-waitOver : OkOf (waitOverStep g a)
-    unfolding waitOverStep
-    ok-waitOver = or-refuse (waitOverRefusal g a) g _ (λ _. ok-recoverWith g a _ h) h
+    pub ok-unsure : OkOf (unsureStep g a)
+    unfolding unsureStep reportUnsure
+    ok-unsure = or-refuse (unsureRefusal g a) g _ (λ _. ok-decideIfAll _ _ (with-cabinet g _ _ (k .unsureFor _ a (h .cabs _)) h)) h
 
     pub ok-fail : OkOf (failStep g a)
     unfolding failStep
@@ -631,11 +687,11 @@ module _ (C : Cabinet → Type 0) (L : Line → Type 0) (I : Image → Type 0) (
   ok-perform g h (Saved a) f = ok-saved g h (a - 1)
   ok-perform g h (Fetch a) f = ok-fetch g h (a - 1)
   ok-perform g h (Restored a) f = ok-restored g h (a - 1)
-  ok-perform g h (WaitOver a) f = ok-waitOver g h (a - 1)
   ok-perform g h (Fail a) f = ok-fail g h (a - 1)
   ok-perform g h (Damage a b p q) f = ok-damage g h (a - 1) (b - 1) p q f
   ok-perform g h (Lose a b p) f = ok-lose g h (a - 1) (b - 1) p
   ok-perform g h (Trip a) f = ok-tripStep g h (a - 1)
+  ok-perform g h (Unsure a) f = ok-unsure g h (a - 1)
 
   pub ok-decoded : (g : Group) → Ok g → (d : Decoded) → FitsIn d → OkOf (stepDecoded g d)
   ok-decoded g h Malformed f = h

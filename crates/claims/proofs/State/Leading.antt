@@ -11,7 +11,7 @@ use Rattle.marks.specs.Marks.{Marks, marked, lowestFrom, lowest, both, above, n
 use Rattle.marks.specs.MarksLaws.{lowestFrom-passes, lowestFrom-least, marked-both}
 use Rattle.packet.specs.declared.Place.{Place}
 use Rattle.table.specs.Table.{isAt}
-use Rattle.claims.proofs.State.Fun.{never, and-intro}
+use Rattle.claims.proofs.State.Fun.{never, and-true, and-intro}
 
 abbrev lowestOf : (ℕ → Bool) → ℕ
 lowestOf f = lowestFrom f 8 0
@@ -128,3 +128,20 @@ module _ (f : ℕ → Bool) (x y : ℕ) (ly : y < 8) (other : y ≢ x) (fy : f y
           lowest-is without (lowestOf f) (omega (arith, lowest-most))
           (and-intro (lowestFrom-passes f 8 0 (omega (arith, lowest-most))) (ap not (ne-eqb (lowestOf f) x (λ q. omega arith))))
           (λ j l. ap (λ (b : Bool). b && not (eqb j x)) (lowestFrom-least f 8 0 refl j (omega arith) l))
+
+  -- the next one is in use, and is another
+  pub next-other : (nextOver f x < 8) × (f (nextOver f x) ≡ true) × (nextOver f x ≢ x)
+  unfolding nextOver
+  next-other = go (ltb up 8) refl
+    where
+      passes : up < 8 → (f up && ltb x up) ≡ true
+      passes = lowestFrom-passes (λ k. f k && ltb x k) 8 0
+
+      go : (t : Bool) → ltb up 8 ≡ t → (cond t up (lowestOf f) < 8) × (f (cond t up (lowestOf f)) ≡ true) × (cond t up (lowestOf f) ≢ x)
+      go true e =
+          let l = ltb-true up 8 e in
+          let p = and-true {s = f up} (passes l) in
+          (l, p .0, λ q. let m = ltb-true x up (p .1) in omega (arith, q))
+      go false e =
+          let under = lowest-under e in
+          (omega (arith, lowest-most), lowestFrom-passes f 8 0 (omega (arith, lowest-most)), λ q. omega (arith, q))

@@ -58,6 +58,7 @@ module _ (f : List ℕ) (o : (i : ℕ) → getD f i 0 < 256) where
         saved = refl;
         restored = refl;
         heard = refl;
+        unsure = refl;
         sent = refl;
         taken = refl;
         hurt = refl;

@@ -22,7 +22,7 @@ use Rattle.cabinet.specs.declared.Cabinet.{Cabinet}
 use Rattle.registers.specs.Registers.{restartIf, restartTo, startRegisters}
 use Rattle.table.specs.declared.Table.{Table}
 use Rattle.table.specs.Table.{isAt, struckAt, ledOnIf}
-use Rattle.cabinet.specs.Cabinet.{inUse, sending, taking, hurtFrom, beginning, comparing, owing, savedFor, resuming, alarmed, hearing, restoredFor, fetched, withImage, withPieces, withRegisters, withState}
+use Rattle.cabinet.specs.Cabinet.{inUse, sending, taking, hurtFrom, beginning, comparing, owing, savedFor, resuming, alarmed, hearing, restoredFor, unsureFor, fetched, withImage, withPieces, withRegisters, withState}
 use Rattle.image.specs.declared.Image.{Image}
 use Rattle.state.specs.declared.State.the-variants.{Recovered}
 use Rattle.protocol.specs.History.{upd}
@@ -36,23 +36,23 @@ use Rattle.claims.proofs.State.Sim.{in-use, past-use}
 -- ---- parts of a side replaced
 
 abbrev pub sTable : Side → Bool → Bool → Side
-sTable s c l = record { cab = c; link = l; come = s .come; saved = s .saved; restored = s .restored; heard = s .heard; owed = s .owed; hurt = s .hurt; put = s .put; took = s .took }
+sTable s c l = record { cab = c; link = l; come = s .come; saved = s .saved; restored = s .restored; heard = s .heard; unsure = s .unsure; owed = s .owed; hurt = s .hurt; put = s .put; took = s .took }
 
-abbrev pub sMarks : Side → Bool → Bool → Bool → Bool → Side
-sMarks s c v r h = record { cab = s .cab; link = s .link; come = c; saved = v; restored = r; heard = h; owed = s .owed; hurt = s .hurt; put = s .put; took = s .took }
+abbrev pub sMarks : Side → Bool → Bool → Bool → Bool → Bool → Side
+sMarks s c v r h u = record { cab = s .cab; link = s .link; come = c; saved = v; restored = r; heard = h; unsure = u; owed = s .owed; hurt = s .hurt; put = s .put; took = s .took }
 
 abbrev pub sOwed : Side → Bool → Side
-sOwed s o = record { cab = s .cab; link = s .link; come = s .come; saved = s .saved; restored = s .restored; heard = s .heard; owed = o; hurt = s .hurt; put = s .put; took = s .took }
+sOwed s o = record { cab = s .cab; link = s .link; come = s .come; saved = s .saved; restored = s .restored; heard = s .heard; unsure = s .unsure; owed = o; hurt = s .hurt; put = s .put; took = s .took }
 
 abbrev pub sRegisters : Side → Check → Check → Bool → Side
-sRegisters s p t u = record { cab = s .cab; link = s .link; come = s .come; saved = s .saved; restored = s .restored; heard = s .heard; owed = s .owed; hurt = u; put = p; took = t }
+sRegisters s p t u = record { cab = s .cab; link = s .link; come = s .come; saved = s .saved; restored = s .restored; heard = s .heard; unsure = s .unsure; owed = s .owed; hurt = u; put = p; took = t }
 
 abbrev pub sCleared : Side → Side
-sCleared s = sMarks s false false false false
+sCleared s = sMarks s false false false false false
 
 -- the checkp has come, and the receiver's register starts anew
 abbrev pub sCompared : Side → Side
-sCompared s = sRegisters (sMarks s true (s .saved) (s .restored) (s .heard)) (s .put) startCheck false
+sCompared s = sRegisters (sMarks s true (s .saved) (s .restored) (s .heard) (s .unsure)) (s .put) startCheck false
 
 -- ---- at one other cabinet
 
@@ -93,17 +93,21 @@ module _ (c : Cabinet) (w : Shaped c) (j : ℕ) (l : j < 8) where
   side-owing o =
       one-place (sideOf (owing c j o)) _ (rw (getD-set-same (c .owed) j o false (omega (arith, w .owed)))) (λ b n. rw (getD-set-other (c .owed) j b o false n))
 
-  pub side-saved : sideOf (savedFor c j) ≡ upd (sideOf c) j (sMarks (sideOf c j) (sideOf c j .come) true (sideOf c j .restored) (sideOf c j .heard))
+  pub side-saved : sideOf (savedFor c j) ≡ upd (sideOf c) j (sMarks (sideOf c j) (sideOf c j .come) true (sideOf c j .restored) (sideOf c j .heard) (sideOf c j .unsure))
   side-saved =
       one-place (sideOf (savedFor c j)) _ (rw (getD-set-same (c .noted .saved) j true false (omega (arith, w .saved)))) (λ b n. rw (getD-set-other (c .noted .saved) j b true false n))
 
-  pub side-hearing : sideOf (hearing c j) ≡ upd (sideOf c) j (sMarks (sideOf c j) (sideOf c j .come) (sideOf c j .saved) (sideOf c j .restored) true)
+  pub side-hearing : sideOf (hearing c j) ≡ upd (sideOf c) j (sMarks (sideOf c j) (sideOf c j .come) (sideOf c j .saved) (sideOf c j .restored) true (sideOf c j .unsure))
   side-hearing =
       one-place (sideOf (hearing c j)) _ (rw (getD-set-same (c .noted .heard) j true false (omega (arith, w .heard)))) (λ b n. rw (getD-set-other (c .noted .heard) j b true false n))
 
-  pub side-restored : sideOf (restoredFor c j) ≡ upd (sideOf c) j (sMarks (sideOf c j) (sideOf c j .come) (sideOf c j .saved) true (sideOf c j .heard))
+  pub side-restored : sideOf (restoredFor c j) ≡ upd (sideOf c) j (sMarks (sideOf c j) (sideOf c j .come) (sideOf c j .saved) true (sideOf c j .heard) (sideOf c j .unsure))
   side-restored =
       one-place (sideOf (restoredFor c j)) _ (rw (getD-set-same (c .noted .restored) j true false (omega (arith, w .restored)))) (λ b n. rw (getD-set-other (c .noted .restored) j b true false n))
+
+  pub side-unsure : sideOf (unsureFor c j) ≡ upd (sideOf c) j (sMarks (sideOf c j) (sideOf c j .come) (sideOf c j .saved) (sideOf c j .restored) (sideOf c j .heard) true)
+  side-unsure =
+      one-place (sideOf (unsureFor c j)) _ (rw (getD-set-same (c .noted .unsure) j true false (omega (arith, w .unsure)))) (λ b n. rw (getD-set-other (c .noted .unsure) j b true false n))
 
 -- ---- at every other cabinet
 

@@ -63,6 +63,7 @@ pub record Shaped (c : Cabinet) : Type 0 where
   pub saved : length (c .noted .saved) ≡ 8
   pub restored : length (c .noted .restored) ≡ 8
   pub heard : length (c .noted .heard) ≡ 8
+  pub unsure : length (c .noted .unsure) ≡ 8
   pub sent : length (c .registers .sent) ≡ 8
   pub taken : length (c .registers .taken) ≡ 8
   pub hurt : length (c .registers .hurt) ≡ 8
@@ -290,6 +291,7 @@ shaped = record {
     saved = refl;
     restored = refl;
     heard = refl;
+    unsure = refl;
     sent = refl;
     taken = refl;
     hurt = refl;
@@ -314,6 +316,7 @@ shaped = record {
   recovering = λ c v h. search;
   fetched = shaped-fetched;
   restoredFor = λ c j h. search length-set;
+  unsureFor = λ c j h. search length-set;
   imaged = λ c h. h .image;
   pieced = λ k from to f t. pictured-piece 8 k from to f t;
   noPackets = nothing-lined;

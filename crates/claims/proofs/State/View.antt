@@ -38,6 +38,7 @@ pub record Side : Type 0 where
   pub saved : Bool
   pub restored : Bool
   pub heard : Bool
+  pub unsure : Bool
   pub owed : Bool
   pub hurt : Bool
   pub put : Check
@@ -64,6 +65,7 @@ sideOf c j = record {
   saved = marked (c .noted .saved) j;
   restored = marked (c .noted .restored) j;
   heard = marked (c .noted .heard) j;
+  unsure = marked (c .noted .unsure) j;
   owed = marked (c .owed) j;
   hurt = marked (c .registers .hurt) j;
   put = getD (c .registers .sent) j startCheck;

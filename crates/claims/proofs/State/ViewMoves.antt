@@ -33,7 +33,7 @@ use Rattle.image.specs.declared.Image.{Image}
 use Rattle.cabinet.specs.declared.Cabinet.{Cabinet}
 use Rattle.image.specs.Image.{blankImage, charged, credited}
 use Rattle.table.specs.Table.{isAt}
-use Rattle.cabinet.specs.Cabinet.{inUse, sending, taking, hurtFrom, beginning, comparing, owing, savedFor, resuming, alarmed, blanked, recovering, restoredFor, withState, withVersion}
+use Rattle.cabinet.specs.Cabinet.{inUse, sending, taking, hurtFrom, beginning, comparing, owing, savedFor, resuming, alarmed, blanked, recovering, restoredFor, unsureFor, withState, withVersion}
 use Rattle.group.specs.declared.Group.{Group}
 use Rattle.outgoing.specs.Lines.{putAll, putCheckps, checkps, emptyLines, lineTo}
 use Rattle.group.specs.Group.{cabinet, withCabinets, withCabinet, outgoing, withOutgoing, line, withLine, slot, rowsOf, withTripsOf, forgetTrips}
@@ -47,7 +47,7 @@ use Rattle.claims.proofs.State.Cells.{content-oldest}
 use Rattle.claims.proofs.State.Shape.{Shaped, Lined, Pictured, shaped}
 use Rattle.claims.proofs.State.Sim.{Fit, cabinet-same, contents, put-content, view-line, view-cabinet, view-outgoing, in-use, past-use, row-content}
 use Rattle.claims.proofs.State.Leading.{leadOver}
-use Rattle.claims.proofs.State.Methods.{sMarks, sOwed, sRegisters, sCleared, sCompared, sBegun, sAlarmed, side-hurt, side-sending, side-taking, side-comparing, side-owing, side-saved, side-hearing, side-restored, side-beginning, side-resuming, side-alarmed, lead-alarmed}
+use Rattle.claims.proofs.State.Methods.{sMarks, sOwed, sRegisters, sCleared, sCompared, sBegun, sAlarmed, side-hurt, side-sending, side-taking, side-comparing, side-owing, side-saved, side-hearing, side-restored, side-unsure, side-beginning, side-resuming, side-alarmed, lead-alarmed}
 
 -- ---- the counts of trips are no part of the view
 
@@ -98,7 +98,7 @@ module _ (g : Group) (w : Fit g) (i : ℕ) (l : i < 8) (room : Room (view g) i) 
 abbrev pub vHear : View → ℕ → ℕ → View
 vHear v a b =
     let s = v .side b a in
-    setCabinet v b (v .own b) (upd (v .side b) a (sMarks s (s .come) (s .saved) (s .restored) true))
+    setCabinet v b (v .own b) (upd (v .side b) a (sMarks s (s .come) (s .saved) (s .restored) true (s .unsure)))
 
 pub sim-hear : (g : Group) → Fit g → (a b : ℕ) → a < 8 → b < 8 → view (hear g a b) ≡ vHear (view g) a b
 unfolding hear
@@ -124,7 +124,7 @@ sim-owe g w h a o lh la =
 abbrev pub vSaved : View → ℕ → ℕ → View
 vSaved v k a =
     let s = v .side k a in
-    setCabinet v k (v .own k) (upd (v .side k) a (sMarks s (s .come) true (s .restored) (s .heard)))
+    setCabinet v k (v .own k) (upd (v .side k) a (sMarks s (s .come) true (s .restored) (s .heard) (s .unsure)))
 
 pub sim-saved : (g : Group) → Fit g → (k a : ℕ) → k < 8 → a < 8 → view (withCabinet g k (savedFor (cabinet g k) a)) ≡ vSaved (view g) k a
 sim-saved g w k a lk la =
@@ -133,11 +133,20 @@ sim-saved g w k a lk la =
 abbrev pub vRestored : View → ℕ → ℕ → View
 vRestored v k a =
     let s = v .side k a in
-    setCabinet v k (v .own k) (upd (v .side k) a (sMarks s (s .come) (s .saved) true (s .heard)))
+    setCabinet v k (v .own k) (upd (v .side k) a (sMarks s (s .come) (s .saved) true (s .heard) (s .unsure)))
 
 pub sim-restored : (g : Group) → Fit g → (k a : ℕ) → k < 8 → a < 8 → view (withCabinet g k (restoredFor (cabinet g k) a)) ≡ vRestored (view g) k a
 sim-restored g w k a lk la =
     view-cabinet g (w .frame) k _ lk ∙ ap (setCabinet (view g) k (view g .own k)) (side-restored (cabinet g k) (w .cabs k) a la)
+
+abbrev pub vUnsure : View → ℕ → ℕ → View
+vUnsure v k a =
+    let s = v .side k a in
+    setCabinet v k (v .own k) (upd (v .side k) a (sMarks s (s .come) (s .saved) (s .restored) (s .heard) true))
+
+pub sim-unsure : (g : Group) → Fit g → (k a : ℕ) → k < 8 → a < 8 → view (withCabinet g k (unsureFor (cabinet g k) a)) ≡ vUnsure (view g) k a
+sim-unsure g w k a lk la =
+    view-cabinet g (w .frame) k _ lk ∙ ap (setCabinet (view g) k (view g .own k)) (side-unsure (cabinet g k) (w .cabs k) a la)
 
 abbrev pub oImage : Own → Image → Own
 oImage o m = record { state = o .state; version = o .version; alarm = o .alarm; pieces = o .pieces; image = m; home = o .home; store = o .store; lead = o .lead; former = o .former }

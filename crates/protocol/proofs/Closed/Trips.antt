@@ -5,11 +5,11 @@ use Rattle.crc.specs.Crc.{crcBit, crcBits, crcOctet, crcFrom}
 use Rattle.marks.specs.Marks.{lowest, covers, both, nextUp}
 use Rattle.marks.specs.Reach.{struck, connected}
 use Rattle.outgoing.specs.Lines.{emptyLines, lineTo, withLineTo, putAll, putCheckps}
-use Rattle.group.specs.Group.{cabinet, withCabinet, outgoing, withOutgoing, line, withLine, blankSlots, slot, withSlots, withSlot, rowsOf, ofRows, withSound, some, working, recoveringOnes, unsure, tripsOf, withTripsOf, forgetTrips, isCrashed, crashAll, sum}
+use Rattle.group.specs.Group.{cabinet, withCabinet, outgoing, withOutgoing, line, withLine, blankSlots, slot, withSlots, withSlot, rowsOf, ofRows, withSound, some, working, recoveringOnes, tripsOf, withTripsOf, forgetTrips, isCrashed, crashAll, sum}
 use Rattle.load.specs.Load.{load}
 use Rattle.protocol.specs.Moves.{broadcast, join, cutIfAll, takeCheckp, resumeWith, commit, adopt, recoverWith, raise, enterError, hear, findLinkFault, markFailed, trip, alarmTo, endRecovery, noteLost}
 use Rattle.protocol.specs.Receive.{receiveNormal, receiveCheckp, receiveResume, receiveRecover, receiveFault, receiveInvalid}
-use Rattle.protocol.specs.Kinds.{sent, sendStep, noteStep, beginStep, delivered, deliverStep, writePiece, writeStep, reportSaved, commitIfAll, savedStep, fetchPiece, fetchStep, reportRestored, endIfAll, restoredStep, waitOverStep, failStep, hurt, damageStep, lost, loseStep, tripOnce, tripStep}
+use Rattle.protocol.specs.Kinds.{sent, sendStep, noteStep, beginStep, delivered, deliverStep, writePiece, writeStep, reportSaved, commitIfAll, savedStep, fetchPiece, fetchStep, reportRestored, endIfAll, restoredStep, failStep, hurt, damageStep, lost, loseStep, tripOnce, tripStep, reportUnsure, decideIfAll, unsureStep}
 use Rattle.protocol.specs.Entry.{step, stepAll, answersFrom}
 use Rattle.protocol.specs.Listing.{parts, runLines, listing}
 use Rattle.protocol.specs.Evening.{operate}
@@ -17,22 +17,22 @@ use Rattle.protocol.specs.History.{upd, logged, advance}
 use Rattle.protocol.specs.Marked.{Case, found as foundIn}
 use Rattle.protocol.specs.Examples.{walk, found}
 use Rattle.protocol.specs.Tempting.{answered, AsWritten}
-use Rattle.protocol.specs.Trips.{comes-back, comes-back-finds, trip-passed-over, trip-passed-over-finds, trip-after-resume, trip-after-resume-finds, third-trip-fails, third-trip-fails-finds, lead-moves-on, lead-moves-on-finds, middle-trips, middle-trips-finds, trips-while-saving, trips-while-saving-finds, RoundAgain, waits, leads, counts, tripCases}
+use Rattle.protocol.specs.Trips.{comes-back, comes-back-finds, trip-passed-over, trip-passed-over-finds, third-trip-fails, third-trip-fails-finds, lead-moves-on, lead-moves-on-finds, middle-trips, middle-trips-finds, trips-while-saving, trips-while-saving-finds, RoundAgain, leads, counts, tripCases}
 
-pub trips-found : (found comes-back ≡ comes-back-finds) × (found trip-passed-over ≡ trip-passed-over-finds) × (found trip-after-resume ≡ trip-after-resume-finds)
+pub trips-found : (found comes-back ≡ comes-back-finds) × (found trip-passed-over ≡ trip-passed-over-finds)
     × (found third-trip-fails ≡ third-trip-fails-finds) × (found lead-moves-on ≡ lead-moves-on-finds) × (found middle-trips ≡ middle-trips-finds)
     × (found trips-while-saving ≡ trips-while-saving-finds)
-unfolding crcBit crcBits crcOctet crcFrom lowest covers both nextUp struck connected emptyLines lineTo withLineTo putAll putCheckps cabinet withCabinet outgoing withOutgoing line withLine blankSlots slot withSlots withSlot rowsOf ofRows withSound some working recoveringOnes unsure tripsOf withTripsOf forgetTrips isCrashed sum load broadcast join cutIfAll takeCheckp resumeWith commit adopt recoverWith raise enterError hear markFailed trip alarmTo endRecovery noteLost receiveNormal receiveCheckp receiveResume receiveRecover receiveFault sent sendStep noteStep beginStep delivered deliverStep writePiece writeStep reportSaved commitIfAll savedStep fetchPiece fetchStep reportRestored endIfAll restoredStep waitOverStep failStep tripOnce tripStep step operate upd logged advance walk found
-trips-found = (refl, refl, refl, refl, refl, refl, refl)
+unfolding crcBit crcBits crcOctet crcFrom lowest covers both nextUp struck connected emptyLines lineTo withLineTo putAll putCheckps cabinet withCabinet outgoing withOutgoing line withLine blankSlots slot withSlots withSlot rowsOf ofRows withSound some working recoveringOnes tripsOf withTripsOf forgetTrips isCrashed sum load broadcast join cutIfAll takeCheckp resumeWith commit adopt recoverWith raise enterError hear markFailed trip alarmTo endRecovery noteLost receiveNormal receiveCheckp receiveResume receiveRecover receiveFault sent sendStep noteStep beginStep delivered deliverStep writePiece writeStep reportSaved commitIfAll savedStep fetchPiece fetchStep reportRestored endIfAll restoredStep failStep tripOnce tripStep reportUnsure decideIfAll unsureStep step operate upd logged advance walk found
+trips-found = (refl, refl, refl, refl, refl, refl)
 
 pub round-again : RoundAgain
 unfolding lowest both nextUp
 round-again = (refl, refl, refl)
 
-pub runs-answered : AsWritten waits × AsWritten leads × AsWritten counts
-unfolding crcBit crcBits crcOctet crcFrom lowest covers both nextUp struck connected emptyLines lineTo withLineTo putAll putCheckps cabinet withCabinet outgoing withOutgoing line withLine blankSlots slot withSlots withSlot rowsOf ofRows withSound some working recoveringOnes unsure tripsOf withTripsOf forgetTrips isCrashed crashAll sum load broadcast join cutIfAll takeCheckp resumeWith commit adopt recoverWith raise enterError hear markFailed trip alarmTo endRecovery noteLost receiveNormal receiveCheckp receiveResume receiveRecover receiveFault sent sendStep noteStep beginStep delivered deliverStep writePiece writeStep reportSaved commitIfAll savedStep fetchPiece fetchStep reportRestored endIfAll restoredStep waitOverStep failStep tripOnce tripStep step answersFrom answered
-runs-answered = (refl, refl, refl)
+pub runs-answered : AsWritten leads × AsWritten counts
+unfolding crcBit crcBits crcOctet crcFrom lowest covers both nextUp struck connected emptyLines lineTo withLineTo putAll putCheckps cabinet withCabinet outgoing withOutgoing line withLine blankSlots slot withSlots withSlot rowsOf ofRows withSound some working recoveringOnes tripsOf withTripsOf forgetTrips isCrashed crashAll sum load broadcast join cutIfAll takeCheckp resumeWith commit adopt recoverWith raise enterError hear markFailed trip alarmTo endRecovery noteLost receiveNormal receiveCheckp receiveResume receiveRecover receiveFault sent sendStep noteStep beginStep delivered deliverStep writePiece writeStep reportSaved commitIfAll savedStep fetchPiece fetchStep reportRestored endIfAll restoredStep failStep tripOnce tripStep reportUnsure decideIfAll unsureStep step answersFrom answered
+runs-answered = (refl, refl)
 
 pub trip-cases : map (λ (c : Case). foundIn (c .asked)) tripCases ≡ map (λ (c : Case). c .expected) tripCases
-unfolding crcBit crcBits crcOctet crcFrom lowest covers both nextUp struck connected emptyLines lineTo withLineTo putAll putCheckps cabinet withCabinet outgoing withOutgoing line withLine blankSlots slot withSlots withSlot rowsOf ofRows withSound some working recoveringOnes unsure tripsOf withTripsOf forgetTrips isCrashed crashAll sum load broadcast join cutIfAll takeCheckp resumeWith commit adopt recoverWith raise enterError hear findLinkFault markFailed trip alarmTo endRecovery noteLost receiveNormal receiveCheckp receiveResume receiveRecover receiveFault receiveInvalid sent sendStep noteStep beginStep delivered deliverStep writePiece writeStep reportSaved commitIfAll savedStep fetchPiece fetchStep reportRestored endIfAll restoredStep waitOverStep failStep hurt damageStep lost loseStep tripOnce tripStep step stepAll answersFrom parts runLines listing foundIn
+unfolding crcBit crcBits crcOctet crcFrom lowest covers both nextUp struck connected emptyLines lineTo withLineTo putAll putCheckps cabinet withCabinet outgoing withOutgoing line withLine blankSlots slot withSlots withSlot rowsOf ofRows withSound some working recoveringOnes tripsOf withTripsOf forgetTrips isCrashed crashAll sum load broadcast join cutIfAll takeCheckp resumeWith commit adopt recoverWith raise enterError hear findLinkFault markFailed trip alarmTo endRecovery noteLost receiveNormal receiveCheckp receiveResume receiveRecover receiveFault receiveInvalid sent sendStep noteStep beginStep delivered deliverStep writePiece writeStep reportSaved commitIfAll savedStep fetchPiece fetchStep reportRestored endIfAll restoredStep failStep hurt damageStep lost loseStep tripOnce tripStep reportUnsure decideIfAll unsureStep step stepAll answersFrom parts runLines listing foundIn
 trip-cases = refl

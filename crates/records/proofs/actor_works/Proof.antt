@@ -32,10 +32,10 @@ returns-9 : tie.Need-returns-9
 returns-9 c = λ g e f. e ∙ rw (c .enum-told9 .given .1)
 
 returns-10 : tie.Need-returns-10
-returns-10 c = λ g e f. e ∙ rw (c .enum-told10 .given .1)
+returns-10 c = λ g e f. rw (c .enum-told10 .given .1)
 
 returns-11 : tie.Need-returns-11
-returns-11 c = λ g e f. rw (c .enum-told11 .given .1)
+returns-11 c = λ g e f. e ∙ rw (c .enum-told11 .given .1)
 
 returns-12 : tie.Need-returns-12
 returns-12 c = λ g e f. e ∙ rw (c .enum-told12 .given .1)

@@ -15,4 +15,4 @@ alone-of-spec = tie.close (tie.spec
     (λ c. rw (c .match .keys8))
     (λ c.
     let r = c .match .rest in
-    rw (ne-eqb _ 3 (r .0 .0 .0 .0 .0 .0 .0 .1), ne-eqb _ 5 (r .0 .0 .0 .0 .0 .0 .1), ne-eqb _ 6 (r .0 .0 .0 .0 .0 .1), ne-eqb _ 7 (r .0 .0 .0 .0 .1), ne-eqb _ 8 (r .0 .0 .0 .1), ne-eqb _ 9 (r .0 .0 .1), ne-eqb _ 10 (r .0 .1), ne-eqb _ 13 (r .1))))
+    rw (ne-eqb _ 3 (r .0 .0 .0 .0 .0 .0 .0 .1), ne-eqb _ 5 (r .0 .0 .0 .0 .0 .0 .1), ne-eqb _ 6 (r .0 .0 .0 .0 .0 .1), ne-eqb _ 7 (r .0 .0 .0 .0 .1), ne-eqb _ 8 (r .0 .0 .0 .1), ne-eqb _ 10 (r .0 .0 .1), ne-eqb _ 13 (r .0 .1), ne-eqb _ 14 (r .1))))
