@@ -54,7 +54,7 @@ use Rattle.claims.proofs.Claims.Demand.{Runs, open-step, stopped, same-
 abbrev pub SameSave : Save → Save → Type 0
 SameSave x y = (x .by ≡ y .by) × (x .cut ≡ y .cut)
 
-pub same-save : (x y z : Save) → SameSave x y → SameSave y z → SameSave x z
+same-save : (x y z : Save) → SameSave x y → SameSave y z → SameSave x z
 same-save x y z p q = (p .0 ∙ q .0, p .1 ∙ q .1)
 
 known-same : (t : Bool) (h : History) → SameSave (latest (noteKnown t h)) (latest h)
@@ -83,48 +83,6 @@ end-same : (t : Bool) (h : History) (g : Group) → SameSave (latest (noteEnd t 
 end-same true h g = (refl, refl)
 end-same false h g = (refl, refl)
 
--- a step in which no cabinet fails or trips, where nobody saves
-module _ (h : History) (g g′ : Group) (unsaving : (c : ℕ) → inSaving (stateOf g c) ≡ false) where
-  abbrev NoLoss : Step → Type 0
-  NoLoss (Send a b p q) = Unit {0}
-  NoLoss (Note a p q) = Unit {0}
-  NoLoss (Begin a) = Unit {0}
-  NoLoss (Deliver a b) = Unit {0}
-  NoLoss (Write a) = Unit {0}
-  NoLoss (Saved a) = Unit {0}
-  NoLoss (Fetch a) = Unit {0}
-  NoLoss (RestoredStep a) = Unit {0}
-  NoLoss (Fail a) = ⊥
-  NoLoss (Damage a b p q) = Unit {0}
-  NoLoss (Lose a b p) = Unit {0}
-  NoLoss (Trip a) = ⊥
-  NoLoss (Unsure a) = Unit {0}
-
-  commit-same : (k : ℕ) → SameSave (latest (noteCommit (commits g g′ k) h k)) (latest h)
-  commit-same k = subst (λ (t : Bool). SameSave (latest (noteCommit t h k)) (latest h)) (sym off) (refl, refl)
-    where
-      off : commits g g′ k ≡ false
-      off = is-false _ (λ e. never (and-true {s = inSaving (stateOf g k)} e .0) (unsaving k))
-
-  observed-same : (s : Step) → NoLoss s → SameSave (latest (observe h g g′ s)) (latest h)
-  observed-same (Send a b p q) n = (refl, refl)
-  observed-same (Note a p q) n = (refl, refl)
-  observed-same (Begin a) n = (refl, refl)
-  observed-same (Deliver a b) n =
-      let t = marked (inUse (cabinet g (b - 1))) (a - 1) && takesFrom (cabinet g (b - 1)) (a - 1) in
-      let p = oldest (line g (a - 1) (b - 1)) in
-      let k = noteTaken t h (a - 1) (b - 1) p in
-      same-save (latest (observe h g g′ (Deliver a b))) (latest k) (latest h) (known-same (goes g g′ (b - 1) Checkpointed Normal) k) (taken-same t h (a - 1) (b - 1) p)
-  observed-same (Write a) n = (refl, refl)
-  observed-same (Saved a) n = commit-same (coordinator (cabinet g (cabinet g (a - 1) .home)))
-  observed-same (Fetch a) n = known-same (goes g g′ (a - 1) Recovering Recovered) h
-  observed-same (RestoredStep a) n = end-same (ends g g′ (a - 1)) h g′
-  observed-same (Fail a) n = absurd n
-  observed-same (Damage a b p q) n = damage-same (isNormal (packetAt (line g (a - 1) (b - 1)) p)) h (a - 1) (b - 1)
-  observed-same (Lose a b p) n = (refl, refl)
-  observed-same (Trip a) n = absurd n
-  observed-same (Unsure a) n = (refl, refl)
-
 -- ---- a fail or a trip in a recovery crashes the group
 
 module _ (g : Group) (recovers : any (recoveringOnes g) ≡ true) where
@@ -144,21 +102,32 @@ module _ (g : Group) (recovers : any (recoveringOnes g) ≡ true) where
   refused-or : (k : ℕ) (o : Outcome) → (o .answer ≡ 0 → ⊥) → orRefuse k g o .answer ≡ 0 → ⊥
   refused-or k o f = cond-elim (λ (x : Outcome). x .answer ≡ 0 → ⊥) (eqb k 0) (λ _. f) (λ e a. eqb-false k 0 e a)
 
-  no-loss : (h : History) (g′ : Group) (unsaving : (c : ℕ) → inSaving (stateOf g c) ≡ false) (s : Step)
-      → orRefuse (entryRefusal g s) g (perform g s) .answer ≡ 0 → NoLoss h g g′ unsaving s
-  no-loss h g′ u (Send a b p q) e = tt
-  no-loss h g′ u (Note a p q) e = tt
-  no-loss h g′ u (Begin a) e = tt
-  no-loss h g′ u (Deliver a b) e = tt
-  no-loss h g′ u (Write a) e = tt
-  no-loss h g′ u (Saved a) e = tt
-  no-loss h g′ u (Fetch a) e = tt
-  no-loss h g′ u (RestoredStep a) e = tt
-  no-loss h g′ u (Fail a) e = refused-or (entryRefusal g (Fail a)) (failStep g (a - 1)) (fail-fifty (a - 1)) e
-  no-loss h g′ u (Damage a b p q) e = tt
-  no-loss h g′ u (Lose a b p) e = tt
-  no-loss h g′ u (Trip a) e = refused-or (entryRefusal g (Trip a)) (tripStep g (a - 1)) (trip-fifty (a - 1)) e
-  no-loss h g′ u (Unsure a) e = tt
+  -- so a step that is taken then, while nobody saves, leaves the save that the rule gives
+  module _ (h : History) (g′ : Group) (unsaving : (c : ℕ) → inSaving (stateOf g c) ≡ false) where
+    commit-same : (k : ℕ) → SameSave (latest (noteCommit (commits g g′ k) h k)) (latest h)
+    commit-same k = subst (λ (t : Bool). SameSave (latest (noteCommit t h k)) (latest h)) (sym off) (refl, refl)
+      where
+        off : commits g g′ k ≡ false
+        off = is-false _ (λ e. never (and-true {s = inSaving (stateOf g k)} e .0) (unsaving k))
+
+    observed-same : (s : Step) → orRefuse (entryRefusal g s) g (perform g s) .answer ≡ 0 → SameSave (latest (observe h g g′ s)) (latest h)
+    observed-same (Send a b p q) e = (refl, refl)
+    observed-same (Note a p q) e = (refl, refl)
+    observed-same (Begin a) e = (refl, refl)
+    observed-same (Deliver a b) e =
+        let t = marked (inUse (cabinet g (b - 1))) (a - 1) && takesFrom (cabinet g (b - 1)) (a - 1) in
+        let p = oldest (line g (a - 1) (b - 1)) in
+        let k = noteTaken t h (a - 1) (b - 1) p in
+        same-save (latest (observe h g g′ (Deliver a b))) (latest k) (latest h) (known-same (goes g g′ (b - 1) Checkpointed Normal) k) (taken-same t h (a - 1) (b - 1) p)
+    observed-same (Write a) e = (refl, refl)
+    observed-same (Saved a) e = commit-same (coordinator (cabinet g (cabinet g (a - 1) .home)))
+    observed-same (Fetch a) e = known-same (goes g g′ (a - 1) Recovering Recovered) h
+    observed-same (RestoredStep a) e = end-same (ends g g′ (a - 1)) h g′
+    observed-same (Fail a) e = absurd (refused-or (entryRefusal g (Fail a)) (failStep g (a - 1)) (fail-fifty (a - 1)) e)
+    observed-same (Damage a b p q) e = damage-same (isNormal (packetAt (line g (a - 1) (b - 1)) p)) h (a - 1) (b - 1)
+    observed-same (Lose a b p) e = (refl, refl)
+    observed-same (Trip a) e = absurd (refused-or (entryRefusal g (Trip a)) (tripStep g (a - 1)) (trip-fifty (a - 1)) e)
+    observed-same (Unsure a) e = (refl, refl)
 
 -- ---- who was there when it began, with the places that they had, and the save
 
@@ -186,7 +155,7 @@ module _ {f : Since} where
   }
 
   module _ {g : Group} {h : History} (d : During f g h) where
-    pub is-there : (c : ℕ) → works (stateOf g c) ≡ true → f .there c ≡ true
+    is-there : (c : ℕ) → works (stateOf g c) ≡ true → f .there c ≡ true
     is-there c w = go (f .there c) refl
       where
         go : (t : Bool) → f .there c ≡ t → t ≡ true
@@ -215,13 +184,12 @@ module _ {f : Since} where
         go Unused e = (refl, refl)
         go (Taken t) e =
             cond-elim (λ (y : History). SameSave (latest y) (latest h)) (eqb (step g r .answer) 0)
-            (λ _. observed-same h g (step g r .group) unsaving t
-            (no-loss g recovers h (step g r .group) unsaving t (ap (λ (x : Outcome). x .answer) (sym e) ∙ a)))
+            (λ _. observed-same g recovers h (step g r .group) unsaving t (ap (λ (x : Outcome). x .answer) (sym e) ∙ a))
             (λ _. (refl, refl))
 
 -- ---- where a recovery ends
 
-pub ends-none : (n : ℕ) (g g′ : Group) → ((j : ℕ) → works (stateOf g j) ≡ true → ends g g′ j ≡ true → ⊥) → endsBelow n g g′ ≡ false
+ends-none : (n : ℕ) (g g′ : Group) → ((j : ℕ) → works (stateOf g j) ≡ true → ends g g′ j ≡ true → ⊥) → endsBelow n g g′ ≡ false
 unfolding endsBelow
 ends-none zero g g′ f = refl
 ends-none (suc j) g g′ f =
@@ -331,7 +299,7 @@ module _ (f : Since) where
             let c = some-one d in
             never (recovering d (c .0) (c .2)) (nobody (f .total) g h (d .runs .ghost) (d .runs .fit) (d .runs .inv) (d .runs .past) (three .0) (c .0))
 
-    pub one-after : (x : Operation) → OctetsIn x → After w x
+    one-after : (x : Operation) → OctetsIn x → After w x
     one-after (stepping r) o = stepped r o
     one-after (pointing name) o = pointed name
     one-after (returning name) o = came-back name

@@ -151,7 +151,7 @@ module _ (total : ℕ) (w : World) (good : Good total w) (none : Silent (view (w
 
   silent-next : (x : Operation) → OctetsIn x → isReport x ≡ false → Silent (view (advance w x .group))
   unfolding advance
-  silent-next (stepping r) o e = silent-step r o (decode-asks r e)
+  silent-next (stepping r) o e = silent-step r o (decode-asks r o e)
   silent-next (pointing name) o e = none
   silent-next (returning name) o e = silent-return name
 
@@ -179,7 +179,7 @@ module _ (total : ℕ) (g : Group) (γ : Ghost) (i : Inv (g .n) total (view g) �
   abbrev k : ℕ
   k = coordinator (cabinet g a)
 
-  pub aware-at : (c : ℕ) → works (stateOf g c) ≡ true → awareOf v γ c ≡ true
+  aware-at : (c : ℕ) → works (stateOf g c) ≡ true → awareOf v γ c ≡ true
   aware-at c w = error-aware v γ (quiet-of i) c (wait-unsure total g γ i a fine c w .0)
 
   abbrev a-aware : awareOf v γ a ≡ true
@@ -231,8 +231,8 @@ crashed-same : (g g′ : Group) → ((c : ℕ) → stateOf g′ c ≡ stateOf g 
 unfolding isCrashed
 crashed-same g g′ e = rw (e 0, e 1, e 2, e 3, e 4, e 5, e 6, e 7)
 
-module _ (total : ℕ) (g : Group) (h : History) (γ : Ghost) (i : Inv (g .n) total (view g) γ) (a : ℕ) (t : WaitTaken g a)
-    (one : (c : ℕ) → works (stateOf g c) ≡ true → cabinet g c .phase .alarm ≡ cabinet g a .phase .alarm) (since : Since) (whole : since .total ≡ total) where
+module _ (total : ℕ) (g : Group) (γ : Ghost) (i : Inv (g .n) total (view g) γ) (a : ℕ) (t : WaitTaken g a)
+    (one : (c : ℕ) → works (stateOf g c) ≡ true → cabinet g c .phase .alarm ≡ cabinet g a .phase .alarm) (since : Since) where
   abbrev lead : ℕ
   lead = coordinator (cabinet g a)
 
@@ -240,7 +240,7 @@ module _ (total : ℕ) (g : Group) (h : History) (γ : Ghost) (i : Inv (g .n) to
   fine = t .fine
 
   -- no cabinet's report stands that is still in the list
-  pub record Asked (cs : List ℕ) (w : World) : Type 0 where
+  record Asked (cs : List ℕ) (w : World) : Type 0 where
     pub during : During since (w .group) (w .history)
     pub own : (c : ℕ) → view (w .group) .own c ≡ view g .own c
     pub cab : (d : ℕ) → view (w .group) .side lead d .cab ≡ view g .side lead d .cab
@@ -248,7 +248,7 @@ module _ (total : ℕ) (g : Group) (h : History) (γ : Ghost) (i : Inv (g .n) to
     pub count : w .group .n ≡ g .n
 
   -- each cabinet is in it once at most, if it works
-  abbrev pub Once : List ℕ → Type 0
+  abbrev Once : List ℕ → Type 0
   Once cs = (d : ℕ) → times d cs ≤ cond (works (stateOf g d)) 1 0
 
   module _ (c : ℕ) (cs : List ℕ) (w : World) (x : Asked (c ∷ cs) w) (once : Once (c ∷ cs)) where
@@ -313,13 +313,13 @@ module _ (total : ℕ) (g : Group) (h : History) (γ : Ghost) (i : Inv (g .n) to
     abbrev after : Group
     after = decideIfAll (reportUnsure g′ c (coordinator (cabinet g′ c))) (coordinator (cabinet g′ c))
 
-    pub stepped : step g′ (unsureRecord c) ≡ taken after
+    stepped : step g′ (unsureRecord c) ≡ taken after
     unfolding step unsureStep
     stepped =
         rw entered
         (ap (λ (j : ℕ). unsureStep g′ j) (less-one c) ∙ rw not-refused)
 
-    pub answered : step g′ (unsureRecord c) .answer ≡ 0
+    answered : step g′ (unsureRecord c) .answer ≡ 0
     answered = ap (λ (o : Outcome). o .answer) stepped
 
     -- ---- what it leaves
@@ -361,7 +361,7 @@ module _ (total : ℕ) (g : Group) (h : History) (γ : Ghost) (i : Inv (g .n) to
     unfolding advance
     history-is = ap (λ (o : Outcome). recordDecoded (w .history) g′ o (Taken (Unsure (suc c)))) stepped
 
-    pub next-during : During since (advance w (report c) .group) (advance w (report c) .history)
+    next-during : During since (advance w (report c) .group) (advance w (report c) .history)
     next-during =
         subst (λ (y : Group). During since y (advance w (report c) .history)) (sym group-is)
         (subst (During since after) (sym history-is) after-during)
@@ -413,13 +413,13 @@ module _ (total : ℕ) (g : Group) (h : History) (γ : Ghost) (i : Inv (g .n) to
         (mark-at d wd ∙ ne-eqb (times d cs) 0 (λ q. omega (arith, q)))))
 
     -- where none is, all have one
-    pub all-in : ((d : ℕ) → times d cs ≡ 0) → All led ≡ true
+    all-in : ((d : ℕ) → times d cs ≡ 0) → All led ≡ true
     all-in none =
         subst (λ (j : ℕ). All j ≡ true) (sym leads)
         (has-covers (cabinet g1 lead .noted .unsure) (cabinet g1 lead .table .cabinets)
         (λ d l m. mark-at d (table-works total g γ i a fine one d (sym (cab-at d) ∙ m)) ∙ ap (λ (j : ℕ). eqb j 0) (none d)))
 
-    pub asked-next : (d : ℕ) → works (stateOf g d) ≡ true → 1 ≤ times d cs → Asked cs (advance w (report c))
+    asked-next : (d : ℕ) → works (stateOf g d) ≡ true → 1 ≤ times d cs → Asked cs (advance w (report c))
     asked-next d wd l =
         let out = still-out d wd l in
         let same : advance w (report c) .group ≡ g1 = group-is ∙ undecided (since .total) g′ (w .history) (run-at .ghost) (run-at .fit) (run-at .inv) (run-at .past) (run-at .reports) c c-eight not-refused out in
@@ -432,7 +432,7 @@ module _ (total : ℕ) (g : Group) (h : History) (γ : Ghost) (i : Inv (g .n) to
           count = ap (λ (y : Group). y .n) group-is ∙ after-n ∙ x .count;
         }
 
-    pub leads-on : All led ≡ true → stateOf (advance w (report c) .group) lead ≡ Recovering
+    leads-on : All led ≡ true → stateOf (advance w (report c) .group) lead ≡ Recovering
     leads-on e =
         ap (λ (y : Group). stateOf y lead) group-is
         ∙ subst (λ (j : ℕ). stateOf after j ≡ Recovering) leads
@@ -440,12 +440,12 @@ module _ (total : ℕ) (g : Group) (h : History) (γ : Ghost) (i : Inv (g .n) to
 
   -- ---- one after the other
 
-  abbrev pub Reported : List ℕ → World → Type 0
+  abbrev Reported : List ℕ → World → Type 0
   Reported cs w =
       AllTaken w cs × (stateOf (run w (map report cs) .group) lead ≡ Recovering)
       × During since (run w (map report cs) .group) (run w (map report cs) .history)
 
-  pub all-reported : (c : ℕ) (cs : List ℕ) (w : World) → Asked (c ∷ cs) w → Once (c ∷ cs) → Reported (c ∷ cs) w
+  all-reported : (c : ℕ) (cs : List ℕ) (w : World) → Asked (c ∷ cs) w → Once (c ∷ cs) → Reported (c ∷ cs) w
   unfolding run AllTaken times
   all-reported c [] w x o = ((answered c [] w x o, tt), leads-on c [] w x o (all-in c [] w x o (λ d. refl)), next-during c [] w x o)
   all-reported c (d ∷ cs) w x o =
@@ -489,7 +489,7 @@ module _ (total : ℕ) (w : World) (r : Runs total (w .group) (w .history)) (a :
   -- one report of each, where all have one place
   module _ (one : (c : ℕ) → works (stateOf gw c) ≡ true → cabinet gw c .phase .alarm ≡ cabinet gw a .phase .alarm) where
     abbrev AskedAt : List ℕ → Type 0
-    AskedAt cs = Asked total gw (w .history) (r .ghost) (r .inv) a t one (sinceWait total w) refl cs w
+    AskedAt cs = Asked total gw (r .ghost) (r .inv) a t one (sinceWait total w) cs w
 
     asked-first : (cs : List ℕ) → OneOfEach gw cs → AskedAt cs
     asked-first cs each = record {
@@ -502,11 +502,11 @@ module _ (total : ℕ) (w : World) (r : Runs total (w .group) (w .history)) (a :
       count = refl;
     }
 
-    one-of-each : (cs : List ℕ) → OneOfEach gw cs → Reported total gw (w .history) (r .ghost) (r .inv) a t one (sinceWait total w) refl cs w
+    one-of-each : (cs : List ℕ) → OneOfEach gw cs → Reported total gw (r .ghost) (r .inv) a t one (sinceWait total w) cs w
     unfolding times
     one-of-each [] each = absurd (omega (arith, each a ∙ ap (λ (b : Bool). cond b 1 0) works-a))
     one-of-each (c ∷ cs) each =
-        all-reported total gw (w .history) (r .ghost) (r .inv) a t one (sinceWait total w) refl c cs w (asked-first (c ∷ cs) each) (λ d. omega (arith, each d))
+        all-reported total gw (r .ghost) (r .inv) a t one (sinceWait total w) c cs w (asked-first (c ∷ cs) each) (λ d. omega (arith, each d))
 
 same-known : (x y : Save) → x .by ≡ y .by → x .cut ≡ y .cut → x .known ≡ y .known → x ≡ y
 same-known x y by cut known = λ i. record { by = by i; cut = cut i; known = known i }

@@ -119,7 +119,7 @@ module _ (n total : ℕ) (v : View) (γ : Ghost) (i : Inv n total v γ) (chief-l
 -- ---- it goes on with it
 
 -- a coordinator that is not unaware commits nothing
-pub freeze-core : (n total : ℕ) (v : View) (γ : Ghost) → Core n total v γ → unaware (γ .big) (v .own (γ .big .chief)) ≡ false → Core n total v (gFrozen γ)
+freeze-core : (n total : ℕ) (v : View) (γ : Ghost) → Core n total v γ → unaware (γ .big) (v .own (γ .big .chief)) ≡ false → Core n total v (gFrozen γ)
 freeze-core n total v γ i e = record {
   pairs = λ c d. frozen-pair _ _ _ _ _ _ _ _ _ _ _ _ (i .pairs c d);
   nodes = λ c. frozen-node _ _ _ _ _ _ (λ f. refl) (i .nodes c);

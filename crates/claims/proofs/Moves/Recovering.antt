@@ -121,7 +121,7 @@ module _ (total : ℕ) (g : Group) (h : History) (γ δ : Ghost) (g′ : Group) 
   goes-going i = goes-on (view g) γ (quiet-of i) (view g′) δ c _ own-at faulted aw refl (refl, refl, refl)
 
   -- where the version is one that another knows
-  pub keeps-going : (i : Inv (g .n) total (view g) γ) → Past (g .n) (view g) δ h → Inv (g .n) total (vRecover v c x) δ → v .side ≡ view g .side → SomeKnows (view g) γ
+  keeps-going : (i : Inv (g .n) total (view g) γ) → Past (g .n) (view g) δ h → Inv (g .n) total (vRecover v c x) δ → v .side ≡ view g .side → SomeKnows (view g) γ
       → Kept total g γ g′ (noteCuts h g g′)
   keeps-going i past inv sides known = record {
     ghost = δ;

@@ -53,7 +53,7 @@ module _ (b : Big) (c d : ℕ) (o : Own) (m : Mind) (p : Own) (n : Mind) (s t : 
   unsure-to : Pair b c d o m p n s (sUnsure t) l w
   unsure-to = search
 
-pub unsure-inv : (n total : ℕ) (v : View) (γ : Ghost) → Inv n total v γ → (k a : ℕ) → Inv n total (vUnsure v k a) γ
+unsure-inv : (n total : ℕ) (v : View) (γ : Ghost) → Inv n total v γ → (k a : ℕ) → Inv n total (vUnsure v k a) γ
 unsure-inv n total v γ i k a =
     mark-inv n total v γ i k a (sUnsure (v .side k a)) refl (λ t p. unsure-from _ _ _ _ _ _ _ _ _ _ _ p) (λ s p. unsure-to _ _ _ _ _ _ _ _ _ _ _ p)
 
@@ -77,20 +77,20 @@ module _ (total : ℕ) (g : Group) (h : History) (γ : Ghost) (w : Fit g) (i : I
   abbrev a-unsure : (isIn (stateOf g a) Error ≡ true) × (isUnknown (cabinet g a .phase .version) ≡ true)
   a-unsure = and-true {s = isIn (stateOf g a) Error} (checks .0)
 
-  pub a-aware : awareOf v γ a ≡ true
+  a-aware : awareOf v γ a ≡ true
   a-aware = error-aware v γ (quiet-of i) a (a-unsure .0)
 
-  pub k-aware : awareOf v γ k ≡ true
+  k-aware : awareOf v γ k ≡ true
   k-aware = error-aware v γ (quiet-of i) k (checks .3)
 
   -- the coordinator is lost, and k leads after it
-  pub lost : γ .big .alive ≡ false
+  lost : γ .big .alive ≡ false
   lost = chief-lost (g .n) total v γ i a a-aware (checks .1)
 
   k-heir : k ≡ γ .big .heir
   k-heir = led-on (g .n) total v γ i a a-aware (checks .1)
 
-  pub k-below : k < 8
+  k-below : k < 8
   k-below = rw k-heir (heir-below (g .n) total v γ i lost)
 
   k-other : k ≢ γ .big .chief
@@ -109,7 +109,7 @@ module _ (total : ℕ) (g : Group) (h : History) (γ : Ghost) (w : Fit g) (i : I
   unfolding reportUnsure
   fit1 = with-cabinet Shaped Lined Pictured shaped g k _ (shaped .unsureFor (cabinet g k) a (w .cabs k)) w
 
-  pub inv1 : Inv (g .n) total (view g1) γ
+  inv1 : Inv (g .n) total (view g1) γ
   inv1 = subst (λ (x : View). Inv (g .n) total x γ) (sym seen1) (unsure-inv (g .n) total v γ i k a)
 
   pub own1 : (c : ℕ) → view g1 .own c ≡ v .own c

@@ -73,7 +73,7 @@ module _ (total : ℕ) (g : Group) (γ : Ghost) (i : Inv (g .n) total (view g) �
   pub wait-former : cabinet g a .noted .former ≡ true
   wait-former = lost .2
 
-  pub wait-lost : γ .big .alive ≡ false
+  wait-lost : γ .big .alive ≡ false
   wait-lost = chief-lost (g .n) total v γ i a wait-aware wait-former
 
   below : (c : ℕ) → workOf v c ≡ true → c < 8

@@ -116,34 +116,6 @@ asksIn Malformed = false
 asksIn Unused = false
 asksIn (Taken s) = asksUnsure s
 
--- records of kind 14 alone
-abbrev Asks : Decoded → Type 0
-Asks d = asksIn d ≡ false
-
-alone-asks : (kind a : ℕ) → eqb kind 14 ≡ false → Asks (aloneOf kind a)
-alone-asks kind a e =
-    cond-elim Asks (eqb kind 3) (λ _. refl)
-    (λ _. cond-elim Asks (eqb kind 5) (λ _. refl)
-    (λ _. cond-elim Asks (eqb kind 6) (λ _. refl)
-    (λ _. cond-elim Asks (eqb kind 7) (λ _. refl)
-    (λ _. cond-elim Asks (eqb kind 8) (λ _. refl)
-    (λ _. cond-elim Asks (eqb kind 10) (λ _. refl)
-    (λ _. cond-elim Asks (eqb kind 13) (λ _. refl) (λ _. cond-elim Asks (eqb kind 14) (λ f. absurd (never f e)) (λ _. refl))))))))
-
-fields-ask : (kind a b p q : ℕ) → eqb kind 14 ≡ false → Asks (fieldsOf kind a b p q)
-fields-ask kind a b p q e =
-    cond-elim Asks (eqb kind 1) (λ _. refl)
-    (λ _. cond-elim Asks (eqb kind 2) (λ _. cond-elim Asks (eqb b 0) (λ _. refl) (λ _. refl))
-    (λ _. cond-elim Asks (eqb kind 4) (λ _. cond-elim Asks (eqb (p + q) 0) (λ _. refl) (λ _. refl))
-    (λ _. cond-elim Asks (eqb kind 11) (λ _. refl)
-    (λ _. cond-elim Asks (eqb kind 12) (λ _. cond-elim Asks (eqb q 0) (λ _. refl) (λ _. refl))
-    (λ _. cond-elim Asks (isKind kind)
-    (λ _. cond-elim Asks (eqb (b + p + q) 0) (λ _. alone-asks kind a e) (λ _. refl)) (λ _. refl))))))
-
-pub decode-asks : (r : List ℕ) → eqb (getD r 0 0) 14 ≡ false → asksIn (decode r) ≡ false
-decode-asks r e =
-    cond-elim Asks (eqb (length r) 6) (λ _. fields-ask (getD r 0 0) (getD r 1 0) (getD r 2 0) (getD r 3 0) (getD r 4 0 * 256 + getD r 5 0) e) (λ _. refl)
-
 -- ---- what a record of octets decodes to: the amount of a send and the pattern of damage have two octets
 
 abbrev pub Fits : Step → Type 0
@@ -166,30 +138,43 @@ FitsIn Malformed = Unit {0}
 FitsIn Unused = Unit {0}
 FitsIn (Taken s) = Fits s
 
-alone-fits : (kind a : ℕ) → FitsIn (aloneOf kind a)
-alone-fits kind a =
-    cond-elim FitsIn (eqb kind 3) (λ _. tt)
-    (λ _. cond-elim FitsIn (eqb kind 5) (λ _. tt)
-    (λ _. cond-elim FitsIn (eqb kind 6) (λ _. tt)
-    (λ _. cond-elim FitsIn (eqb kind 7) (λ _. tt)
-    (λ _. cond-elim FitsIn (eqb kind 8) (λ _. tt)
-    (λ _. cond-elim FitsIn (eqb kind 10) (λ _. tt)
-    (λ _. cond-elim FitsIn (eqb kind 13) (λ _. tt) (λ _. cond-elim FitsIn (eqb kind 14) (λ _. tt) (λ _. tt))))))))
+-- .. and a record of another kind than 14 is no report
+abbrev Reads : ℕ → Decoded → Type 0
+Reads kind d = FitsIn d × (eqb kind 14 ≡ false → asksIn d ≡ false)
 
-fields-fit : (kind a b p q : ℕ) → q < 65536 → FitsIn (fieldsOf kind a b p q)
-fields-fit kind a b p q l =
-    cond-elim FitsIn (eqb kind 1) (λ _. l)
-    (λ _. cond-elim FitsIn (eqb kind 2) (λ _. cond-elim FitsIn (eqb b 0) (λ _. tt) (λ _. tt))
-    (λ _. cond-elim FitsIn (eqb kind 4) (λ _. cond-elim FitsIn (eqb (p + q) 0) (λ _. tt) (λ _. tt))
-    (λ _. cond-elim FitsIn (eqb kind 11) (λ _. l)
-    (λ _. cond-elim FitsIn (eqb kind 12) (λ _. cond-elim FitsIn (eqb q 0) (λ _. tt) (λ _. tt))
-    (λ _. cond-elim FitsIn (isKind kind)
-    (λ _. cond-elim FitsIn (eqb (b + p + q) 0) (λ _. alone-fits kind a) (λ _. tt)) (λ _. tt))))))
+alone-reads : (kind a : ℕ) → Reads kind (aloneOf kind a)
+alone-reads kind a =
+    cond-elim (Reads kind) (eqb kind 3) (λ _. (tt, λ _. refl))
+    (λ _. cond-elim (Reads kind) (eqb kind 5) (λ _. (tt, λ _. refl))
+    (λ _. cond-elim (Reads kind) (eqb kind 6) (λ _. (tt, λ _. refl))
+    (λ _. cond-elim (Reads kind) (eqb kind 7) (λ _. (tt, λ _. refl))
+    (λ _. cond-elim (Reads kind) (eqb kind 8) (λ _. (tt, λ _. refl))
+    (λ _. cond-elim (Reads kind) (eqb kind 10) (λ _. (tt, λ _. refl))
+    (λ _. cond-elim (Reads kind) (eqb kind 13) (λ _. (tt, λ _. refl))
+    (λ _. cond-elim (Reads kind) (eqb kind 14) (λ e. (tt, λ f. absurd (never e f))) (λ _. (tt, λ _. refl)))))))))
+
+fields-read : (kind a b p q : ℕ) → q < 65536 → Reads kind (fieldsOf kind a b p q)
+fields-read kind a b p q l =
+    let plain : (t : Bool) (s : Step) → Fits s → asksUnsure s ≡ false → Reads kind (cond t (Taken s) Unused) = λ t s f e.
+    cond-elim (Reads kind) t (λ _. (f, λ _. e)) (λ _. (tt, λ _. refl)) in
+    cond-elim (Reads kind) (eqb kind 1) (λ _. (l, λ _. refl))
+    (λ _. cond-elim (Reads kind) (eqb kind 2) (λ _. plain (eqb b 0) (Note a p q) tt refl)
+    (λ _. cond-elim (Reads kind) (eqb kind 4) (λ _. plain (eqb (p + q) 0) (Deliver a b) tt refl)
+    (λ _. cond-elim (Reads kind) (eqb kind 11) (λ _. (l, λ _. refl))
+    (λ _. cond-elim (Reads kind) (eqb kind 12) (λ _. plain (eqb q 0) (Lose a b p) tt refl)
+    (λ _. cond-elim (Reads kind) (isKind kind)
+    (λ _. cond-elim (Reads kind) (eqb (b + p + q) 0) (λ _. alone-reads kind a) (λ _. (tt, λ _. refl))) (λ _. (tt, λ _. refl)))))))
+
+decode-reads : (r : List ℕ) → ((i : ℕ) → getD r i 0 < 256) → Reads (getD r 0 0) (decode r)
+decode-reads r o =
+    cond-elim (Reads (getD r 0 0)) (eqb (length r) 6)
+    (λ _. fields-read (getD r 0 0) (getD r 1 0) (getD r 2 0) (getD r 3 0) (getD r 4 0 * 256 + getD r 5 0) (omega (arith, o 4, o 5))) (λ _. (tt, λ _. refl))
 
 pub decode-fits : (r : List ℕ) → ((i : ℕ) → getD r i 0 < 256) → FitsIn (decode r)
-decode-fits r o =
-    cond-elim FitsIn (eqb (length r) 6)
-    (λ _. fields-fit (getD r 0 0) (getD r 1 0) (getD r 2 0) (getD r 3 0) (getD r 4 0 * 256 + getD r 5 0) (omega (arith, o 4, o 5))) (λ _. tt)
+decode-fits r o = decode-reads r o .0
+
+pub decode-asks : (r : List ℕ) → ((i : ℕ) → getD r i 0 < 256) → eqb (getD r 0 0) 14 ≡ false → asksIn (decode r) ≡ false
+decode-asks r o = decode-reads r o .1
 
 -- ---- the properties and what has to be shown of them
 
