@@ -1,15 +1,17 @@
 //! Random cases from a seed: a group file, sound or damaged, and a steps file. The model runs
 //! along while steps are made, so that most of them are steps that would be taken.
 
+mod hurts;
 pub mod losses;
 pub mod plans;
 mod trips;
 mod unsure;
 
 use crate::model::{
-    self, Crash, Ends, Event, Group, Number, Outcome, Packet, State, CRASHED, KINDS, TAKEN,
-    WITHDRAWN_KIND,
+    self, Crash, Ends, Event, Group, Number, Outcome, Packet, PacketVersion, State, CRASHED, KINDS,
+    TAKEN, WITHDRAWN_KIND,
 };
+use hurts::damage_at;
 use std::collections::VecDeque;
 use unsure::Doubt;
 
@@ -97,7 +99,7 @@ pub fn case_seed(seed: u64, index: u64) -> u64 {
 pub fn make_case(seed: u64, wishes: Wishes) -> Case {
     let mut dice = Dice::new(seed);
     let draft = draft_that_may_lose_its_lead(&mut dice, wishes.cabinets);
-    let damaged = wishes.cabinets.is_none() && dice.per_thousand(60);
+    let damaged = wishes.cabinets.is_none() && dice.per_thousand(110);
     let (group, length) = if damaged {
         (damaged_group_file(&mut dice, draft), dice.below(5))
     } else {
@@ -131,7 +133,7 @@ fn steps_length(dice: &mut Dice, wishes: Wishes) -> usize {
     if wishes.cabinets.is_some() {
         return 600;
     }
-    if dice.per_thousand(1) {
+    if dice.per_thousand(2) {
         return LONG + dice.below(5);
     }
     dice.below(601).max(dice.below(601))
@@ -149,6 +151,7 @@ struct CabinetDraft {
 
 #[derive(Clone)]
 struct GroupDraft {
+    version: PacketVersion,
     cabinets: Vec<CabinetDraft>,
     links: Vec<(u8, u8)>,
 }
@@ -166,17 +169,20 @@ impl GroupDraft {
         };
         let cabinets = (0..n).map(cabinet).collect();
         let links = connected_links(dice, n as u8);
-        GroupDraft { cabinets, links }
+        let version = dice.pick(&[PacketVersion::One, PacketVersion::Two]);
+        GroupDraft { version, cabinets, links }
+    }
+
+    fn header(&self) -> Vec<u16> {
+        let (n, links) = (self.cabinets.len() as u16, self.links.len() as u16);
+        match self.version {
+            PacketVersion::One => vec![n, links, 10, 10 + 6 * n, 10 + 6 * n + 2 * links],
+            PacketVersion::Two => vec![n, links, 12, 12 + 6 * n, 12 + 6 * n + 2 * links, 2],
+        }
     }
 
     fn octets(&self) -> Vec<u8> {
-        let link_table = 10 + 6 * self.cabinets.len();
-        let length = link_table + 2 * self.links.len();
-        let header = [self.cabinets.len(), self.links.len(), 10, link_table, length];
-        let mut file = Vec::new();
-        for number in header {
-            file.extend_from_slice(&(number as u16).to_be_bytes());
-        }
+        let mut file: Vec<u8> = self.header().into_iter().flat_map(u16::to_be_bytes).collect();
         for cabinet in &self.cabinets {
             file.extend_from_slice(&[cabinet.home, cabinet.mark]);
             file.extend(cabinet.bookings.iter().flat_map(|booking| booking.to_be_bytes()));
@@ -283,9 +289,10 @@ fn ring(n: u8) -> Vec<(u8, u8)> {
 
 // ---------------------------------------------------------------- damaged group files
 
-/// Aims at one of the refusals 1 to 7, now and then at two, or changes any octet.
+/// Aims at one of the refusals 1 to 7, now and then at two, changes any octet, or mixes the
+/// packet versions.
 fn damaged_group_file(dice: &mut Dice, mut draft: GroupDraft) -> Vec<u8> {
-    let aims = [dice.between(1, 8), dice.between(1, 8)];
+    let aims = [dice.between(1, 14), dice.between(1, 14)];
     let aims = &aims[..1 + usize::from(dice.per_thousand(250))];
     for &aim in aims {
         match aim {
@@ -303,6 +310,7 @@ fn damaged_group_file(dice: &mut Dice, mut draft: GroupDraft) -> Vec<u8> {
             2 => damage_n(dice, &mut file),
             3 => damage_layout(dice, &mut file),
             8 => damage_any_octet(dice, &mut file),
+            9.. => mix_versions(dice, &mut file, draft.version),
             _ => {}
         }
     }
@@ -382,6 +390,65 @@ fn damage_any_octet(dice: &mut Dice, file: &mut [u8]) {
     }
 }
 
+/// Something of one version is as in the other.
+fn mix_versions(dice: &mut Dice, file: &mut Vec<u8>, version: PacketVersion) {
+    let (other, more) = match version {
+        PacketVersion::One => (12, 2),
+        PacketVersion::Two => (10, 0_u16.wrapping_sub(2)),
+    };
+    match dice.below(7) {
+        0 => set_number(file, 4, other),
+        1 => with_another_sixth_number(dice, file),
+        2 => cut_short(dice, file),
+        3 => {
+            let offsets = dice.pick(&[&[6][..], &[8], &[6, 8], &[4, 8], &[4, 6]]);
+            offsets.iter().for_each(|&offset| add_to_number(file, offset, more));
+        }
+        4 if dice.per_thousand(500) => with_length_of_the_other(dice, file, version),
+        4 => with_or_without_sixth_number(file, version),
+        _ => {
+            [4, 6, 8].iter().for_each(|&offset| add_to_number(file, offset, more));
+            with_length_of_the_other(dice, file, version);
+            if dice.per_thousand(300) {
+                set_number(file, 10, 2);
+            }
+        }
+    }
+}
+
+/// Two octets more at the end, or fewer.
+fn with_length_of_the_other(dice: &mut Dice, file: &mut Vec<u8>, version: PacketVersion) {
+    match version {
+        PacketVersion::One => file.extend([dice.octet(), dice.octet()]),
+        PacketVersion::Two => file.truncate(file.len().saturating_sub(2)),
+    }
+}
+
+/// Of version 1 it becomes part of an entry; then only the offsets tell.
+fn with_another_sixth_number(dice: &mut Dice, file: &mut [u8]) {
+    let any = dice.below(65_536) as u16;
+    let number = dice.pick(&[0, 1, 2, 3, 10, 12, 0x0102, 0x0200, any]);
+    set_number(file, 10, number);
+}
+
+fn cut_short(dice: &mut Dice, file: &mut Vec<u8>) {
+    let length = dice.pick(&[10, 10, 11, 11, 12]);
+    file.truncate(length);
+    set_number(file, 4, 12);
+    if dice.per_thousand(500) {
+        set_number(file, 8, length as u16);
+    }
+}
+
+/// The offsets stay those of the version.
+fn with_or_without_sixth_number(file: &mut Vec<u8>, version: PacketVersion) {
+    match version {
+        PacketVersion::One if file.len() >= 10 => drop(file.splice(10..10, [0, 2])),
+        PacketVersion::Two if file.len() >= 12 => drop(file.drain(10..12)),
+        _ => {}
+    }
+}
+
 fn set_number(file: &mut [u8], offset: usize, number: u16) {
     if let Some(place) = file.get_mut(offset..offset + 2) {
         place.copy_from_slice(&number.to_be_bytes());
@@ -447,7 +514,7 @@ impl Temper {
         }
         weights[3] = dice.pick(&[3, 8, 20, 60]);
         weights[10] = dice.pick(&[0, 2, 5, 15]);
-        weights[11] = if wishes.damage { dice.pick(&[0, 6, 12, 40]) } else { 0 };
+        weights[11] = if wishes.damage { dice.pick(&[0, 10, 25, 60]) } else { 0 };
         weights[12] = if wishes.damage { dice.pick(&[0, 6, 12, 40]) } else { 0 };
         weights[13] = if wishes.trips() { dice.pick(&[0, 5, 15, 40]) } else { 0 };
         if !wishes.reports() {
@@ -519,7 +586,10 @@ struct Run<'a> {
     to_follow: VecDeque<Record>,
     /// Tries left in which a save is brought on first: it finds a loss, or commits after one.
     save_first: usize,
-    lost_since_recovery: bool,
+    /// Tries left in which the recovery under way is brought on first.
+    recover_first: usize,
+    /// Lost, or found to be damaged.
+    hurt_since_recovery: bool,
     /// Tries left in which a trip is asked for between what ends a recovery.
     trip_first: usize,
     /// A cabinet with two trips since the last commit.
@@ -542,7 +612,8 @@ impl Run<'_> {
             reports_first: 0,
             to_follow: VecDeque::new(),
             save_first,
-            lost_since_recovery: false,
+            recover_first: 0,
+            hurt_since_recovery: false,
             trip_first: 0,
             twice_before: None,
             pardoned: None,
@@ -574,8 +645,10 @@ impl Run<'_> {
             (10 | 13, TAKEN) => self.after_fault(),
             _ => {}
         }
-        if matches!(outcome.event, Event::RecoveryEnd { .. }) {
-            self.after_recovery();
+        match outcome.event {
+            Event::RecoveryEnd { .. } => self.after_recovery(),
+            Event::LinkFault(_) => self.after_link_fault(),
+            _ => {}
         }
         outcome
     }
@@ -605,17 +678,8 @@ impl Run<'_> {
                 return record;
             }
         }
-        let strike = self.chance_to_strike();
-        if self.last_event == Event::Commit && self.dice.per_thousand(strike) {
-            if let Some(record) = self.strike_at_commit() {
-                return record;
-            }
-        }
-        let strike = self.chance_to_strike_in_save();
-        if self.dice.per_thousand(strike) {
-            if let Some(record) = self.lead().and_then(|lead| self.safe_fault_of(lead)) {
-                return record;
-            }
+        if let Some(record) = self.strike() {
+            return record;
         }
         if let Some(record) = self.fail_before_its_report().or_else(|| self.eager_report()) {
             return record;
@@ -637,6 +701,21 @@ impl Run<'_> {
         found.unwrap_or_else(|| self.foolish_record())
     }
 
+    /// At a commit, or at the coordinator of a save.
+    fn strike(&mut self) -> Option<Record> {
+        let chance = self.chance_to_strike();
+        if self.last_event == Event::Commit && self.dice.per_thousand(chance) {
+            if let Some(record) = self.strike_at_commit() {
+                return Some(record);
+            }
+        }
+        let chance = self.chance_to_strike_in_save();
+        if self.dice.per_thousand(chance) {
+            return self.lead().and_then(|lead| self.safe_fault_of(lead));
+        }
+        None
+    }
+
     /// Where others are about to find a link fault or to commit.
     fn sly_fault(&mut self) -> Option<Record> {
         let with_its_own = self.dice.per_thousand(600);
@@ -653,12 +732,16 @@ impl Run<'_> {
         self.to_follow.pop_front()
     }
 
-    /// For some tries after a laggard failed, the reports still owed come first; after a loss,
-    /// what a save needs.
+    /// For some tries after a laggard failed, the reports still owed come first; after a link
+    /// fault, what ends the recovery; after a loss, what a save needs.
     fn next_kind(&mut self) -> u8 {
         if self.reports_first > 0 {
             self.reports_first -= 1;
             return 6;
+        }
+        if self.recover_first > 0 && self.group.recovery_under_way() {
+            self.recover_first -= 1;
+            return self.dice.pick(&[4, 4, 4, 7, 7, 8, 14]);
         }
         if self.save_first > 0 {
             self.save_first -= 1;
@@ -701,7 +784,9 @@ impl Run<'_> {
     fn strike_at_commit(&mut self) -> Option<Record> {
         let coordinator = self.lead()?;
         if self.wishes.damage && self.dice.per_thousand(400) {
-            return self.damage_on_lines_from(coordinator);
+            let behind = self.dice.per_thousand(300);
+            let behind = behind.then(|| self.hurt_behind_a_hurt_signal()).flatten();
+            return behind.or_else(|| self.damage_on_lines_from(coordinator));
         }
         if self.wishes.trips() && self.dice.per_thousand(200) {
             let before = self.trip_of_the_number_before(coordinator);
@@ -731,11 +816,7 @@ impl Run<'_> {
             2 => self.sensible_note(),
             4 => self.sensible_deliver(),
             10 => self.sensible_fail(),
-            11 if self.dice.per_thousand(150) => self.second_hurt(11),
-            11 => {
-                let from = self.any_cabinet();
-                self.damage_on_lines_from(from)
-            }
+            11 => self.sensible_damage(),
             12 => self.sensible_loss(),
             13 => self.sensible_trip(),
             14 => self.sensible_report(),
@@ -898,11 +979,11 @@ impl Run<'_> {
             return None;
         }
         let place = self.place_to_hurt(from, to);
-        let pattern = self.pattern();
+        let burst = self.any_burst();
         if self.dice.per_thousand(100) {
-            self.to_follow.push_back(record(12, from, to, place, 0));
+            self.to_follow.push_back(record(12, from, to, place as u8, 0));
         }
-        let record = record(11, from, to, place, pattern);
+        let record = damage_at((from, to, place), burst);
         (self.taken(&record) || self.dice.per_thousand(300)).then_some(record)
     }
 
@@ -912,22 +993,14 @@ impl Run<'_> {
     }
 
     /// Fail-safe packets are hurt as often as normal ones.
-    fn place_to_hurt(&mut self, from: Number, to: Number) -> u8 {
+    fn place_to_hurt(&mut self, from: Number, to: Number) -> usize {
         let packets = &self.group.line(from, to).packets;
         let fail_safe = |place: &usize| !matches!(packets[*place], Packet::Normal(_));
         let special: Vec<usize> = (0..packets.len()).filter(fail_safe).collect();
         let any = self.dice.below(packets.len());
         match self.dice.pick_any(&special) {
-            Some(place) if self.dice.per_thousand(500) => place as u8,
-            _ => any as u8,
-        }
-    }
-
-    fn pattern(&mut self) -> u16 {
-        match self.dice.below(10) {
-            0 => 0,
-            1..=4 => 1 << self.dice.below(16),
-            _ => self.dice.between(1, 65_535) as u16,
+            Some(place) if self.dice.per_thousand(500) => place,
+            _ => any,
         }
     }
 }
@@ -983,10 +1056,13 @@ impl Run<'_> {
         let p = if names_p { self.strange_p(kind) } else { 0 };
         let q = if names_q { self.strange_value() } else { 0 };
         let hurts = kind == 11 || kind == 12;
-        if hurts && self.group.recovery_under_way() && !self.dice.per_thousand(100) {
-            return record(kind, self.any_cabinet(), b, 12, q);
+        let nowhere = hurts && self.group.recovery_under_way() && !self.dice.per_thousand(100);
+        let record = record(kind, self.any_cabinet(), b, if nowhere { 12 } else { p }, q);
+        if kind == 11 {
+            self.with_any_shift(record)
+        } else {
+            record
         }
-        record(kind, self.any_cabinet(), b, p, q)
     }
 
     /// The outlets of a send, the octet of a note or the place of a damage or loss.
@@ -1023,10 +1099,13 @@ impl Run<'_> {
 
     fn with_strange_cabinet(&mut self, mut record: Record) -> Record {
         let beyond = self.group.size() as u8 + 1;
-        let strange = self.dice.pick(&[0, beyond, 9, 255]);
         let names_b = model::fields_named(record[0]).0;
         let field = if names_b { self.dice.between(1, 2) } else { 1 };
-        record[field] = strange;
+        let beside_a_shift = 16 * self.dice.between(1, 15) as u8;
+        record[field] = match (record[0], field) {
+            (11, 2) => self.dice.pick(&[0, beyond, 9, 15]) | self.dice.pick(&[0, beside_a_shift]),
+            _ => self.dice.pick(&[0, beyond, 9, 16, 255]),
+        };
         record
     }
 }
@@ -1040,6 +1119,7 @@ mod tests {
     use crate::losses::{Finding, Refused};
     use crate::model::Outlet;
     use crate::outlets::Cover;
+    use crate::own_checks::{Dropped, Found, Hit, Misfit, Mixed};
     use crate::trips::Between;
     use crate::unsure::{Lost, Refusal};
 
@@ -1090,6 +1170,27 @@ mod tests {
         assert!(counts.found.keys().eq(&[Finding::Crc, Finding::CountAlone]));
         assert!(counts.damage_refused > 0 && counts.recoveries_ended > 0);
         assert!(counts.commits_after_recovery > 0);
+    }
+
+    /// Damage in version 2 never comes as far as a checkp.
+    #[test]
+    fn the_cases_reach_what_packets_own_checks_bring() {
+        let counts = tally_of(1000, wishes(true)).own_checks;
+        let versions = [PacketVersion::One, PacketVersion::Two];
+        assert!(counts.groups.keys().eq(&versions) && counts.groups.values().all(|&n| n > 400));
+        assert!(counts.loads_refused.keys().eq(&Mixed::ALL));
+        let two = |hit: Hit| (PacketVersion::Two, hit);
+        let hits = [(PacketVersion::One, Hit::Amount), two(Hit::Amount), two(Hit::OwnCheck)];
+        assert!(counts.hit.keys().eq(&[&hits[..], &[two(Hit::Both)]].concat()));
+        assert!(counts.misfits.keys().eq(&Misfit::ALL) && counts.misfits_at_fail_safe > 0);
+        assert!(counts.refused_with_shift.keys().eq(&[10, 11, 13, 15, 18, 20]));
+        assert!(counts.fail_safe_hit > 0 && counts.hurt_amounts_added > 0);
+        assert!(counts.found.keys().eq(&Found::ALL) && counts.crashes.len() > 3);
+        assert!(counts.found_on_taking_in.keys().eq(&[State::Normal, State::CheckpBegin]));
+        assert!(counts.dropped.keys().eq(&[Dropped::InRecovery, Dropped::OverStruckLink]));
+        assert!(counts.recoveries_ended.keys().eq(&Found::ALL));
+        assert!(counts.recoveries_ended.values().all(|&ended| ended > 5));
+        assert!(counts.commits_after_recovery.keys().eq(&Found::ALL));
     }
 
     #[test]

@@ -1,6 +1,7 @@
 //! A choice among cases: few that reach as much of what is counted as all of them do.
 
 use crate::listing::Tally;
+use crate::own_checks::OwnCheckCounts;
 use std::collections::{BTreeMap, BTreeSet};
 use std::fmt::Debug;
 
@@ -89,10 +90,24 @@ fn marks(tally: &Tally) -> BTreeSet<String> {
     add_keys(&mut marks, "unsure refused", &unsure.refused);
     add_keys(&mut marks, "decision", &unsure.decisions);
     add_keys(&mut marks, "recovery decided", &unsure.recoveries_ended);
+    add_own_check_marks(&mut marks, &tally.own_checks);
     add_keys(&mut marks, "point", &tally.point_answers);
     add_keys(&mut marks, "return", &tally.return_answers);
     add_keys(&mut marks, "sight", &tally.sights);
     marks
+}
+
+fn add_own_check_marks(marks: &mut BTreeSet<String>, counts: &OwnCheckCounts) {
+    add_keys(marks, "packet version", &counts.groups);
+    add_keys(marks, "mixed file", &counts.loads_refused);
+    add_keys(marks, "damaged", &counts.hit);
+    add_keys(marks, "damage misfit", &counts.misfits);
+    add_keys(marks, "shift refused", &counts.refused_with_shift);
+    add_keys(marks, "hurt found", &counts.found);
+    add_keys(marks, "hurt found in", &counts.found_on_taking_in);
+    add_keys(marks, "hurt dropped", &counts.dropped);
+    add_keys(marks, "recovery after a hurt", &counts.recoveries_ended);
+    add_keys(marks, "commit after a hurt", &counts.commits_after_recovery);
 }
 
 fn add_keys<K: Debug>(marks: &mut BTreeSet<String>, name: &str, counts: &BTreeMap<K, u64>) {

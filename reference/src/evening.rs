@@ -54,8 +54,8 @@ pub struct Evening {
 
 impl Evening {
     pub fn new(group: Group, highest_kind: u8) -> Evening {
-        let (points, watch) = (Points::default(), Watch::default());
-        Evening { group, points, highest_kind, watch, counter: Counter::new() }
+        let (points, watch, counter) = (Points::default(), Watch::default(), Counter::new(&group));
+        Evening { group, points, highest_kind, watch, counter }
     }
 
     /// The answer to one record of the plan.

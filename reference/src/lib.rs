@@ -11,6 +11,7 @@ pub mod losses;
 pub mod model;
 pub mod ops;
 pub mod outlets;
+pub mod own_checks;
 pub mod points;
 pub mod shrink;
 #[cfg(test)]

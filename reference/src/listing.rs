@@ -6,6 +6,7 @@ use crate::evening::Sight;
 use crate::losses::{LossCounts, LossWatch};
 use crate::model::{self, Crash, Event, Group, Outcome, State, Version, RECORD_LENGTH, TAKEN};
 use crate::outlets::{OutletCounts, Watch};
+use crate::own_checks::{HurtWatch, OwnCheckCounts};
 use crate::trips::{Stand, TripCounts, TripWatch};
 use crate::unsure::{UnsureCounts, UnsureWatch};
 use std::collections::BTreeMap;
@@ -30,6 +31,7 @@ pub struct Tally {
     pub losses: LossCounts,
     pub trips: TripCounts,
     pub unsure: UnsureCounts,
+    pub own_checks: OwnCheckCounts,
     pub point_answers: BTreeMap<u8, u64>,
     pub return_answers: BTreeMap<u8, u64>,
     pub sights: BTreeMap<Sight, u64>,
@@ -44,6 +46,7 @@ impl Tally {
         let mut tally = Tally::of_one_case();
         tally.loads_refused.insert(refusal, 1);
         tally.outlets.count_refused_load(group_file, refusal);
+        tally.own_checks.count_refused_load(group_file, refusal);
         tally
     }
 
@@ -62,7 +65,7 @@ impl Tally {
         match outcome.event {
             Event::Nothing | Event::Added(_) | Event::Decision { .. } => {}
             Event::Commit => self.commits += 1,
-            Event::LinkFault { .. } => self.link_faults += 1,
+            Event::LinkFault(_) => self.link_faults += 1,
             Event::Crash(cause) => count(&mut self.crashes, cause),
             Event::RecoveryEnd { save_passed_over } => {
                 self.recoveries_ended += 1;
@@ -86,6 +89,7 @@ impl Tally {
         self.losses.add(&other.losses);
         self.trips.add(&other.trips);
         self.unsure.add(&other.unsure);
+        self.own_checks.add(&other.own_checks);
         add_counts(&mut self.point_answers, &other.point_answers);
         add_counts(&mut self.return_answers, &other.return_answers);
         add_counts(&mut self.sights, &other.sights);
@@ -105,7 +109,8 @@ impl Tally {
         text += &self.outlets.report();
         text += &self.losses.report();
         text += &self.trips.report();
-        text + &self.unsure.report()
+        text += &self.unsure.report();
+        text + &self.own_checks.report()
     }
 
     /// What points and returns add to the report.
@@ -127,16 +132,20 @@ pub(crate) struct Counter {
     loss_watch: LossWatch,
     pub(crate) trip_watch: TripWatch,
     unsure_watch: UnsureWatch,
+    hurt_watch: HurtWatch,
 }
 
 impl Counter {
-    pub(crate) fn new() -> Counter {
+    pub(crate) fn new(group: &Group) -> Counter {
+        let mut tally = Tally::of_one_case();
+        tally.own_checks.count_group(group);
         Counter {
-            tally: Tally::of_one_case(),
+            tally,
             watch: Watch::default(),
             loss_watch: LossWatch::default(),
             trip_watch: TripWatch::default(),
             unsure_watch: UnsureWatch::default(),
+            hurt_watch: HurtWatch::default(),
         }
     }
 
@@ -150,6 +159,8 @@ impl Counter {
         self.tally.losses.count_step(&mut self.loss_watch, aim, record, outcome);
         self.tally.trips.count_step(&mut self.trip_watch, stand, group, record, outcome);
         self.tally.unsure.count_step(&mut self.unsure_watch, group, record, outcome);
+        let version = group.packet_version();
+        self.tally.own_checks.count_step(&mut self.hurt_watch, aim, version, record, outcome);
         outcome
     }
 }
@@ -178,7 +189,7 @@ pub fn counted_listing(group_file: &[u8], steps_file: &[u8], highest_kind: u8) -
             return (format!("load {refusal}\n"), tally);
         }
     };
-    let mut counter = Counter::new();
+    let mut counter = Counter::new(&group);
     let mut text = String::new();
     let records = steps_file.chunks(RECORD_LENGTH).take(RECORDS_READ);
     for (index, record) in records.enumerate() {

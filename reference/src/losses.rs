@@ -159,7 +159,7 @@ fn refused(watch: &LossWatch, aim: Option<Aim>, answer: u8) -> Option<Refused> {
 /// What differed, if the step found a link fault by taking a checkp.
 fn finding(aim: Option<Aim>, event: Event) -> Option<Finding> {
     let aim = aim?;
-    let found = matches!(event, Event::LinkFault { .. } | Event::Crash(Crash::CutOffByLinkFault));
+    let found = matches!(event, Event::LinkFault(_) | Event::Crash(Crash::CutOffByLinkFault));
     match aim.packet {
         Some(Packet::Checkp(sent)) if found && sent.crc == aim.taken.crc => {
             Some(Finding::CountAlone)

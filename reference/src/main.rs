@@ -7,7 +7,7 @@ use reference::form::Form;
 use reference::listing::{listing, Tally};
 use reference::model::KINDS;
 use reference::ops;
-use reference::widened::{stands, with_two_outlets, LeftOut};
+use reference::widened::{stands, with_two_outlets, LeftOut, LAST_CARD};
 use std::collections::BTreeMap;
 use std::io::{self, Write};
 use std::path::{Path, PathBuf};
@@ -20,10 +20,10 @@ const USAGE: &str = "usage:
   reference evening DIR [--kinds K]
   reference compare PROGRAM [--plans] [--seed S] [--cases N] [--damage] [--kinds K]
   reference make OUT [--plans] [--seed S] [--cases N] [--damage] [--kinds K]
-  reference pack DIR OUT [--plans] [--from-01 | --from-kinds K] [--most N]
-  reference vectors DIR [--from-01 | --from-kinds K]
+  reference pack DIR OUT [--plans] [--from-01 | --from-card C] [--most N]
+  reference vectors DIR [--from-01 | --from-card C]
   reference bench [--seed S]
-K is from 10 to 14";
+K is from 10 to 14, C from 2 to 7";
 
 // ---------------------------------------------------------------- arguments
 
@@ -34,7 +34,7 @@ struct Options {
     form: Form,
     damage: bool,
     from_01: bool,
-    from_kinds: u8,
+    from_card: u8,
     most: usize,
     highest_kind: u8,
 }
@@ -49,7 +49,7 @@ impl Options {
                 "--plans" => options.form = Form::Plan,
                 "--damage" => options.damage = true,
                 "--from-01" => options.from_01 = true,
-                "--from-kinds" => options.from_kinds = kinds(&arguments.next()?)?,
+                "--from-card" => options.from_card = card(&arguments.next()?)?,
                 "--most" => options.most = arguments.next()?.parse().ok()?,
                 "--kinds" => options.highest_kind = kinds(&arguments.next()?)?,
                 other if other.starts_with("--") => return None,
@@ -75,7 +75,7 @@ impl Default for Options {
             form: Form::Steps,
             damage: false,
             from_01: false,
-            from_kinds: KINDS,
+            from_card: LAST_CARD,
             most: usize::MAX,
             highest_kind: KINDS,
         }
@@ -85,6 +85,11 @@ impl Default for Options {
 fn kinds(word: &str) -> Option<u8> {
     let number = word.parse().ok()?;
     (10..=KINDS).contains(&number).then_some(number)
+}
+
+fn card(word: &str) -> Option<u8> {
+    let number = word.parse().ok()?;
+    (2..=LAST_CARD).contains(&number).then_some(number)
 }
 
 fn main() -> ExitCode {
@@ -214,7 +219,7 @@ fn case_as_it_reads_now(
     Ok(if options.from_01 {
         with_two_outlets(form, &case, &text)
     } else {
-        stands(form, &case, &text, options.from_kinds).map(|()| (case, text))
+        stands(form, &case, &text, options.from_card).map(|()| (case, text))
     })
 }
 

@@ -1,5 +1,5 @@
-//! The charger group: cabinets, lines and store, the load of a group file and the thirteen
-//! kinds of step, numbered 1 to 14 without 9. Written from the scope document and the decisions
+//! The charger group of either packet version: cabinets, lines and store, the load of a group file
+//! and the thirteen kinds of step, numbered 1 to 14 without 9. Written from the scope document and the decisions
 //! alone; cabinet numbers are 1 to n here, as they are there.
 
 use std::collections::{BTreeSet, VecDeque};
@@ -57,10 +57,9 @@ pub struct Check {
 impl Check {
     const START: Check = Check { crc: CRC_START, count: 0 };
 
-    /// A normal packet runs through the CRC as its outlet's octet and its amount.
+    /// All octets of a normal packet run through the CRC, those of its own check too.
     fn and(self, charge: Charge) -> Check {
-        let [high, low] = charge.amount.to_be_bytes();
-        let crc = crc_octets(self.crc, &[charge.outlet.octet(), high, low]);
+        let crc = crc_octets(self.crc, &charge.octets());
         Check { crc, count: self.count.wrapping_add(1) }
     }
 }
@@ -137,11 +136,105 @@ impl Ends {
     }
 }
 
-/// What a normal packet carries: the receiving outlet and an amount for it.
+// ---------------------------------------------------------------- normal packets
+
+/// How normal packets are made up, in the whole group; its file tells it.
+#[derive(Clone, Copy, PartialEq, Eq, PartialOrd, Ord, Debug)]
+pub enum PacketVersion {
+    One,
+    /// With a check of its own behind the amount.
+    Two,
+}
+
+/// A normal packet: the receiving outlet, an amount for it and, in version 2, the CRC of both.
 #[derive(Clone, Copy, PartialEq, Eq, Debug)]
 pub struct Charge {
     pub outlet: Outlet,
     pub amount: u16,
+    pub own_check: Option<u16>,
+}
+
+impl Charge {
+    /// As it is put.
+    pub fn new(version: PacketVersion, outlet: Outlet, amount: u16) -> Charge {
+        let plain = Charge { outlet, amount, own_check: None };
+        match version {
+            PacketVersion::One => plain,
+            PacketVersion::Two => Charge { own_check: Some(plain.right_check()), ..plain },
+        }
+    }
+
+    fn first_three_octets(self) -> [u8; 3] {
+        let [high, low] = self.amount.to_be_bytes();
+        [self.outlet.octet(), high, low]
+    }
+
+    fn octets(self) -> Vec<u8> {
+        let check = self.own_check.map(u16::to_be_bytes);
+        let check: &[u8] = check.as_ref().map_or(&[], |octets| octets);
+        [&self.first_three_octets(), check].concat()
+    }
+
+    fn right_check(self) -> u16 {
+        crc_octets(CRC_START, &self.first_three_octets())
+    }
+
+    /// Whether its own check is that of its first three octets; without one nothing is asked.
+    pub fn fits(self) -> bool {
+        self.own_check.is_none_or(|check| check == self.right_check())
+    }
+
+    /// The first octet is never hit.
+    pub(crate) fn hit_by(self, burst: Burst) -> Charge {
+        let Some(check) = self.own_check else {
+            return Charge { amount: self.amount ^ burst.pattern, ..self };
+        };
+        let [a, b] = self.amount.to_be_bytes();
+        let [c, d] = check.to_be_bytes();
+        let pattern = burst.on_four_octets().expect("a pattern outside the octets is refused");
+        let [a, b, c, d] = (u32::from_be_bytes([a, b, c, d]) ^ pattern).to_be_bytes();
+        let own_check = Some(u16::from_be_bytes([c, d]));
+        Charge { amount: u16::from_be_bytes([a, b]), own_check, ..self }
+    }
+}
+
+const MOST_OCTETS_SHIFTED: u8 = 2;
+
+/// What damage does to a normal packet: a pattern, shifted up by bits and by octets.
+#[derive(Clone, Copy, PartialEq, Eq, Debug)]
+pub struct Burst {
+    pub pattern: u16,
+    pub bits: u8,
+    pub octets: u8,
+}
+
+impl Burst {
+    /// The high four bits of a record's b and the high three of its p are the shifts.
+    pub fn of_fields(b: u8, p: u8, q: u16) -> Burst {
+        Burst { pattern: q, bits: p >> 5, octets: b >> 4 }
+    }
+
+    pub fn is_shifted(self) -> bool {
+        self.bits != 0 || self.octets != 0
+    }
+
+    /// As it falls on the octets behind a packet's first, if it stays within four of them.
+    pub fn on_four_octets(self) -> Option<u32> {
+        if self.octets > MOST_OCTETS_SHIFTED {
+            return None;
+        }
+        let shift = 8 * self.octets + self.bits;
+        u32::try_from(u64::from(self.pattern) << shift).ok()
+    }
+
+    /// Refusal 15.
+    fn refused_in(self, version: PacketVersion) -> bool {
+        let misplaced = match version {
+            PacketVersion::One => self.is_shifted(),
+            PacketVersion::Two => self.on_four_octets().is_none(),
+        };
+        self.pattern == 0 || misplaced
+    }
 }
 
 // ---------------------------------------------------------------- parts of a group
@@ -364,7 +457,7 @@ impl Cabinet {
         *next.expect("a cabinet stays in its own table")
     }
 
-    fn uses_line_to(&self, other: Number) -> bool {
+    pub(crate) fn uses_line_to(&self, other: Number) -> bool {
         self.links_in_use.contains(&other) && self.cabinets_in_use.contains(&other)
     }
 
@@ -413,6 +506,7 @@ pub struct Group {
     sound_links: BTreeSet<(Number, Number)>,
     lines: Vec<Vec<Line>>,
     slots: Vec<[Image; 2]>,
+    packet_version: PacketVersion,
     history: History,
 }
 
@@ -436,9 +530,37 @@ fn connected(members: &BTreeSet<Number>, links: &BTreeSet<(Number, Number)>) -> 
 
 // ---------------------------------------------------------------- load
 
-pub(crate) const HEADER_LENGTH: usize = 10;
 pub(crate) const CABINET_ENTRY_LENGTH: usize = 6;
 const LINK_ENTRY_LENGTH: usize = 2;
+
+/// Where a header has the offset of the cabinet table, and in version 2 its sixth number.
+const PLACE_OF_FIRST_OFFSET: usize = 4;
+const PLACE_OF_SIXTH_NUMBER: usize = 10;
+const SIXTH_NUMBER: usize = 2;
+
+impl PacketVersion {
+    pub(crate) fn header_length(self) -> usize {
+        match self {
+            PacketVersion::One => 10,
+            PacketVersion::Two => 12,
+        }
+    }
+
+    /// As the offset of the cabinet table tells it, be it right or not.
+    pub(crate) fn named_by(file: &[u8]) -> PacketVersion {
+        if number_at(file, PLACE_OF_FIRST_OFFSET) == PacketVersion::Two.header_length() {
+            PacketVersion::Two
+        } else {
+            PacketVersion::One
+        }
+    }
+
+    /// The two offsets and the length of a file with so many cabinets and links.
+    pub(crate) fn layout(self, n: usize, links: usize) -> [usize; 3] {
+        let link_table = self.header_length() + CABINET_ENTRY_LENGTH * n;
+        [self.header_length(), link_table, link_table + LINK_ENTRY_LENGTH * links]
+    }
+}
 
 struct CabinetEntry {
     home: Number,
@@ -447,26 +569,30 @@ struct CabinetEntry {
     booking_b: u16,
 }
 
-fn number_at(octets: &[u8], offset: usize) -> usize {
+pub(crate) fn number_at(octets: &[u8], offset: usize) -> usize {
     usize::from(u16::from_be_bytes([octets[offset], octets[offset + 1]]))
 }
 
-/// Refusals 1 to 3; answers n.
-fn load_header(file: &[u8]) -> Result<usize, u8> {
-    if file.len() < HEADER_LENGTH {
+/// Refusals 1 to 3; answers n and the packet version.
+fn load_header(file: &[u8]) -> Result<(usize, PacketVersion), u8> {
+    if file.len() < PacketVersion::One.header_length() {
         return Err(1);
     }
     let n = number_at(file, 0);
     if !(2..=8).contains(&n) {
         return Err(2);
     }
-    let link_table = HEADER_LENGTH + CABINET_ENTRY_LENGTH * n;
-    let length = link_table + LINK_ENTRY_LENGTH * number_at(file, 2);
-    let stated = [4, 6, 8].map(|offset| number_at(file, offset));
-    if stated != [HEADER_LENGTH, link_table, length] || file.len() != length {
+    let version = PacketVersion::named_by(file);
+    let layout = version.layout(n, number_at(file, 2));
+    let stated = [PLACE_OF_FIRST_OFFSET, 6, 8].map(|offset| number_at(file, offset));
+    if stated != layout || file.len() != layout[2] {
         return Err(3);
     }
-    Ok(n)
+    let two = version == PacketVersion::Two;
+    if two && number_at(file, PLACE_OF_SIXTH_NUMBER) != SIXTH_NUMBER {
+        return Err(3);
+    }
+    Ok((n, version))
 }
 
 fn cabinet_entries(table: &[u8]) -> Vec<CabinetEntry> {
@@ -499,9 +625,9 @@ fn link_entries_sound(entries: &[(Number, Number)], n: usize) -> bool {
 
 /// The group of a group file, or the number of the refusal.
 pub fn load(file: &[u8]) -> Result<Group, u8> {
-    let n = load_header(file)?;
-    let link_table = HEADER_LENGTH + CABINET_ENTRY_LENGTH * n;
-    let entries = cabinet_entries(&file[HEADER_LENGTH..link_table]);
+    let (n, version) = load_header(file)?;
+    let link_table = version.header_length() + CABINET_ENTRY_LENGTH * n;
+    let entries = cabinet_entries(&file[version.header_length()..link_table]);
     if !cabinet_entries_sound(&entries) {
         return Err(4);
     }
@@ -517,10 +643,14 @@ pub fn load(file: &[u8]) -> Result<Group, u8> {
     if entries.iter().map(booked).sum::<u32>() > 65_535 {
         return Err(7);
     }
-    Ok(starting_group(&entries, links))
+    Ok(starting_group(version, &entries, links))
 }
 
-fn starting_group(entries: &[CabinetEntry], links: BTreeSet<(Number, Number)>) -> Group {
+fn starting_group(
+    packet_version: PacketVersion,
+    entries: &[CabinetEntry],
+    links: BTreeSet<(Number, Number)>,
+) -> Group {
     let n = entries.len();
     let cabinets: Vec<Cabinet> =
         (1..=n).map(|number| starting_cabinet(number, n, &entries[number - 1], &links)).collect();
@@ -530,6 +660,7 @@ fn starting_group(entries: &[CabinetEntry], links: BTreeSet<(Number, Number)>) -
         file_links: links.clone(),
         sound_links: links,
         lines: vec![vec![Line::default(); n]; n],
+        packet_version,
         history: History::default(),
     }
 }
@@ -576,7 +707,7 @@ pub enum Step {
     Fetch(Number),
     Restored(Number),
     Fail(Number),
-    Damage { from: Number, to: Number, place: u8, pattern: u16 },
+    Damage { from: Number, to: Number, place: u8, burst: Burst },
     Lose { from: Number, to: Number, place: u8 },
     Trip(Number),
     Unsure(Number),
@@ -595,7 +726,7 @@ pub fn decode(record: &[u8], highest_kind: u8) -> Result<Step, u8> {
     if (!names_b && b != 0) || (!names_p && p != 0) || (!names_q && q != 0) {
         return Err(9);
     }
-    step_of_fields(kind, usize::from(a), usize::from(b), p, q).ok_or(8)
+    step_of_fields(kind, usize::from(a), b, p, q).ok_or(8)
 }
 
 /// Whether a kind names b, p and q. All kinds name a.
@@ -609,19 +740,28 @@ pub fn fields_named(kind: u8) -> (bool, bool, bool) {
     }
 }
 
-fn step_of_fields(kind: u8, a: Number, b: Number, p: u8, q: u16) -> Option<Step> {
+/// The cabinet that a damage's b names, and the place that its p names.
+pub(crate) fn line_end_and_place(b: u8, p: u8) -> (Number, u8) {
+    (usize::from(b & 0x0F), p & 0x1F)
+}
+
+fn step_of_fields(kind: u8, a: Number, b: u8, p: u8, q: u16) -> Option<Step> {
+    let to = usize::from(b);
     Some(match kind {
-        1 => Step::Send { from: a, to: b, outlets: p, amount: q },
+        1 => Step::Send { from: a, to, outlets: p, amount: q },
         2 => Step::Note { at: a, octet: p, value: q },
         3 => Step::Begin(a),
-        4 => Step::Deliver { from: a, to: b },
+        4 => Step::Deliver { from: a, to },
         5 => Step::Write(a),
         6 => Step::Saved(a),
         7 => Step::Fetch(a),
         8 => Step::Restored(a),
         10 => Step::Fail(a),
-        11 => Step::Damage { from: a, to: b, place: p, pattern: q },
-        12 => Step::Lose { from: a, to: b, place: p },
+        11 => {
+            let (to, place) = line_end_and_place(b, p);
+            Step::Damage { from: a, to, place, burst: Burst::of_fields(b, p, q) }
+        }
+        12 => Step::Lose { from: a, to, place: p },
         13 => Step::Trip(a),
         14 => Step::Unsure(a),
         _ => return None,
@@ -669,14 +809,23 @@ pub enum Event {
     RecoveryEnd {
         save_passed_over: bool,
     },
-    LinkFault {
-        by_comparison: bool,
-    },
+    LinkFault(Sign),
     /// The last report came, and the coordinator went back to its old version.
     Decision {
         by: Number,
     },
     Crash(Crash),
+}
+
+/// What told a link fault.
+#[derive(Clone, Copy, PartialEq, Eq, PartialOrd, Ord, Debug)]
+pub enum Sign {
+    /// That of a checkp, unequal to the receiver's.
+    CheckValue,
+    /// That of a normal packet.
+    OwnCheck,
+    /// An invalid packet, or a normal one in a state that takes none.
+    WrongPacket,
 }
 
 #[derive(Clone, Copy, PartialEq, Eq, Debug)]
@@ -704,6 +853,10 @@ pub enum Crash {
 // ---------------------------------------------------------------- looking at a group
 
 impl Group {
+    pub fn packet_version(&self) -> PacketVersion {
+        self.packet_version
+    }
+
     pub fn size(&self) -> usize {
         self.cabinets.len()
     }
@@ -825,9 +978,7 @@ impl Group {
             Step::Restored(a) => self.restored_refusal(a),
             Step::Unsure(a) => self.unsure_refusal(a),
             Step::Fail(_) | Step::Trip(_) => None,
-            Step::Damage { from, to, place, pattern } => {
-                self.damage_refusal(from, to, place, pattern)
-            }
+            Step::Damage { from, to, place, burst } => self.damage_refusal(from, to, place, burst),
             Step::Lose { from, to, place } => self.loss_refusal(from, to, place),
         }
     }
@@ -912,14 +1063,14 @@ impl Group {
         self.cabinets.iter().filter(|c| c.working()).all(Cabinet::waits)
     }
 
-    fn damage_refusal(&self, from: Number, to: Number, place: u8, pattern: u16) -> Option<u8> {
+    fn damage_refusal(&self, from: Number, to: Number, place: u8, burst: Burst) -> Option<u8> {
         let line = self.line(from, to);
         let packet = line.packets.get(usize::from(place));
         let normal = matches!(packet, Some(Packet::Normal(_)));
         first_refusal(&[
             (13, !self.link_in_file(from, to)),
             (18, packet.is_none()),
-            (15, pattern == 0),
+            (15, burst.refused_in(self.packet_version)),
             (20, normal && line.hurt),
         ])
     }
@@ -978,8 +1129,8 @@ impl Group {
             Step::Fetch(a) => self.fetch_piece(a),
             Step::Restored(a) => return Ok(self.report_restored(a)),
             Step::Fail(a) => self.fail(a)?,
-            Step::Damage { from, to, place, pattern } => {
-                self.damage(from, to, usize::from(place), pattern)?;
+            Step::Damage { from, to, place, burst } => {
+                self.damage(from, to, usize::from(place), burst)?;
             }
             Step::Lose { from, to, place } => self.lose(from, to, usize::from(place))?,
             Step::Trip(a) => self.trip(a)?,
@@ -1001,7 +1152,7 @@ impl Group {
     }
 
     fn send(&mut self, from: Number, to: Number, ends: Ends, amount: u16) {
-        let charge = Charge { outlet: ends.receiving(), amount };
+        let charge = Charge::new(self.packet_version, ends.receiving(), amount);
         let sender = self.cabinet_mut(from);
         sender.set_booking(ends.sending(), sender.booking(ends.sending()) - amount);
         let check = &mut sender.sent_check[to - 1];
@@ -1045,12 +1196,10 @@ impl Group {
         let state = self.cabinet(to).state;
         match packet {
             Packet::Normal(charge) if self.accepts_normal(from, to) => {
-                self.add_amount(from, to, charge);
-                return Ok(Event::Added(charge.outlet));
+                return self.receive_normal(from, to, charge);
             }
             Packet::Normal(_) | Packet::Invalid => {
-                self.find_link_fault(from, to)?;
-                return Ok(Event::LinkFault { by_comparison: false });
+                return self.find_link_fault(from, to, Sign::WrongPacket);
             }
             Packet::Checkp(sent) if matches!(state, State::Normal | State::CheckpBegin) => {
                 return self.receive_checkp(from, to, sent);
@@ -1074,8 +1223,16 @@ impl Group {
         }
     }
 
+    fn receive_normal(&mut self, from: Number, to: Number, charge: Charge) -> Result<Event, Crash> {
+        if !charge.fits() {
+            return self.find_link_fault(from, to, Sign::OwnCheck);
+        }
+        self.add_amount(from, to, charge);
+        Ok(Event::Added(charge.outlet))
+    }
+
     fn add_amount(&mut self, from: Number, to: Number, charge: Charge) {
-        let Charge { outlet, amount } = charge;
+        let Charge { outlet, amount, .. } = charge;
         let receiver = self.cabinet_mut(to);
         receiver.set_booking(outlet, receiver.booking(outlet).wrapping_add(amount));
         let check = &mut receiver.taken_check[from - 1];
@@ -1127,8 +1284,7 @@ impl Group {
 
     fn receive_checkp(&mut self, from: Number, to: Number, sent: Check) -> Result<Event, Crash> {
         if self.cabinet(to).taken_check[from - 1] != sent {
-            self.find_link_fault(from, to)?;
-            return Ok(Event::LinkFault { by_comparison: true });
+            return self.find_link_fault(from, to, Sign::CheckValue);
         }
         self.restart_receiver(from, to);
         if self.cabinet(to).state == State::Normal {
@@ -1265,14 +1421,14 @@ impl Group {
         }
     }
 
-    fn find_link_fault(&mut self, from: Number, to: Number) -> Result<(), Crash> {
+    fn find_link_fault(&mut self, from: Number, to: Number, sign: Sign) -> Result<Event, Crash> {
         if self.crashes_without_link(from, to) {
             return Err(Crash::CutOffByLinkFault);
         }
         let (low, high) = link_between(from, to);
         self.sound_links.remove(&(low, high));
         self.enter_error(to, Place::Link(low, high));
-        Ok(())
+        Ok(Event::LinkFault(sign))
     }
 
     fn enter_error(&mut self, a: Number, place: Place) {
@@ -1373,14 +1529,14 @@ impl Group {
         from: Number,
         to: Number,
         place: usize,
-        pattern: u16,
+        burst: Burst,
     ) -> Result<(), Crash> {
         if self.recovery_under_way() {
             return Err(Crash::DamageInRecovery);
         }
         let line = self.line_mut(from, to);
         if let Packet::Normal(charge) = &mut line.packets[place] {
-            charge.amount ^= pattern;
+            *charge = charge.hit_by(burst);
             line.hurt = true;
         } else {
             line.packets[place] = Packet::Invalid;
@@ -1552,7 +1708,7 @@ mod tests {
 
     #[test]
     fn packets_are_counted_modulo_65536() {
-        let charge = Charge { outlet: A, amount: 1 };
+        let charge = Charge::new(PacketVersion::One, A, 1);
         let checks = std::iter::successors(Some(Check::START), |check| Some(check.and(charge)));
         let counts: Vec<u16> = checks.map(|check| check.count).take(65_538).collect();
         assert_eq!(counts[..3], [0, 1, 2]);
@@ -1664,7 +1820,7 @@ mod tests {
         let mut group = group_of_both(&[[100, 200], [10, 20]]);
         let hurt = [11, 1, 2, 0, 0x01, 0x01];
         assert_eq!(answers(&mut group, &[send_by(1, 7), hurt]), [0, 0]);
-        let charge = Charge { outlet: B, amount: 7 ^ 0x0101 };
+        let charge = Charge::new(PacketVersion::One, B, 7 ^ 0x0101);
         assert_eq!(group.line(1, 2).packets[0], Packet::Normal(charge));
         assert_eq!(group.step(&deliver(1, 2), KINDS).event, Event::Added(B));
         assert_eq!(bookings(&group)[1], [10, 20 + (7 ^ 0x0101)]);

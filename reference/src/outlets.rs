@@ -3,8 +3,10 @@
 
 use crate::aim::Aim;
 use crate::listing::{add_counts, count, counts_text};
-use crate::model::{self, Cabinet, Ends, Event, Group, Number, Outcome, Outlet, Packet, TAKEN};
-use crate::model::{CABINET_ENTRY_LENGTH, HEADER_LENGTH};
+use crate::model::{
+    self, Cabinet, Ends, Event, Group, Number, Outcome, Outlet, Packet, PacketVersion, Sign,
+    CABINET_ENTRY_LENGTH, TAKEN,
+};
 use std::collections::BTreeMap;
 use std::fmt::Write;
 
@@ -59,7 +61,7 @@ impl OutletCounts {
             Event::RecoveryEnd { .. } => {
                 self.recoveries_changing_b += u64::from(watch.b_has_changed(group));
             }
-            Event::LinkFault { by_comparison: true } => {
+            Event::LinkFault(Sign::CheckValue) => {
                 if let Some(outlet) = watch.hurt_on_line_of(record) {
                     count(&mut self.faults_by_comparison, outlet);
                 }
@@ -120,7 +122,8 @@ fn cover(sender: &Cabinet, outlet: Outlet, amount: u16) -> Option<Cover> {
 fn loads_without_b(group_file: &[u8]) -> bool {
     let mut file = group_file.to_vec();
     let n = usize::from(file[1]);
-    for entry in file[HEADER_LENGTH..].chunks_mut(CABINET_ENTRY_LENGTH).take(n) {
+    let header_length = PacketVersion::named_by(&file).header_length();
+    for entry in file[header_length..].chunks_mut(CABINET_ENTRY_LENGTH).take(n) {
         entry[4..].fill(0);
     }
     model::load(&file).is_ok()

@@ -1,6 +1,8 @@
 //! Groups, records and ways to bring a group on, for the tests of more than one part.
 
-use crate::model::{load, Event, Group, Number, Outlet, Packet, State, KINDS, TAKEN};
+use crate::model::{
+    load, Event, Group, Number, Outlet, Packet, PacketVersion, State, KINDS, TAKEN,
+};
 
 pub(crate) type Record = [u8; 6];
 
@@ -10,17 +12,30 @@ pub(crate) const ROW_OF_FOUR: &[(u8, u8)] = &[(1, 2), (2, 3), (3, 4)];
 pub(crate) const ALL_OF_FOUR: &[(u8, u8)] = &[(1, 2), (1, 3), (1, 4), (2, 3), (2, 4), (3, 4)];
 
 /// As many cabinets as bookings at A; one of them is the store of all.
-pub(crate) fn group(bookings: &[u16], store: u8, links: &[(u8, u8)]) -> Group {
-    let link_table = 10 + 6 * bookings.len();
+pub(crate) fn group_file(
+    version: PacketVersion,
+    bookings: &[u16],
+    store: u8,
+    links: &[(u8, u8)],
+) -> Vec<u8> {
+    let header_length = if version == PacketVersion::Two { 12 } else { 10 };
+    let link_table = header_length + 6 * bookings.len();
     let length = link_table + 2 * links.len();
-    let header = [bookings.len(), links.len(), 10, link_table, length];
+    let header = [bookings.len(), links.len(), header_length, link_table, length, 2];
     let mut file: Vec<u8> =
         header.iter().flat_map(|&number| (number as u16).to_be_bytes()).collect();
+    file.truncate(header_length);
     for (number, booking) in (1..).zip(bookings) {
         let [high, low] = booking.to_be_bytes();
         file.extend_from_slice(&[store, u8::from(number == store), high, low, 0, 0]);
     }
     file.extend(links.iter().flat_map(|&(low, high)| [low, high]));
+    file
+}
+
+/// Of packet version 1.
+pub(crate) fn group(bookings: &[u16], store: u8, links: &[(u8, u8)]) -> Group {
+    let file = group_file(PacketVersion::One, bookings, store, links);
     load(&file).expect("the file is sound")
 }
 

@@ -119,7 +119,7 @@ impl TripCounts {
         };
         match event {
             Event::Commit => self.commits += 1,
-            Event::LinkFault { .. } => self.link_faults += 1,
+            Event::LinkFault(_) => self.link_faults += 1,
             Event::Crash(Crash::PlacesMet) => self.places_met += 1,
             Event::RecoveryEnd { save_passed_over } => {
                 self.recoveries_ended += 1;

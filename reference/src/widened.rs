@@ -1,17 +1,30 @@
 //! Cases of document 01, whose cabinets have one outlet, as cases of card 2: a second outlet
 //! with nothing booked stands in each entry of the file and in each line of a cabinet, and no
 //! note is taken where its booking is now. And which cases of earlier cards still stand, now that
-//! kinds of step have come and one has gone. All by rule; the model is not asked.
+//! kinds of step have come and one has gone, and that damage and the first offset of a file say
+//! more. All by rule; the model is not asked.
 
 use crate::cases::{Case, Record};
 use crate::form::Form;
 use crate::model::{KINDS, WITHDRAWN_KIND};
 
-/// The highest kind of step of document 01 by itself.
-const KINDS_OF_01: u8 = 11;
+/// Document 01 by itself, and the one whose rules the model has.
+const NO_CARD: u8 = 1;
+pub const LAST_CARD: u8 = 7;
 
-/// The kind that came when one was withdrawn.
-const IN_ITS_PLACE: u8 = 14;
+/// Those that withdrew a kind of step, and that brought packets with their own check.
+const CARD_OF_WITHDRAWAL: u8 = 6;
+const CARD_OF_OWN_CHECKS: u8 = 7;
+
+/// The highest kind of step once this card has landed.
+fn kinds_of_card(card: u8) -> u8 {
+    match card {
+        0..=2 => 11,
+        3 | 4 => 12,
+        5 => 13,
+        _ => KINDS,
+    }
+}
 
 const HEADER_LENGTH: usize = 10;
 const ENTRY_OF_ONE_OUTLET: usize = 4;
@@ -30,25 +43,36 @@ pub enum LeftOut {
     RecordOfNewKind,
     /// A record of a kind that was known then: it answers 8 now and never did.
     RecordOfWithdrawnKind,
+    /// A damage whose b or p has bits that are shifts now.
+    DamageNamesShifts,
+    /// A file whose first offset is that of packet version 2.
+    NamesPacketVersionTwo,
 }
 
-/// Whether a case from when kinds above `highest_then` were unknown stands as it is.
-pub fn stands(form: Form, case: &Case, text: &str, highest_then: u8) -> Result<(), LeftOut> {
+/// Whether a case from when no card after this one had landed stands as it is.
+pub fn stands(form: Form, case: &Case, text: &str, card: u8) -> Result<(), LeftOut> {
+    if card < CARD_OF_OWN_CHECKS && case.group.get(4..6) == Some(&[0, 12]) {
+        return Err(LeftOut::NamesPacketVersionTwo);
+    }
     if text.starts_with("load ") {
         return Ok(());
     }
-    kinds_stand(&form.steps(case), highest_then)
+    steps_stand(&form.steps(case), card)
 }
 
 /// A record that is too short is no step.
-fn kinds_stand(steps: &[Option<Record>], highest_then: u8) -> Result<(), LeftOut> {
+fn steps_stand(steps: &[Option<Record>], card: u8) -> Result<(), LeftOut> {
     let mut kinds = steps.iter().flatten().map(|record| record[0]);
-    let new = |kind: u8| highest_then < kind && kind <= KINDS;
+    let new = |kind: u8| kinds_of_card(card) < kind && kind <= KINDS;
     if kinds.clone().any(new) {
         return Err(LeftOut::RecordOfNewKind);
     }
-    if highest_then < IN_ITS_PLACE && kinds.any(|kind| kind == WITHDRAWN_KIND) {
+    if card < CARD_OF_WITHDRAWAL && kinds.any(|kind| kind == WITHDRAWN_KIND) {
         return Err(LeftOut::RecordOfWithdrawnKind);
+    }
+    let shifts = |&[kind, _, b, p, ..]: &Record| kind == 11 && (b > 15 || p > 31);
+    if card < CARD_OF_OWN_CHECKS && steps.iter().flatten().any(shifts) {
+        return Err(LeftOut::DamageNamesShifts);
     }
     Ok(())
 }
@@ -57,6 +81,9 @@ fn kinds_stand(steps: &[Option<Record>], highest_then: u8) -> Result<(), LeftOut
 /// file that is refused is read, so nothing is asked of those.
 pub fn with_two_outlets(form: Form, case: &Case, text: &str) -> Result<(Case, String), LeftOut> {
     let with_file = |group: Vec<u8>| Case { group, steps: case.steps.clone() };
+    if case.group.get(4..6) == Some(&[0, 12]) {
+        return Err(LeftOut::NamesPacketVersionTwo);
+    }
     match text.strip_prefix("load ").map(str::trim_end) {
         Some("3") if right_by_new_offsets(&case.group) => Err(LeftOut::RightByNewOffsets),
         Some("1" | "2" | "3") => Ok((case.clone(), text.to_string())),
@@ -66,7 +93,7 @@ pub fn with_two_outlets(form: Form, case: &Case, text: &str) -> Result<(Case, St
             if steps.iter().flatten().any(|&[kind, _, _, p, ..]| kind == 1 && p != 0) {
                 return Err(LeftOut::SendNamesOutlets);
             }
-            kinds_stand(&steps, KINDS_OF_01)?;
+            steps_stand(&steps, NO_CARD)?;
             Ok((with_file(widened_file(&case.group)), widened_text(&steps, text)))
         }
     }
@@ -240,26 +267,27 @@ mod tests {
 
     const NEW_KIND: Result<(), LeftOut> = Err(LeftOut::RecordOfNewKind);
     const WITHDRAWN: Result<(), LeftOut> = Err(LeftOut::RecordOfWithdrawnKind);
+    const SHIFTS: Result<(), LeftOut> = Err(LeftOut::DamageNamesShifts);
 
-    fn stands_since(highest_then: u8, form: Form, steps: &[u8], text: &str) -> Result<(), LeftOut> {
+    fn stands_since(card: u8, form: Form, steps: &[u8], text: &str) -> Result<(), LeftOut> {
         let case = Case { group: GROUP.to_vec(), steps: steps.to_vec() };
-        stands(form, &case, text, highest_then)
+        stands(form, &case, text, card)
     }
 
     #[test]
     fn a_case_with_a_record_of_a_new_kind_is_left_out() {
-        for kind in 12..=KINDS {
+        for (kind, card) in [(12, 3), (13, 5), (14, 6)] {
             let records = [[4, 1, 2, 0, 0, 0], [kind, 9, 0, 0, 0, 1]];
             let text = "step 1 18\nstep 2 8\n";
             assert_eq!(converted(&records, text).map(|_| ()), NEW_KIND);
             let steps = records.concat();
-            assert_eq!(stands_since(kind - 1, Form::Steps, &steps, text), NEW_KIND);
-            assert_eq!(stands_since(kind, Form::Steps, &steps, text), Ok(()));
-            assert_eq!(stands_since(kind - 1, Form::Steps, &steps, "load 4\n"), Ok(()));
-            assert_eq!(stands_since(kind - 1, Form::Steps, &steps[6..11], "step 1 8\n"), Ok(()));
+            assert_eq!(stands_since(card - 1, Form::Steps, &steps, text), NEW_KIND);
+            assert_eq!(stands_since(card, Form::Steps, &steps, text), Ok(()));
+            assert_eq!(stands_since(card - 1, Form::Steps, &steps, "load 4\n"), Ok(()));
+            assert_eq!(stands_since(card - 1, Form::Steps, &steps[6..11], "step 1 8\n"), Ok(()));
         }
         let unknown = [KINDS + 1, 1, 0, 0, 0, 0];
-        assert_eq!(stands_since(11, Form::Steps, &unknown, "step 1 8\n"), Ok(()));
+        assert_eq!(stands_since(2, Form::Steps, &unknown, "step 1 8\n"), Ok(()));
     }
 
     #[test]
@@ -268,12 +296,12 @@ mod tests {
         let steps = records.concat();
         let text = "step 1 18\nstep 2 14\n";
         assert_eq!(converted(&records, text).map(|_| ()), WITHDRAWN);
-        for highest_then in [11, 12, 13] {
-            assert_eq!(stands_since(highest_then, Form::Steps, &steps, text), WITHDRAWN);
-            assert_eq!(stands_since(highest_then, Form::Steps, &steps[..11], text), Ok(()));
-            assert_eq!(stands_since(highest_then, Form::Steps, &steps, "load 4\n"), Ok(()));
+        for card in [2, 3, 5] {
+            assert_eq!(stands_since(card, Form::Steps, &steps, text), WITHDRAWN);
+            assert_eq!(stands_since(card, Form::Steps, &steps[..11], text), Ok(()));
+            assert_eq!(stands_since(card, Form::Steps, &steps, "load 4\n"), Ok(()));
         }
-        assert_eq!(stands_since(14, Form::Steps, &steps, text), Ok(()));
+        assert_eq!(stands_since(6, Form::Steps, &steps, text), Ok(()));
     }
 
     #[test]
@@ -281,11 +309,36 @@ mod tests {
         let plan = |first: u8, kind: u8, last: u8| [first, kind, 1, 2, 0, 0, 0, 0, last];
         for (kind, left_out) in [(12, NEW_KIND), (9, WITHDRAWN)] {
             let stands =
-                |first, last| stands_since(11, Form::Plan, &plan(first, kind, last), "step 1 8\n");
+                |first, last| stands_since(2, Form::Plan, &plan(first, kind, last), "step 1 8\n");
             assert_eq!(stands(0, 0), left_out);
             for (first, last) in [(0, 1), (1, 0), (2, 0), (3, 0)] {
                 assert_eq!(stands(first, last), Ok(()));
             }
         }
+    }
+
+    #[test]
+    fn a_case_whose_damage_names_shifts_is_left_out() {
+        for (b, p, left_out) in [(16, 0, SHIFTS), (2, 32, SHIFTS), (15, 31, Ok(()))] {
+            let record = [11, 1, b, p, 0, 1];
+            assert_eq!(converted(&[record], "step 1 18\n").map(|_| ()), left_out);
+            for card in [2, 3, 5, 6] {
+                assert_eq!(stands_since(card, Form::Steps, &record, "step 1 18\n"), left_out);
+                assert_eq!(stands_since(card, Form::Steps, &record, "load 4\n"), Ok(()));
+            }
+            assert_eq!(stands_since(LAST_CARD, Form::Steps, &record, "step 1 15\n"), Ok(()));
+            let loss = [12, 1, b, p, 0, 0];
+            assert_eq!(stands_since(6, Form::Steps, &loss, "step 1 18\n"), Ok(()));
+        }
+    }
+
+    #[test]
+    fn a_file_that_names_packet_version_two_is_left_out() {
+        let (old, new) = changed_files(5, 5, 12);
+        let left_out = Err(LeftOut::NamesPacketVersionTwo);
+        assert_eq!(converted_file(&old, "load 3\n").map(|_| ()), left_out);
+        let case = Case { group: new, steps: Vec::new() };
+        assert_eq!(stands(Form::Steps, &case, "load 3\n", 6), left_out);
+        assert_eq!(stands(Form::Steps, &case, "load 3\n", LAST_CARD), Ok(()));
     }
 }

@@ -7,13 +7,14 @@ use reference::evening::Sight;
 use reference::form::Form;
 use reference::listing::Tally;
 use reference::losses::{Finding, Refused};
-use reference::model::{Crash, KINDS};
+use reference::model::{Crash, PacketVersion, State, KINDS};
+use reference::own_checks::{Dropped, Found, Hit, Misfit, Mixed};
 use reference::trips::Between;
 use reference::unsure::{Lost, Refusal};
 
 const WISHES: Wishes = Wishes { damage: true, highest_kind: KINDS, cabinets: None };
-const MADE: Row = Row { form: Form::Steps, seed: 1215, cases: 200, wishes: WISHES };
-const PLANNED: Row = Row { form: Form::Plan, seed: 679, cases: 100, wishes: WISHES };
+const MADE: Row = Row { form: Form::Steps, seed: 4915, cases: 200, wishes: WISHES };
+const PLANNED: Row = Row { form: Form::Plan, seed: 5323, cases: 100, wishes: WISHES };
 
 const GROUP_MOST: usize = 4_096;
 const RECORDS_MOST: usize = 90_180;
@@ -46,22 +47,12 @@ fn counted(row: Row) -> Tally {
     tally
 }
 
-/// The names of the counts at which nothing is counted.
-fn not_reached(tally: &Tally) -> Vec<&'static str> {
-    let (outlets, losses, trips) = (&tally.outlets, &tally.losses, &tally.trips);
-    let unsure = &tally.unsure;
+/// A name, and whether something is counted there.
+type Reached = (&'static str, bool);
+
+fn of_steps(tally: &Tally) -> Vec<Reached> {
     let answers = [0, 8, 9, 10, 11, 12, 13, 14, 15, 16, 17, 18, 19, 20, 50];
-    let findings = [Finding::Crc, Finding::CountAlone];
-    let trip_crashes = [
-        Crash::FailInRecovery,
-        Crash::CutOffByFail,
-        Crash::StoreTripped,
-        Crash::TripInRecovery,
-        Crash::CutOffByTrip,
-    ];
-    let between = [Between::Commit, Between::CommitPassedOver];
-    let lost = [Lost::Failed, Lost::Tripped];
-    let reached = [
+    vec![
         ("loads refused", tally.loads_refused.keys().eq(&[1, 2, 3, 4, 5, 6, 7])),
         ("answers", tally.answers.keys().eq(&answers)),
         ("kinds taken", tally.kinds_taken.len() == usize::from(KINDS) - 1),
@@ -70,6 +61,15 @@ fn not_reached(tally: &Tally) -> Vec<&'static str> {
         ("saves passed over", tally.saves_passed_over > 0),
         ("link faults", tally.link_faults > 0),
         ("crashes", tally.crashes.len() == 10),
+        ("points", tally.point_answers.keys().eq(&[0, 10, 22, 23])),
+        ("returns", tally.return_answers.keys().eq(&[0, 10, 21, 22])),
+        ("sights", tally.sights.keys().eq(&Sight::ALL)),
+    ]
+}
+
+fn of_outlets(tally: &Tally) -> Vec<Reached> {
+    let outlets = &tally.outlets;
+    vec![
         ("sends by outlets", outlets.sends_taken.len() == 4),
         ("packets by outlet", outlets.packets_taken.len() == 2),
         ("sends refused for p", outlets.sends_refused_for_p > 0),
@@ -78,6 +78,13 @@ fn not_reached(tally: &Tally) -> Vec<&'static str> {
         ("recoveries changing B", outlets.recoveries_changing_b > 0),
         ("comparisons by outlet", outlets.faults_by_comparison.len() == 2),
         ("loads refused for B", outlets.loads_refused_for_b > 0),
+    ]
+}
+
+fn of_losses(tally: &Tally) -> Vec<Reached> {
+    let losses = &tally.losses;
+    let findings = [Finding::Crc, Finding::CountAlone];
+    vec![
         ("losses", losses.taken > 0 && losses.taken_before_others > 0),
         ("losses refused", losses.refused.keys().eq(&Refused::ALL)),
         ("losses found", losses.found.keys().eq(&findings)),
@@ -85,13 +92,27 @@ fn not_reached(tally: &Tally) -> Vec<&'static str> {
         ("crashes by a loss", losses.crashes > 0),
         ("recoveries after a loss", losses.recoveries_ended > 0),
         ("commits after that", losses.commits_after_recovery > 0),
+    ]
+}
+
+fn of_trips(tally: &Tally) -> Vec<Reached> {
+    let trips = &tally.trips;
+    let crashes = [
+        Crash::FailInRecovery,
+        Crash::CutOffByFail,
+        Crash::StoreTripped,
+        Crash::TripInRecovery,
+        Crash::CutOffByTrip,
+    ];
+    let between = [Between::Commit, Between::CommitPassedOver];
+    vec![
         ("trips", trips.taken > 0 && trips.taken_in.len() == 4),
         ("trips of coordinators", trips.of_coordinators > 0),
         ("trips of others that join some", trips.of_joining_cabinets > 0),
         ("trips after two", trips.after_two.keys().eq(&between)),
         ("third trips", trips.taken_as_fails > 0 && trips.fails_of_coordinators > 0),
         ("trips refused", trips.refused.keys().eq(&[9, 10, 11, 12])),
-        ("crashes by trips", trips.crashes.keys().eq(&trip_crashes)),
+        ("crashes by trips", trips.crashes.keys().eq(&crashes)),
         ("recoveries after a trip", trips.recoveries_ended > 0),
         ("passed over by a trip", trips.saves_passed_over > 0),
         ("begins by a moved lead", trips.begins_by_moved_lead > 0),
@@ -101,6 +122,13 @@ fn not_reached(tally: &Tally) -> Vec<&'static str> {
         ("places met after a trip", trips.places_met > 0),
         ("commits after a trip", trips.commits > 0),
         ("reports after a trip", trips.reports > 0 && trips.reports_before_its > 0),
+    ]
+}
+
+fn of_reports_unsure(tally: &Tally) -> Vec<Reached> {
+    let unsure = &tally.unsure;
+    let lost = [Lost::Failed, Lost::Tripped];
+    vec![
         ("reports unsure", unsure.taken > 0 && unsure.of_tripped > 0),
         ("reports before all know", unsure.before_all_know > 0),
         ("reports at another place", unsure.at_another_place > 0),
@@ -112,16 +140,54 @@ fn not_reached(tally: &Tally) -> Vec<&'static str> {
         ("passed over by a decision", unsure.saves_passed_over > 0),
         ("recoveries by recover", unsure.recoveries_by_recover > 0),
         ("withdrawn kind", unsure.withdrawn > 0 && unsure.withdrawn_where_all_wait > 0),
-        ("points", tally.point_answers.keys().eq(&[0, 10, 22, 23])),
-        ("returns", tally.return_answers.keys().eq(&[0, 10, 21, 22])),
-        ("sights", tally.sights.keys().eq(&Sight::ALL)),
+    ]
+}
+
+fn of_own_checks(tally: &Tally) -> Vec<Reached> {
+    let counts = &tally.own_checks;
+    let hits = [
+        (PacketVersion::One, Hit::Amount),
+        (PacketVersion::Two, Hit::Amount),
+        (PacketVersion::Two, Hit::OwnCheck),
+        (PacketVersion::Two, Hit::Both),
     ];
-    reached.into_iter().filter(|(_, there)| !there).map(|(name, _)| name).collect()
+    let states = [State::Normal, State::CheckpBegin];
+    let dropped = [Dropped::InRecovery, Dropped::OverStruckLink];
+    vec![
+        ("packet versions", counts.groups.len() == 2),
+        ("mixed files", counts.loads_refused.keys().eq(&Mixed::ALL)),
+        ("packets damaged", counts.hit.keys().eq(&hits)),
+        ("fail-safe packets damaged with a shift", counts.fail_safe_hit > 0),
+        ("damage refused 15", counts.misfits.keys().eq(&Misfit::ALL)),
+        ("at fail-safe packets", counts.misfits_at_fail_safe > 0),
+        ("shifts refused", counts.refused_with_shift.keys().eq(&[10, 11, 13, 15, 18, 20])),
+        ("hurt amounts added", counts.hurt_amounts_added > 0),
+        ("hurts found", counts.found.keys().eq(&Found::ALL)),
+        ("hurts found with a crash", counts.crashes.keys().eq(&Found::ALL)),
+        ("hurts found on taking in", counts.found_on_taking_in.keys().eq(&states)),
+        ("hurt packets dropped", counts.dropped.keys().eq(&dropped)),
+        ("recoveries after hurts", several_of_each(tally)),
+        ("commits after that", counts.commits_after_recovery.keys().eq(&Found::ALL)),
+    ]
+}
+
+fn several_of_each(tally: &Tally) -> bool {
+    let ended = &tally.own_checks.recoveries_ended;
+    ended.keys().eq(&Found::ALL) && ended.values().all(|&recoveries| recoveries > 2)
+}
+
+/// The names of the counts at which nothing is counted.
+fn not_reached(tally: &Tally) -> Vec<&'static str> {
+    let parts = [of_steps, of_outlets, of_losses, of_trips, of_reports_unsure, of_own_checks];
+    let reached = parts.into_iter().flat_map(|part| part(tally));
+    reached.filter(|(_, there)| !there).map(|(name, _)| name).collect()
 }
 
 #[test]
 fn the_two_made_files_reach_everything() {
-    let mut tally = counted(MADE);
+    let made = counted(MADE);
+    assert!(several_of_each(&made));
+    let mut tally = made;
     tally.add(&counted(PLANNED));
     assert_eq!(not_reached(&tally), [""; 0]);
 }

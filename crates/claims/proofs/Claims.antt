@@ -8,5 +8,6 @@ pub mod Points
 pub mod During
 pub mod NoClock
 pub mod Fifo
+pub mod Versions
 pub mod Examples
 pub mod Instances

@@ -4,7 +4,7 @@ pub mod Fun
 pub mod Leading
 -- what every step keeps
 pub mod Every
-pub mod Counting
+pub mod Fixed
 -- the view
 pub mod View
 pub mod Cells

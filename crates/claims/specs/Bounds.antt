@@ -1,15 +1,18 @@
--- What document 01 asks of every run beside demand 3: that lines keep to their sizes and that additions do not wrap. That none is ever
--- too short is in `Fifo`.
+-- What the documents ask of every run beside demand 3: that the packet version stays and its packets are on the lines, that lines keep to
+-- their sizes and that additions do not wrap. That none is ever too short is in `Fifo`.
 use Prim.Native.Nat.{ℕ, _+_, _<_, _≤_}
 use mathlib.Core.Path.{_≡_}
 use mathlib.Core.Bool.{true, false}
 use mathlib.Core.List.{List, [], _∷_}
 use lib.ListN.{length}
+use Rattle.packet.specs.declared.PacketVersion.{PacketVersion}
+use Rattle.packet.specs.declared.PacketVersion.the-variants.{One, Two}
 use Rattle.packet.specs.declared.Payload.{Payload}
 use Rattle.packet.specs.declared.Packet.{Packet}
 use Rattle.packet.specs.declared.Packet.the-variants.{Empty, Normal as NormalPacket, Checkp, Resume, Recover, Fault, Invalid}
+use Rattle.packet.specs.Packet.{octetsOf}
 use Rattle.line.specs.declared.Cell.{Cell}
-use Rattle.line.specs.Line.{oldest, normals}
+use Rattle.line.specs.Line.{oldest, normals, packetAt}
 use Rattle.image.specs.Image.{booking}
 use Rattle.group.specs.declared.Group.{Group}
 use Rattle.group.specs.Group.{cabinet, line, isCrashed}
@@ -46,6 +49,22 @@ Always P =
 -- of every group that has not crashed, and its history
 abbrev pub Running : (Group → History → Type 0) → Type 0
 Running P = Always (λ g h. isCrashed g ≡ false → P g h)
+
+-- ---- the packet version
+
+-- document 02, card 7: "Groups of packet version 2": a group stays of the version that its file has
+abbrev pub VersionStays : Type 0
+VersionStays = (f : List ℕ) (xs : List Operation) → worldAfter f xs .group .packets ≡ load f .group .packets
+
+-- "A normal packet is three octets", and in version 2 has "two more"
+abbrev pub packetOctets : PacketVersion → ℕ
+packetOctets One = 3
+packetOctets Two = 5
+
+-- every normal packet that stands on a line, whole or hurt, has the octets of the group's version: so in version 2 each carries its own check
+abbrev pub PacketsOfVersion : Type 0
+PacketsOfVersion =
+    Always (λ g h. (a b k : ℕ) (p : Payload) → packetAt (line g a b) k ≡ NormalPacket p → length (octetsOf p) ≡ packetOctets (g .packets))
 
 -- ---- lines
 

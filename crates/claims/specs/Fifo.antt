@@ -42,20 +42,20 @@ isLine x y a b = eqb (x - 1) a && eqb (y - 1) b
 
 -- "deliver the oldest packet from a to b"; "damage the packet at place p (0 oldest) from a to b"; a send puts its packet last; lose
 -- "removes the normal packet at place p from a line"
-abbrev pub handled : Step → ℕ → ℕ → List Packet → List Packet
-handled (Send x y p q) a b l = cond (isLine x y a b) (l ++ NormalPacket (carried p q) ∷ []) l
-handled (Note x p q) a b l = l
-handled (Begin x) a b l = l
-handled (Deliver x y) a b l = cond (isLine x y a b) (drop 1 l) l
-handled (Write x) a b l = l
-handled (Saved x) a b l = l
-handled (Fetch x) a b l = l
-handled (Restored x) a b l = l
-handled (Fail x) a b l = l
-handled (Damage x y p q) a b l = cond (isLine x y a b) (set l p (damaged (getD l p Empty) q)) l
-handled (Lose x y p) a b l = cond (isLine x y a b) (take p l ++ drop (suc p) l) l
-handled (Trip x) a b l = l
-handled (Unsure x) a b l = l
+abbrev pub handled : Group → Step → ℕ → ℕ → List Packet → List Packet
+handled g (Send x y p q) a b l = cond (isLine x y a b) (l ++ NormalPacket (carried g p q) ∷ []) l
+handled g (Note x p q) a b l = l
+handled g (Begin x) a b l = l
+handled g (Deliver x y) a b l = cond (isLine x y a b) (drop 1 l) l
+handled g (Write x) a b l = l
+handled g (Saved x) a b l = l
+handled g (Fetch x) a b l = l
+handled g (Restored x) a b l = l
+handled g (Fail x) a b l = l
+handled g (Damage x y p w) a b l = cond (isLine x y a b) (set l p (damaged (getD l p Empty) w)) l
+handled g (Lose x y p) a b l = cond (isLine x y a b) (take p l ++ drop (suc p) l) l
+handled g (Trip x) a b l = l
+handled g (Unsure x) a b l = l
 
 -- ---- what a cabinet does, told by its state before the step and after it
 
@@ -103,7 +103,7 @@ cameFrom (Saved x) a b = false
 cameFrom (Fetch x) a b = false
 cameFrom (Restored x) a b = false
 cameFrom (Fail x) a b = false
-cameFrom (Damage x y p q) a b = false
+cameFrom (Damage x y p w) a b = false
 cameFrom (Lose x y p) a b = false
 cameFrom (Trip x) a b = false
 cameFrom (Unsure x) a b = false
@@ -126,7 +126,7 @@ emptied g g′ a b =
 
 abbrev pub lineAfter : Group → Group → Step → ℕ → ℕ → List Packet
 lineAfter g g′ s a b =
-    cond (emptied g g′ a b) [] (handled s a b (packets g a b))
+    cond (emptied g g′ a b) [] (handled g s a b (packets g a b))
     ++ cond (marked (inUse (cabinet g′ a)) b) (putBy (cabinet g a) (cabinet g′ a) s a b) []
 
 -- ---- the claims, of every run

@@ -51,8 +51,8 @@ CommitsWhole =
     EveryCommit (λ n total g h.
     Balanced (latest h) × ((c : ℕ) → c < n → (m : Image) × (imageNow h c ≡ some m)) × (savedTotal n h ≡ total))
 
--- "A save with a lost packet must never commit", nor one with a damaged packet: where a save is committed, no normal packet of any line was
--- hurt since the start or the last recovery's end
+-- "A save with a lost packet must never commit", and "Neither version may commit a hurt packet": where a save is committed, no normal packet
+-- of any line was hurt, damaged or lost, since the start or the last recovery's end
 abbrev pub CommitsUnhurt : Type 0
 CommitsUnhurt = EveryCommit (λ n total g h. (a b : ℕ) → h .hurt a b ≡ false)
 

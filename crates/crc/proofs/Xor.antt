@@ -18,7 +18,7 @@ xor-assoc =
     omega (arith, xor-add-and (bitXor n b) c, xor-add-and n b, xor-add-and n (bitXor b c), xor-add-and b c))
 
 -- the last two operands change places
-xor-swap : (a b c : ℕ) → bitXor (bitXor a b) c ≡ bitXor (bitXor a c) b
+pub xor-swap : (a b c : ℕ) → bitXor (bitXor a b) c ≡ bitXor (bitXor a c) b
 xor-swap a b c = xor-assoc a b c ∙ ap (bitXor a) (xor-comm b c) ∙ sym (xor-assoc a c b)
 
 -- the inner two of four operands change places

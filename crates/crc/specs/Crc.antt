@@ -12,9 +12,10 @@ polynomial = 0x1021
 abbrev pub start : ℕ
 start = 0xFFFF
 
--- one bit, "high bit first": the register moves up by one within 16 bits; where the bit that falls out is 1, the polynomial is xored in
+-- one bit, "high bit first": where the bit that falls out is 1, the polynomial is xored in; the register moves up by one within 16 bits
+-- (in this order, since computing an xor takes as many steps as its first number has digits, and half of the time that has none)
 unfoldable pub crcBit : ℕ → ℕ
-crcBit r = bitXor (r * 2 % 65536) (r / 32768 % 2 * polynomial)
+crcBit r = bitXor (r / 32768 % 2 * polynomial) (r * 2 % 65536)
 
 -- n bits, one after the other, "high bit first" still
 unfoldable pub crcBits : ℕ → ℕ → ℕ

@@ -25,19 +25,19 @@ use Rattle.outgoing.specs.Lines.{emptyLines, lineTo, withLineTo, laden}
 -- ---- the components, each replaced by one function
 
 abbrev pub withCabinets : Group → List Cabinet → Group
-withCabinets g cs = record { n = g .n; cabinets = cs; links = g .links; sound = g .sound; outgoing = g .outgoing; store = g .store; trips = g .trips }
+withCabinets g cs = record { n = g .n; cabinets = cs; links = g .links; sound = g .sound; outgoing = g .outgoing; store = g .store; trips = g .trips; packets = g .packets }
 
 abbrev pub withSoundRows : Group → List Row → Group
-withSoundRows g rs = record { n = g .n; cabinets = g .cabinets; links = g .links; sound = rs; outgoing = g .outgoing; store = g .store; trips = g .trips }
+withSoundRows g rs = record { n = g .n; cabinets = g .cabinets; links = g .links; sound = rs; outgoing = g .outgoing; store = g .store; trips = g .trips; packets = g .packets }
 
 abbrev pub withLines : Group → List Outgoing → Group
-withLines g os = record { n = g .n; cabinets = g .cabinets; links = g .links; sound = g .sound; outgoing = os; store = g .store; trips = g .trips }
+withLines g os = record { n = g .n; cabinets = g .cabinets; links = g .links; sound = g .sound; outgoing = os; store = g .store; trips = g .trips; packets = g .packets }
 
 abbrev pub withStore : Group → List Slots → Group
-withStore g ss = record { n = g .n; cabinets = g .cabinets; links = g .links; sound = g .sound; outgoing = g .outgoing; store = ss; trips = g .trips }
+withStore g ss = record { n = g .n; cabinets = g .cabinets; links = g .links; sound = g .sound; outgoing = g .outgoing; store = ss; trips = g .trips; packets = g .packets }
 
 abbrev pub withTrips : Group → List ℕ → Group
-withTrips g ts = record { n = g .n; cabinets = g .cabinets; links = g .links; sound = g .sound; outgoing = g .outgoing; store = g .store; trips = ts }
+withTrips g ts = record { n = g .n; cabinets = g .cabinets; links = g .links; sound = g .sound; outgoing = g .outgoing; store = g .store; trips = ts; packets = g .packets }
 
 -- ---- cabinets
 

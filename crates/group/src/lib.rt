@@ -4,6 +4,7 @@ use cabinet::Cabinet;
 use image::Image;
 use line::Line;
 use outgoing::Outgoing;
+use packet::PacketVersion;
 use state::State;
 ghost use mathlib.Core.Path.{_≡_};
 ghost use mathlib.Core.Bool.{cond};
@@ -23,7 +24,8 @@ pub struct Slots {
     pub one: Image,
 }
 
-// links: the file's; sound: those of them not found faulty; trips: how often each cabinet tripped since the last commit.
+// links: the file's; sound: those of them not found faulty; trips: how often each cabinet tripped since the last commit;
+// packets: the packet version, the file's.
 pub struct Group {
     pub n: u8,
     pub cabinets: [Cabinet; 8],
@@ -32,6 +34,7 @@ pub struct Group {
     pub outgoing: [Outgoing; 8],
     pub store: [Slots; 8],
     pub trips: [u8; 8],
+    pub packets: PacketVersion,
 }
 
 // An answer with the group, lines and store after it.

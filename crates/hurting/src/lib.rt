@@ -2,6 +2,7 @@
 use group::Group;
 use group::Outcome;
 use packet::Packet;
+use packet::Pattern;
 ghost use mathlib.Core.Path.{_≡_};
 ghost use Rattle.protocol.specs.Kinds.{hurtAlready, markHurt, unlessRecovering, damageRefusal, hurtIf, hurt, damageStep, loseRefusal, lost, loseStep};
 
@@ -37,13 +38,14 @@ fn unless_recovering(g: Group, left: Group) -> Outcome
 
 // ---- 11 damage
 
-fn damage_refusal(g: Group, a: u8, b: u8, p: u8, q: u16) -> u8
-    ensures { λ r. ⌜ r ≡ damageRefusal g a b p q ⌝ }
+fn damage_refusal(g: Group, a: u8, b: u8, p: u8, w: Pattern) -> u8
+    ensures { λ r. ⌜ r ≡ damageRefusal g a b p w ⌝ }
 {
     let hit = g.line(a, b).packet_at(p);
     let first = records::need(!hurt_already(g, a, b, hit), 20, 0);
-    let changes = records::need(0 < q, 15, first);
-    let some = records::need(!packet::is_empty(hit), 18, changes);
+    let version = g.packets;
+    let right = records::need(packet::pattern_right(version, w), 15, first);
+    let some = records::need(!packet::is_empty(hit), 18, right);
     records::need(marks::is_linked(g.link_rows(), a, b), 13, some)
 }
 
@@ -53,21 +55,21 @@ fn hurt_if(asked: bool, g: Group, a: u8, b: u8) -> Group
     if asked { mark_hurt(g, a, b) } else { g }
 }
 
-fn hurt(g: Group, a: u8, b: u8, p: u8, q: u16) -> Group
-    ensures { λ r. ⌜ r ≡ hurt g a b p q ⌝ }
+fn hurt(g: Group, a: u8, b: u8, p: u8, w: Pattern) -> Group
+    ensures { λ r. ⌜ r ≡ hurt g a b p w ⌝ }
 {
     let l = g.line(a, b);
     let hit = l.packet_at(p);
-    let left = l.replaced(p, packet::damaged(hit, q));
+    let left = l.replaced(p, packet::damaged(hit, w));
     hurt_if(packet::is_normal(hit), g.with_line(a, b, left), a, b)
 }
 
-pub fn damage_step(g: Group, a: u8, b: u8, p: u8, q: u16) -> Outcome
-    ensures { λ r. ⌜ r ≡ damageStep g a b p q ⌝ }
+pub fn damage_step(g: Group, a: u8, b: u8, p: u8, w: Pattern) -> Outcome
+    ensures { λ r. ⌜ r ≡ damageStep g a b p w ⌝ }
 {
-    let k = damage_refusal(g, a, b, p, q);
+    let k = damage_refusal(g, a, b, p, w);
     if k == 0 {
-        unless_recovering(g, hurt(g, a, b, p, q))
+        unless_recovering(g, hurt(g, a, b, p, w))
     } else {
         group::answering(k, g)
     }

@@ -7,7 +7,7 @@ use packet::Payload;
 use state::State;
 ghost use mathlib.Core.Path.{_≡_};
 ghost use Rattle.protocol.specs.Moves.{takeCheckp, findLinkFault};
-ghost use Rattle.protocol.specs.Receive.{takesFrom, receiveNormal, joinIf, receiveCheckp, receiveInvalid};
+ghost use Rattle.protocol.specs.Receive.{takesFrom, takes, receiveNormal, joinIf, receiveCheckp, receiveInvalid};
 
 // A link fault found at b on the link from a. A crash starts from the group before the step.
 fn find_link_fault(before: Group, g: Group, a: u8, b: u8) -> Outcome
@@ -37,13 +37,21 @@ fn takes_from(c: Cabinet, a: u8) -> bool
     )
 }
 
+// A packet whose own check does not fit is not taken.
+fn takes(c: Cabinet, a: u8, p: Payload) -> bool
+    ensures { λ r. ⌜ r ≡ takes c a p ⌝ }
+{
+    let fit = packet::fits(p);
+    marks::and(takes_from(c, a), fit)
+}
+
 pub fn receive_normal(before: Group, g: Group, a: u8, b: u8, p: Payload) -> Outcome
     ensures { λ r. ⌜ r ≡ receiveNormal before g a b p ⌝ }
 {
     let c = g.cabinet(b);
     let phase = c.phase;
     let s = phase.state;
-    if takes_from(c, a) {
+    if takes(c, a, p) {
         group::taken(g.with_cabinet(b, c.taking(a, p)))
     } else {
         if moves::serving(s) {

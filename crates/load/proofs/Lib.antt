@@ -3,3 +3,4 @@ pub mod Lists
 pub mod Passed
 mod Links
 pub mod Loaded
+pub mod Versions

@@ -1,10 +1,11 @@
 -- The rows that right link entries make: eight by eight, both ways, no mark for oneself, none past n.
-use Prim.Native.Nat.{ℕ, zero, suc, _-_, _≤_, _<_}
+use Prim.Native.Nat.{ℕ, zero, suc, _+_, _-_, _≤_, _<_}
 use mathlib.Core.Path.{_≡_, refl, sym, _∙_, ap}
 use mathlib.Core.Bool.{true, false, _&&_, and-eq-true-iff, true≢false}
 use mathlib.Core.List.{List, [], _∷_}
 use mathlib.Core.Logic.{_⊎_, inl, inr, ⊎-elim}
 use native.Mathlib.Omega.{arith}
+use native.Mathlib.Decide.{ℕ-discrete}
 use lib.ListN.{length, getD, set, replicate, length-set, getD-replicate}
 use lib.Seq.{getD-set-same}
 use lib.Dec.{leb, ltb}
@@ -142,9 +143,42 @@ module _ (f : List ℕ) (k : ℕ) (right : linkRight f k ≡ true) where
   higher-within : higherOf f k - 1 < cabinetCount f
   higher-within = let p = right-parts in omega arith
 
+-- the last of right entries is right, and so are those before it
+last-right : (f : List ℕ) (k : ℕ) → linksRight (suc k) f ≡ true → (linksRight k f ≡ true) × (linkRight f k ≡ true)
+last-right f k right =
+    let parts = and-eq-true-iff (linksRight k f) (linkRight f k && risesTo f k) .0 right in
+    (parts .0, and-eq-true-iff (linkRight f k) (risesTo f k) .0 (parts .1) .0)
+
 pub fair-links : (f : List ℕ) (m : ℕ) → cabinetCount f ≤ 8 → linksRight m f ≡ true → Fair (cabinetCount f) (linkRows m f)
 fair-links f zero most right = no-links (cabinetCount f)
 fair-links f (suc k) most right =
-    let parts = and-eq-true-iff (linksRight k f) (linkRight f k && risesTo f k) .0 right in
-    let entry = and-eq-true-iff (linkRight f k) (risesTo f k) .0 (parts .1) .0 in
-    fair-link (cabinetCount f) (lowerOf f k - 1) (higherOf f k - 1) (linkRows k f) (fair-links f k most (parts .0)) most (lower-first f k entry) (higher-within f k entry)
+    let parts = last-right f k right in
+    fair-link (cabinetCount f) (lowerOf f k - 1) (higherOf f k - 1) (linkRows k f) (fair-links f k most (parts .0)) most (lower-first f k (parts .1)) (higher-within f k (parts .1))
+
+-- ---- the links are those of the entries
+
+pub entry-linked : (f : List ℕ) (m : ℕ) → cabinetCount f ≤ 8 → linksRight m f ≡ true → (k : ℕ) → k < m
+    → mark (linkRows m f) (lowerOf f k - 1) (higherOf f k - 1) ≡ true
+entry-linked f zero most right k h = absurd (omega arith)
+entry-linked f (suc m) most right k h =
+    let parts = last-right f m right in
+    let a = lowerOf f m - 1 in
+    let b = higherOf f m - 1 in
+    elim (ℕ-discrete k m) [
+      | yes q ↦ rw q (there (cabinetCount f) a b (linkRows m f) (fair-links f m most (parts .0)) most (lower-first f m (parts .1)) (higher-within f m (parts .1)))
+      | no d ↦ linked-keeps (linked (linkRows m f) a b) b a _ _ (linked-keeps (linkRows m f) a b _ _ (entry-linked f m most (parts .0) k (omega arith)))
+    ]
+
+pub only-entries : (f : List ℕ) (m : ℕ) → cabinetCount f ≤ 8 → linksRight m f ≡ true → (i j : ℕ) → i < j → mark (linkRows m f) i j ≡ true
+    → (k : ℕ) × (k < m) × (lowerOf f k ≡ i + 1) × (higherOf f k ≡ j + 1)
+only-entries f zero most right i j h e = absurd (never i j e)
+only-entries f (suc m) most right i j h e =
+    let parts = last-right f m right in
+    let named = right-parts f m (parts .1) in
+    ⊎-elim
+    (λ q. absurd (omega arith))
+    (λ r. ⊎-elim
+    (λ q. (m, omega arith, omega arith, omega arith))
+    (λ o. let earlier = only-entries f m most (parts .0) i j h o in (earlier .0, omega arith, earlier .2, earlier .3))
+    r)
+    (two-more (cabinetCount f) (lowerOf f m - 1) (higherOf f m - 1) (linkRows m f) (fair-links f m most (parts .0)) most (lower-first f m (parts .1)) (higher-within f m (parts .1)) i j e)

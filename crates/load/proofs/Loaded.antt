@@ -43,11 +43,11 @@ accepted f k e =
       | no d ↦ sym (ap (λ (o : Outcome). o .answer) (other (eqb k 0) (answering 0 (groupOf f (rowsIn f))) (answering k noGroup) (ne-eqb k 0 d))) ∙ e
     ]
 
-no-refusal : (f : List ℕ) → load f .answer ≡ 0 → loadRefusal f ≡ 0
+pub no-refusal : (f : List ℕ) → load f .answer ≡ 0 → loadRefusal f ≡ 0
 unfolding load
 no-refusal f e = accepted f (loadRefusal f) e
 
-the-group : (f : List ℕ) → load f .answer ≡ 0 → load f .group ≡ groupOf f (rowsIn f)
+pub the-group : (f : List ℕ) → load f .answer ≡ 0 → load f .group ≡ groupOf f (rowsIn f)
 unfolding load
 the-group f e =
     ap (λ (o : Outcome). o .group)
@@ -86,8 +86,8 @@ image-octet f small i =
     (booking-small A blankImage (bookingOf A f i) (lt A) blank-octet)
   where
     lt : (o : Outlet) → bookingOf o f i < 65536
-    lt A = omega (arith, small (entryAt i + 2), small (entryAt i + 2 + 1))
-    lt B = omega (arith, small (entryAt i + 4), small (entryAt i + 4 + 1))
+    lt A = omega (arith, small (entryAt f i + 2), small (entryAt f i + 2 + 1))
+    lt B = omega (arith, small (entryAt f i + 4), small (entryAt f i + 4 + 1))
 
 image-booked : (f : List ℕ) (i : ℕ) → booked (imageOf f i) ≡ entryTotal f i
 image-booked f i = omega arith
@@ -125,7 +125,7 @@ module _ (f : List ℕ) (rows : Rows) where
   slots-at i h = made (slotsOf f) blankSlots i h
 
   module _ (most : cabinetCount f ≤ 8) where
-    here : (i : ℕ) → i < cabinetCount f → cabinet g i ≡ startingCabinet f rows i
+    pub here : (i : ℕ) → i < cabinetCount f → cabinet g i ≡ startingCabinet f rows i
     here i h = cabinet-at i (omega arith) ∙ chosen (ltb i (cabinetCount f)) (startingCabinet f rows i) absent (lt-ltb i (cabinetCount f) h)
 
     gone : (i : ℕ) → cabinetCount f ≤ i → cabinet g i ≡ absent
@@ -201,7 +201,7 @@ module _ (f : List ℕ) (rows : Rows) where
   working-present =
       eight (works-at 0 (lit< tt)) (works-at 1 (lit< tt)) (works-at 2 (lit< tt)) (works-at 3 (lit< tt)) (works-at 4 (lit< tt)) (works-at 5 (lit< tt)) (works-at 6 (lit< tt)) (works-at 7 (lit< tt))
 
-  rows-back : length rows ≡ 8 → rowsOf (ofRows rows) ≡ rows
+  pub rows-back : length rows ≡ 8 → rowsOf (ofRows rows) ≡ rows
   unfolding rowsOf ofRows
   rows-back e = read-back rows noMarks e
 

@@ -1,4 +1,4 @@
--- Document 01, "The group file" and the refusals of a load, with document 02, card 2: a file's octets to the group, lines and store, or a
+-- Document 01, "The group file" and the refusals of a load, with document 02, cards 2 and 7: a file's octets to the group, lines and store, or a
 -- number 1 to 7.
 use Prim.Native.Nat.{ℕ, zero, suc, _+_, _-_, _*_}
 use mathlib.Core.Bool.{Bool, true, false, cond, _&&_}
@@ -9,6 +9,8 @@ use Rattle.marks.specs.Marks.{Marks, noMarks}
 use Rattle.marks.specs.Reach.{Rows, connected}
 use Rattle.outlet.specs.declared.Outlet.{Outlet}
 use Rattle.outlet.specs.declared.Outlet.the-variants.{A, B}
+use Rattle.packet.specs.declared.PacketVersion.{PacketVersion}
+use Rattle.packet.specs.declared.PacketVersion.the-variants.{One, Two}
 use Rattle.state.specs.declared.State.the-variants.{Normal}
 use Rattle.state.specs.declared.Version.the-variants.{Known}
 use Rattle.cabinet.specs.declared.Alarm.the-variants.{Quiet}
@@ -35,27 +37,40 @@ cabinetCount f = number f 0
 abbrev pub linkCount : List ℕ → ℕ
 linkCount f = number f 2
 
--- "The cabinet entry in the group file grows to six octets": where that of cabinet i, numbered from 0, stands
-abbrev pub entryAt : ℕ → ℕ
-entryAt i = 10 + 6 * i
+-- the third number of the header, "offset of the cabinet table"
+abbrev pub tableOffset : List ℕ → ℕ
+tableOffset f = number f 4
 
--- "offset of the cabinet table (10), offset of the link table .., total length", the latter two "following" the size of an entry
+-- what it is: 10, and in version 2 "offsets two higher"
+abbrev pub tableIn : PacketVersion → ℕ
+tableIn One = 10
+tableIn Two = 12
+
+-- so it tells the versions apart: "A file of one version is never read as the other."
+unfoldable pub versionOf : List ℕ → PacketVersion
+versionOf f = cond (eqb (tableOffset f) 12) Two One
+
+-- "The cabinet entry in the group file grows to six octets": where that of cabinet i, numbered from 0, stands
+abbrev pub entryAt : List ℕ → ℕ → ℕ
+entryAt f i = tableIn (versionOf f) + 6 * i
+
+-- "offset of the link table .., total length", both "following" the size of an entry
 abbrev pub linkTable : List ℕ → ℕ
-linkTable f = entryAt (cabinetCount f)
+linkTable f = entryAt f (cabinetCount f)
 
 abbrev pub totalLength : List ℕ → ℕ
 totalLength f = linkTable f + 2 * linkCount f
 
 -- "home (one octet), store mark (one octet, 0 or 1), booking (two octets)", of outlet A, and "B's booking last"
 abbrev pub homeOf : List ℕ → ℕ → ℕ
-homeOf f i = getD f (entryAt i) 0
+homeOf f i = getD f (entryAt f i) 0
 
 abbrev pub storeMark : List ℕ → ℕ → ℕ
-storeMark f i = getD f (entryAt i + 1) 0
+storeMark f i = getD f (entryAt f i + 1) 0
 
 abbrev pub bookingOf : Outlet → List ℕ → ℕ → ℕ
-bookingOf A f i = number f (entryAt i + 2)
-bookingOf B f i = number f (entryAt i + 4)
+bookingOf A f i = number f (entryAt f i + 2)
+bookingOf B f i = number f (entryAt f i + 4)
 
 -- link entry k: "two cabinet numbers, lower first"
 abbrev pub lowerOf : List ℕ → ℕ → ℕ
@@ -66,9 +81,17 @@ higherOf f k = getD f (linkTable f + 2 * k + 1) 0
 
 -- ---- the checks
 
+-- "Version 2 files have a sixth header number, 2 (another gives 3)"
+abbrev pub versionNamed : PacketVersion → List ℕ → Bool
+versionNamed One f = true
+versionNamed Two f = eqb (number f 10) 2
+
+-- 3: "an offset or length wrong, or not the true length"
 abbrev pub offsetsRight : List ℕ → Bool
 offsetsRight f =
-    eqb (number f 4) 10 && (eqb (number f 6) (linkTable f) && (eqb (number f 8) (totalLength f) && eqb (totalLength f) (length f)))
+    eqb (tableOffset f) (tableIn (versionOf f))
+    && (versionNamed (versionOf f) f
+    && (eqb (number f 6) (linkTable f) && (eqb (number f 8) (totalLength f) && eqb (totalLength f) (length f))))
 
 -- 4: the mark is 0 or 1, the home is 1 to n, and the home is a store
 abbrev pub cabinetRight : List ℕ → ℕ → Bool
@@ -181,6 +204,7 @@ groupOf f rows = record {
   outgoing = replicate 8 emptyLines;
   store = storeOf f;
   trips = noTrips;
+  packets = versionOf f;
 }
 
 -- a refused file leaves no group
@@ -193,6 +217,7 @@ noGroup = record {
   outgoing = replicate 8 emptyLines;
   store = replicate 8 blankSlots;
   trips = noTrips;
+  packets = One;
 }
 
 abbrev pub loadWith : List ℕ → ℕ → Outcome

@@ -1,13 +1,14 @@
 // A group file: its fields and the checks of a load.
 // A cabinet has its number in the file, less one: 0 to 7. Offsets are whole numbers and never wrap.
 use outlet::Outlet;
+use packet::PacketVersion;
 ghost use mathlib.Core.Path.{_≡_};
 ghost use mathlib.Core.Bool.{true, _&&_};
 ghost use Prim.Native.Nat.{_-_, _<_, _≤_};
 ghost use lib.ListN.{getD, set};
 ghost use lib.Dec.{leb};
 ghost use Rattle.marks.specs.Reach.{connected};
-ghost use Rattle.load.specs.Load.{number, cabinetCount, linkCount, entryAt, linkTable, totalLength, homeOf, storeMark, bookingOf, entryTotal, lowerOf, higherOf, orderOf, offsetsRight, cabinetRight, cabinetsRight, linkRight, risesTo, linksRight, linked, withLink, linkRows, rowsIn, present, feederTotal, loadRefusal};
+ghost use Rattle.load.specs.Load.{number, cabinetCount, linkCount, tableOffset, versionOf, tableIn, entryAt, linkTable, totalLength, homeOf, storeMark, bookingOf, entryTotal, lowerOf, higherOf, orderOf, versionNamed, offsetsRight, cabinetRight, cabinetsRight, linkRight, risesTo, linksRight, linked, withLink, linkRows, rowsIn, present, feederTotal, loadRefusal};
 ghost use Rattle.group.specs.Group.{sum};
 
 // One less, and 0 at 0.
@@ -55,12 +56,41 @@ fn link_count(file: &[u8]) -> usize
     number(file, 2)
 }
 
+// The offset of the cabinet table that the header names.
+fn table_offset(file: &[u8]) -> usize
+    ensures { λ r. ⌜ r ≡ tableOffset (now (file .entry)) ⌝ }
+{
+    number(file, 4)
+}
+
+// .. which tells the packet versions apart.
+pub fn version_of(file: &[u8]) -> PacketVersion
+    ensures { λ r. ⌜ r ≡ versionOf (now (file .entry)) ⌝ }
+{
+    if table_offset(file) == 12 {
+        PacketVersion::Two
+    } else {
+        PacketVersion::One
+    }
+}
+
+// Where the cabinet table starts in a file of that version.
+fn table_in(version: PacketVersion) -> usize
+    ensures { λ r. ⌜ r ≡ tableIn version ⌝ }
+    ensures { λ r. ⌜ r < 13 ⌝ }
+{
+    match version {
+        PacketVersion::One => 10,
+        PacketVersion::Two => 12,
+    }
+}
+
 // Where the entry of cabinet i starts.
-pub fn entry_at(i: u16) -> usize
-    ensures { λ r. ⌜ r ≡ entryAt i ⌝ }
+pub fn entry_at(file: &[u8], i: u16) -> usize
+    ensures { λ r. ⌜ r ≡ entryAt (now (file .entry)) i ⌝ }
     ensures { λ r. ⌜ r < 400000 ⌝ }
 {
-    10 + 6 * (i as usize)
+    table_in(version_of(file)) + 6 * (i as usize)
 }
 
 // Where the link table starts.
@@ -68,7 +98,7 @@ fn link_table(file: &[u8]) -> usize
     ensures { λ r. ⌜ r ≡ linkTable (now (file .entry)) ⌝ }
     ensures { λ r. ⌜ r < 400000 ⌝ }
 {
-    entry_at(cabinet_count(file) as u16)
+    entry_at(file, cabinet_count(file) as u16)
 }
 
 fn total_length(file: &[u8]) -> usize
@@ -83,21 +113,21 @@ fn home_of(file: &[u8], i: usize) -> usize
     ensures { λ r. ⌜ r ≡ homeOf (now (file .entry)) i ⌝ }
     ensures { λ r. ⌜ r < 256 ⌝ }
 {
-    small(file, entry_at(i as u16))
+    small(file, entry_at(file, i as u16))
 }
 
 fn store_mark(file: &[u8], i: usize) -> usize
     requires { ⌜ i < 65536 ⌝ }
     ensures { λ r. ⌜ r ≡ storeMark (now (file .entry)) i ⌝ }
 {
-    small(file, entry_at(i as u16) + 1)
+    small(file, entry_at(file, i as u16) + 1)
 }
 
 // The booking of an outlet in the entry of cabinet i.
 pub fn booking_of(file: &[u8], outlet: Outlet, i: u16) -> u16
     ensures { λ r. ⌜ r ≡ bookingOf outlet (now (file .entry)) i ⌝ }
 {
-    let at = entry_at(i);
+    let at = entry_at(file, i);
     match outlet {
         Outlet::A => number(file, at + 2) as u16,
         Outlet::B => number(file, at + 4) as u16,
@@ -140,14 +170,26 @@ fn order_of(file: &[u8], k: usize) -> usize
     lower_of(file, k) * 256 + higher_of(file, k)
 }
 
-// Both offsets and the length are right, and it is the true length.
+// The sixth number of a version 2 header is 2.
+fn version_named(version: PacketVersion, file: &[u8]) -> bool
+    ensures { λ r. ⌜ r ≡ versionNamed version (now (file .entry)) ⌝ }
+{
+    match version {
+        PacketVersion::One => true,
+        PacketVersion::Two => number(file, 10) == 2,
+    }
+}
+
+// Both offsets and the length are right for the version, and it is the true length.
 fn offsets_right(file: &[u8]) -> bool
     ensures { λ r. ⌜ r ≡ offsetsRight (now (file .entry)) ⌝ }
 {
+    let version = version_of(file);
     let total = total_length(file);
     let lengths = marks::and(number(file, 8) == total, total == file.len());
     let links = marks::and(number(file, 6) == link_table(file), lengths);
-    marks::and(number(file, 4) == 10, links)
+    let named = marks::and(version_named(version, file), links);
+    marks::and(table_offset(file) == table_in(version), named)
 }
 
 // The mark of cabinet i is 0 or 1, its home is 1 to n, and its home is a store.

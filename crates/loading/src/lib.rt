@@ -10,6 +10,7 @@ use group::Slots;
 use image::Image;
 use outgoing::Outgoing;
 use outlet::Outlet;
+use packet::PacketVersion;
 use state::State;
 use state::Version;
 use table::Table;
@@ -42,7 +43,7 @@ fn starting_cabinet(file: &[u8], rows: [[bool; 8]; 8], i: usize) -> Cabinet
     requires { ⌜ i < 8 ⌝ }
     ensures { λ r. ⌜ r ≡ startingCabinet (now (file .entry)) rows i ⌝ }
 {
-    let at = load::entry_at(i as u16);
+    let at = load::entry_at(file, i as u16);
     Cabinet {
         phase: Phase {
             state: State::Normal,
@@ -134,6 +135,7 @@ fn group_of(file: &[u8], rows: [[bool; 8]; 8]) -> Group
         outgoing: [Outgoing::empty(); 8],
         store: store_of(file),
         trips: [0; 8],
+        packets: load::version_of(file),
     }
 }
 
@@ -150,6 +152,7 @@ fn no_group() -> Group
         outgoing: [Outgoing::empty(); 8],
         store: [Slots::blank(); 8],
         trips: [0; 8],
+        packets: PacketVersion::One,
     }
 }
 

@@ -7,3 +7,4 @@ pub mod Tempting
 pub mod Losses
 pub mod Trips
 pub mod Unsure
+pub mod OwnChecks

@@ -10,11 +10,12 @@ use Rattle.marks.specs.Marks.{Marks, marked, lowest}
 use Rattle.marks.specs.Reach.{Rows, struck}
 use Rattle.marks.specs.ReachLaws.{Path}
 use Rattle.packet.specs.declared.Payload.{Payload}
+use Rattle.packet.specs.declared.Pattern.{Pattern}
 use Rattle.packet.specs.declared.Check.{Check}
 use Rattle.packet.specs.declared.Place.{Place}
 use Rattle.packet.specs.declared.Packet.{Packet}
 use Rattle.packet.specs.declared.Packet.the-variants.{Normal as NormalPacket, Checkp, Fault, Invalid}
-use Rattle.packet.specs.Packet.{startCheck}
+use Rattle.packet.specs.Packet.{startCheck, fits}
 use Rattle.line.specs.Line.{oldest}
 use Rattle.state.specs.declared.State.{State}
 use Rattle.state.specs.declared.State.the-variants.{Normal, CheckpBegin, Checkpointing, Checkpointed, Error, Recovering, Recovered}
@@ -44,7 +45,7 @@ Saves s = (s ≡ Checkpointing) ⊎ (s ≡ Checkpointed)
 abbrev pub Serves : State → Type 0
 Serves s = (s ≡ Normal) ⊎ ((s ≡ CheckpBegin) ⊎ Saves s)
 
--- "these two states": those in which a checkp is compared
+-- "these two states": those in which a checkp is compared, and a normal packet's own check
 abbrev pub Compares : State → Type 0
 Compares s = (s ≡ Normal) ⊎ (s ≡ CheckpBegin)
 
@@ -76,6 +77,8 @@ pub data LinkFault (c : Cabinet) (a : ℕ) : Packet → Type 0 where
   after-checkp : {p : Payload} → c .phase .state ≡ CheckpBegin → marked (c .noted .come) a ≡ true → LinkFault c a (NormalPacket p)
   -- "or any normal packet in checkpointing or checkpointed, is a link fault"
   after-cut : {p : Payload} → Saves (c .phase .state) → LinkFault c a (NormalPacket p)
+  -- document 02, card 7: "The receiver compares on taking it, and inequality is a link fault then and there"
+  unfit : {p : Payload} → Compares (c .phase .state) → fits p ≡ false → LinkFault c a (NormalPacket p)
   -- "An invalid packet, in normal or in the three saving states, is a link fault between sender and receiver."
   hit : Serves (c .phase .state) → LinkFault c a Invalid
 
@@ -92,7 +95,7 @@ pub data Cause (g : Group) : Step → Type 0 where
   -- "a cabinet fails, .., while some working cabinet is in error, recovering or recovered;"
   fails-in-recovery : {a : ℕ} → SomeRecovers g → Cause g (Fail a)
   -- "or damage is done, while some working cabinet is in error, recovering or recovered;"
-  damage-in-recovery : {a b p q : ℕ} → SomeRecovers g → Cause g (Damage a b p q)
+  damage-in-recovery : {a b p : ℕ} {w : Pattern} → SomeRecovers g → Cause g (Damage a b p w)
   -- "a loss crashes the group where damage would"
   loss-in-recovery : {a b p : ℕ} → SomeRecovers g → Cause g (Lose a b p)
   -- "two fault places meet;"

@@ -1,5 +1,5 @@
 -- The step entry: a record is decoded, checks 8 to 12 are made in order, and its kind's rule decides the rest.
-use Prim.Native.Nat.{ℕ, _+_, _-_, _*_}
+use Prim.Native.Nat.{ℕ, _+_, _-_, _*_, _/_, _%_}
 use mathlib.Core.Bool.{Bool, true, cond, not, _&&_}
 use mathlib.Core.List.{List, [], _∷_}
 use lib.ListN.{length, getD}
@@ -36,12 +36,16 @@ aloneOf kind a =
 abbrev pub isKind : ℕ → Bool
 isKind kind = leb 1 kind && (leb kind 14 && not (eqb kind 9))
 
+-- document 02, card 7: damage reads "b's low four bits" and "p's low five"; the others say how far the pattern is shifted
+abbrev pub damageOf : ℕ → ℕ → ℕ → ℕ → Step
+damageOf a b p q = Damage a (b % 16) (p % 32) (record { mask = q; bits = p / 32; octets = b / 16 })
+
 abbrev pub fieldsOf : ℕ → ℕ → ℕ → ℕ → ℕ → Decoded
 fieldsOf kind a b p q =
     cond (eqb kind 1) (Taken (Send a b p q))
     (cond (eqb kind 2) (ifZero b (Taken (Note a p q)))
     (cond (eqb kind 4) (ifZero (p + q) (Taken (Deliver a b)))
-    (cond (eqb kind 11) (Taken (Damage a b p q))
+    (cond (eqb kind 11) (Taken (damageOf a b p q))
     (cond (eqb kind 12) (ifZero q (Taken (Lose a b p)))
     (cond (isKind kind) (ifZero (b + p + q) (aloneOf kind a)) Malformed)))))
 
@@ -67,7 +71,7 @@ firstOf (Saved a) = a
 firstOf (Fetch a) = a
 firstOf (Restored a) = a
 firstOf (Fail a) = a
-firstOf (Damage a b p q) = a
+firstOf (Damage a b p w) = a
 firstOf (Lose a b p) = a
 firstOf (Trip a) = a
 firstOf (Unsure a) = a
@@ -82,7 +86,7 @@ secondOf (Saved a) = a
 secondOf (Fetch a) = a
 secondOf (Restored a) = a
 secondOf (Fail a) = a
-secondOf (Damage a b p q) = b
+secondOf (Damage a b p w) = b
 secondOf (Lose a b p) = b
 secondOf (Trip a) = a
 secondOf (Unsure a) = a
@@ -98,7 +102,7 @@ actorWorks g (Saved a) = true
 actorWorks g (Fetch a) = works (stateOf g (a - 1))
 actorWorks g (Restored a) = works (stateOf g (a - 1))
 actorWorks g (Fail a) = works (stateOf g (a - 1))
-actorWorks g (Damage a b p q) = true
+actorWorks g (Damage a b p w) = true
 actorWorks g (Lose a b p) = works (stateOf g (a - 1))
 actorWorks g (Trip a) = works (stateOf g (a - 1))
 actorWorks g (Unsure a) = works (stateOf g (a - 1))
@@ -123,7 +127,7 @@ perform g (Saved a) = savedStep g (a - 1)
 perform g (Fetch a) = fetchStep g (a - 1)
 perform g (Restored a) = restoredStep g (a - 1)
 perform g (Fail a) = failStep g (a - 1)
-perform g (Damage a b p q) = damageStep g (a - 1) (b - 1) p q
+perform g (Damage a b p w) = damageStep g (a - 1) (b - 1) p w
 perform g (Lose a b p) = loseStep g (a - 1) (b - 1) p
 perform g (Trip a) = tripStep g (a - 1)
 perform g (Unsure a) = unsureStep g (a - 1)

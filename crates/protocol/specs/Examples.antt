@@ -9,7 +9,9 @@ use mathlib.Core.Option.{Option, none, some}
 use lib.ListN.{length, replicate}
 use lib.Dec.{eqb}
 use Rattle.outlet.specs.declared.Outlet.the-variants.{A, B}
+use Rattle.packet.specs.declared.PacketVersion.the-variants.{One}
 use Rattle.packet.specs.declared.Payload.{Payload}
+use Rattle.packet.specs.Packet.{packed}
 use Rattle.packet.specs.declared.Place.the-variants.{Failed as AtFailed, Link as AtLink}
 use Rattle.cabinet.specs.declared.Alarm.{Alarm}
 use Rattle.cabinet.specs.declared.Alarm.the-variants.{Fault}
@@ -158,12 +160,12 @@ foundFrom e fault = foundNear e fault (walk fault (e .since))
 unfoldable pub found : Example → Found
 found e = foundFrom e (walkToFault e)
 
--- what a packet for an outlet carries
+-- what a packet of version 1 for an outlet carries
 abbrev pub toA : ℕ → Payload
-toA q = record { outlet = A; amount = q }
+toA q = packed One A q
 
 abbrev pub toB : ℕ → Payload
-toB q = record { outlet = B; amount = q }
+toB q = packed One B q
 
 -- an image with a booking at outlet A and a note in its last octet
 abbrev pub imageWith : ℕ → ℕ → Image

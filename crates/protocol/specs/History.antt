@@ -1,7 +1,7 @@
--- Document 01, "Which save" and "Words of demand 3", with document 02, cards 1, 3 and 5: the history of a run, a fold over the file and the
+-- Document 01, "Which save" and "Words of demand 3", with document 02, cards 1, 3, 5 and 7: the history of a run, a fold over the file and the
 -- operations (step records, points taken, returns) with what the rules make of them. Of the groups before and after a step it reads
--- states, tables, homes, images, the packet that is taken or damaged, and which checkps have come; no version, slot, register, report,
--- piece or fault place. Of a point it reads whether it is taken: what it keeps, the history knows by itself. In a step cabinets count
+-- states, tables, homes, images, the packet version, the packet that is taken or damaged, and which checkps have come; no version of an
+-- image, slot, register, report, piece or fault place. Of a point it reads whether it is taken: what it keeps, the history knows by itself. In a step cabinets count
 -- from 1, here from 0.
 use Prim.Native.Nat.{ℕ, _-_}
 use mathlib.Core.Bool.{Bool, true, false, cond, not, _&&_}
@@ -12,7 +12,7 @@ use Rattle.marks.specs.Marks.{marked}
 use Rattle.packet.specs.declared.Payload.{Payload}
 use Rattle.packet.specs.declared.Packet.{Packet}
 use Rattle.packet.specs.declared.Packet.the-variants.{Empty, Normal as NormalPacket, Checkp, Resume, Recover, Fault, Invalid}
-use Rattle.packet.specs.Packet.{isNormal}
+use Rattle.packet.specs.Packet.{isNormal, fits}
 use Rattle.line.specs.Line.{oldest, packetAt}
 use Rattle.state.specs.declared.State.{State}
 use Rattle.state.specs.declared.State.the-variants.{Normal, Checkpointing, Checkpointed, Recovering, Recovered}
@@ -181,10 +181,11 @@ withStanding h t = record { sent = h .sent; taken = h .taken; cuts = h .cuts; sa
 abbrev pub goes : Group → Group → ℕ → State → State → Bool
 goes g g′ i s t = isIn (stateOf g i) s && isIn (stateOf g′ i) t
 
--- a normal packet whose amount the receiver adds, by the very test of the rule: a hurt amount may be 0, so the booking would not tell
+-- a normal packet whose amount the receiver adds, by the very tests of the rule (`Receive.takes`): a hurt amount may be 0, so the booking
+-- would not tell
 abbrev pub noteTaken : Bool → History → ℕ → ℕ → Packet → History
 noteTaken true h a b Empty = h
-noteTaken true h a b (NormalPacket p) = withTaken h (logged (h .taken) a b p)
+noteTaken true h a b (NormalPacket p) = cond (fits p) (withTaken h (logged (h .taken) a b p)) h
 noteTaken true h a b (Checkp v) = h
 noteTaken true h a b Resume = h
 noteTaken true h a b (Recover v) = h
@@ -238,7 +239,7 @@ abbrev pub ends : Group → Group → ℕ → Bool
 ends g g′ j = goes g g′ (coordinator (cabinet g j)) Recovered Normal
 
 abbrev pub observe : History → Group → Group → Step → History
-observe h g g′ (Send a b p q) = withSent h (logged (h .sent) (a - 1) (b - 1) (carried p q))
+observe h g g′ (Send a b p q) = withSent h (logged (h .sent) (a - 1) (b - 1) (carried g p q))
 observe h g g′ (Note a p q) = h
 observe h g g′ (Begin a) = withBegun (withCuts h (λ i. none)) true
 observe h g g′ (Deliver a b) =
@@ -251,7 +252,7 @@ observe h g g′ (Saved a) =
 observe h g g′ (Fetch a) = noteKnown (goes g g′ (a - 1) Recovering Recovered) h
 observe h g g′ (Restored a) = noteEnd (ends g g′ (a - 1)) h g′
 observe h g g′ (Fail a) = notePassed h (a - 1)
-observe h g g′ (Damage a b p q) = noteDamage (isNormal (packetAt (line g (a - 1) (b - 1)) p)) h (a - 1) (b - 1)
+observe h g g′ (Damage a b p w) = noteDamage (isNormal (packetAt (line g (a - 1) (b - 1)) p)) h (a - 1) (b - 1)
 -- a packet that is lost was sent and is never taken
 observe h g g′ (Lose a b p) = noteHurt h (a - 1) (b - 1)
 -- also where a third trip is a fail
@@ -327,12 +328,12 @@ pub record World : Type 0 where
   pub points : Points
   pub history : History
 
+-- each outcome is handed on, so that it is computed once
+abbrev pub stepped : World → List ℕ → Outcome → World
+stepped w r o = record { group = o .group; points = w .points; history = recordDecoded (w .history) (w .group) o (decode r) }
+
 unfoldable pub advance : World → Operation → World
-advance w (stepping r) = record {
-  group = step (w .group) r .group;
-  points = w .points;
-  history = recordDecoded (w .history) (w .group) (step (w .group) r) (decode r);
-}
+advance w (stepping r) = stepped w r (step (w .group) r)
 advance w (pointing name) = record {
   group = w .group;
   points = takePoint (w .points) (w .group) name .points;

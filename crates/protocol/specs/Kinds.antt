@@ -9,9 +9,10 @@ use Rattle.marks.specs.Reach.{mark, connected}
 use Rattle.packet.specs.declared.Place.the-variants.{Failed as AtFailed, Tripped as AtTripped}
 use Rattle.outlet.specs.Outlet.{endsOf}
 use Rattle.packet.specs.declared.Payload.{Payload}
+use Rattle.packet.specs.declared.Pattern.{Pattern}
 use Rattle.packet.specs.declared.Packet.{Packet}
 use Rattle.packet.specs.declared.Packet.the-variants.{Normal as NormalPacket}
-use Rattle.packet.specs.Packet.{isEmpty, isNormal, damaged}
+use Rattle.packet.specs.Packet.{packed, isEmpty, isNormal, patternRight, damaged}
 use Rattle.line.specs.Line.{oldest, rest, put, normals, packetAt, replaced, without}
 use Rattle.state.specs.declared.State.the-variants.{Normal, Checkpointing, Error, Recovering, Recovered}
 use Rattle.cabinet.specs.declared.Cabinet.{Cabinet}
@@ -44,13 +45,13 @@ sendRefusal g a b p q =
     (need (leb q (booking (endsOf p .from) (cabinet g a .image))) 16
     (need (ltb (normals (line g a b)) 8) 17 0))))
 
--- what a send puts: a packet for the receiving outlet
-abbrev pub carried : ℕ → ℕ → Payload
-carried p q = record { outlet = endsOf p .to; amount = q }
+-- what a send puts: a packet for the receiving outlet, as the group's packet version has it
+abbrev pub carried : Group → ℕ → ℕ → Payload
+carried g p q = packed (g .packets) (endsOf p .to) q
 
 unfoldable pub sent : Group → ℕ → ℕ → ℕ → ℕ → Group
 sent g a b p q =
-    withLine (withCabinet g a (sending (cabinet g a) b (endsOf p .from) (carried p q))) a b (put (line g a b) (NormalPacket (carried p q)))
+    withLine (withCabinet g a (sending (cabinet g a) b (endsOf p .from) (carried g p q))) a b (put (line g a b) (NormalPacket (carried g p q)))
 
 unfoldable pub sendStep : Group → ℕ → ℕ → ℕ → ℕ → Outcome
 sendStep g a b p q = orRefuse (sendRefusal g a b p q) g (taken (sent g a b p q))
@@ -201,23 +202,24 @@ unlessRecovering g left = cond (some (recoveringOnes g)) (crashed g) (taken left
 
 -- ---- 11 damage
 
-abbrev pub damageRefusal : Group → ℕ → ℕ → ℕ → ℕ → ℕ
-damageRefusal g a b p q =
+-- 15 as the group's packet version has it
+abbrev pub damageRefusal : Group → ℕ → ℕ → ℕ → Pattern → ℕ
+damageRefusal g a b p w =
     need (mark (rowsOf (g .links)) a b) 13
     (need (not (isEmpty (packetAt (line g a b) p))) 18
-    (need (ltb 0 q) 15
+    (need (patternRight (g .packets) w) 15
     (need (not (hurtAlready g a b (packetAt (line g a b) p))) 20 0)))
 
 abbrev pub hurtIf : Bool → Group → ℕ → ℕ → Group
 hurtIf true g a b = markHurt g a b
 hurtIf false g a b = g
 
-unfoldable pub hurt : Group → ℕ → ℕ → ℕ → ℕ → Group
-hurt g a b p q =
-    hurtIf (isNormal (packetAt (line g a b) p)) (withLine g a b (replaced (line g a b) p (damaged (packetAt (line g a b) p) q))) a b
+unfoldable pub hurt : Group → ℕ → ℕ → ℕ → Pattern → Group
+hurt g a b p w =
+    hurtIf (isNormal (packetAt (line g a b) p)) (withLine g a b (replaced (line g a b) p (damaged (packetAt (line g a b) p) w))) a b
 
-unfoldable pub damageStep : Group → ℕ → ℕ → ℕ → ℕ → Outcome
-damageStep g a b p q = orRefuse (damageRefusal g a b p q) g (unlessRecovering g (hurt g a b p q))
+unfoldable pub damageStep : Group → ℕ → ℕ → ℕ → Pattern → Outcome
+damageStep g a b p w = orRefuse (damageRefusal g a b p w) g (unlessRecovering g (hurt g a b p w))
 
 -- ---- 12 lose
 

@@ -18,5 +18,6 @@ pub mod Tempting
 pub mod Losses
 pub mod Trips
 pub mod Unsure
+pub mod OwnChecks
 pub mod Answers
 pub mod Crash

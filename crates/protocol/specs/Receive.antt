@@ -10,7 +10,7 @@ use Rattle.packet.specs.declared.Check.{Check}
 use Rattle.packet.specs.declared.Place.{Place}
 use Rattle.packet.specs.declared.Packet.{Packet}
 use Rattle.packet.specs.declared.Packet.the-variants.{Empty, Normal as NormalPacket, Checkp, Resume, Recover, Fault, Invalid}
-use Rattle.packet.specs.Packet.{startCheck, sameCheck}
+use Rattle.packet.specs.Packet.{startCheck, sameCheck, fits}
 use Rattle.state.specs.declared.State.{State}
 use Rattle.state.specs.declared.State.the-variants.{Normal, CheckpBegin, Checkpointed, Error, Recovered}
 use Rattle.cabinet.specs.declared.Cabinet.{Cabinet}
@@ -30,10 +30,15 @@ serving s = isIn s Normal || (isIn s CheckpBegin || inSaving s)
 abbrev pub takesFrom : Cabinet → ℕ → Bool
 takesFrom c a = isIn (c .phase .state) Normal || (isIn (c .phase .state) CheckpBegin && not (marked (c .noted .come) a))
 
--- ".. one from another neighbour, or any normal packet in checkpointing or checkpointed, is a link fault"
+-- document 02, card 7: "The receiver compares on taking it": so one whose check does not fit is not taken
+abbrev pub takes : Cabinet → ℕ → Payload → Bool
+takes c a p = takesFrom c a && fits p
+
+-- ".. one from another neighbour, or any normal packet in checkpointing or checkpointed, is a link fault"; "inequality is a link fault then
+-- and there, its amount not added"
 unfoldable pub receiveNormal : Group → Group → ℕ → ℕ → Payload → Outcome
 receiveNormal before g a b p =
-    cond (takesFrom (cabinet g b) a) (taken (withCabinet g b (taking (cabinet g b) a p)))
+    cond (takes (cabinet g b) a p) (taken (withCabinet g b (taking (cabinet g b) a p)))
     (cond (serving (stateOf g b)) (findLinkFault before g a b) (taken g))
 
 -- "A cabinet in normal that receives checkp compares first, then does the same."

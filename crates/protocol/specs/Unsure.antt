@@ -172,9 +172,12 @@ early-finds = record {
   gone = none ∷ none ∷ none ∷ none ∷ [];
 }
 
--- the versions at the end: all four have that of 3
+-- the versions at the end: all four have that of 3; the group is handed on, so that it is computed once
+abbrev pub versionsOf : Group → List Version
+versionsOf g = forEach 4 (λ c. cabinet g c .phase .version)
+
 unfoldable pub earlyVersions : List Version
-earlyVersions = forEach 4 (λ c. cabinet (walkToEnd early .world .group) c .phase .version)
+earlyVersions = versionsOf (walkToEnd early .world .group)
 
 -- ---- what is answered
 
@@ -287,12 +290,11 @@ abbrev pub allTaken : List ℕ → Bool
 allTaken [] = true
 allTaken (k ∷ ks) = eqb k 0 && allTaken ks
 
+abbrev pub endIn : List ℕ → Group → End
+endIn ks g = record { taken = allTaken ks; state = stateOf g 1; images = forEach 3 (λ c. cabinet g c .image) }
+
 abbrev pub endOf : Group → List (List ℕ) → End
-endOf g records = record {
-  taken = allTaken (answersFrom g records);
-  state = stateOf (stepAll g records) 1;
-  images = forEach 3 (λ c. cabinet (stepAll g records) c .image);
-}
+endOf g records = endIn (answersFrom g records) (stepAll g records)
 
 abbrev pub sameEnd : End
 sameEnd = record { taken = true; state = Normal; images = imageWith 100 0 ∷ imageWith 50 0 ∷ imageWith 20 0 ∷ [] }

@@ -2,6 +2,7 @@
 // The protocol itself is in specs/, closed runs of it are in proofs/, and the theorems about it in the crate claims.
 
 use group::Group;
+use packet::Pattern;
 use points::Points;
 
 // A step with the fields that its kind uses. Cabinets are numbered from 1, as in the record.
@@ -15,7 +16,7 @@ pub enum Step {
     Fetch { a: u8 },
     Restored { a: u8 },
     Fail { a: u8 },
-    Damage { a: u8, b: u8, p: u8, q: u16 },
+    Damage { a: u8, b: u8, p: u8, w: Pattern },
     Lose { a: u8, b: u8, p: u8 },
     Trip { a: u8 },
     Unsure { a: u8 },

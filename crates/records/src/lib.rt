@@ -2,6 +2,7 @@
 // Cabinets are numbered from 1 in a record and in a decoded step, and from 0 elsewhere.
 use cabinet::Cabinet;
 use group::Group;
+use packet::Pattern;
 use protocol::Decoded;
 use protocol::Step;
 ghost use mathlib.Core.Path.{_≡_};
@@ -13,7 +14,7 @@ ghost use Rattle.group.specs.declared.Group.{Group};
 ghost use Rattle.group.specs.Group.{stateOf};
 ghost use Rattle.protocol.specs.declared.Decoded.the-variants.{Unused};
 ghost use Rattle.protocol.specs.Kinds.{need};
-ghost use Rattle.protocol.specs.Entry.{aloneOf, isKind, fieldsOf, decode, decodedNumber, firstOf, secondOf, actorWorks, entryRefusal};
+ghost use Rattle.protocol.specs.Entry.{aloneOf, isKind, damageOf, fieldsOf, decode, decodedNumber, firstOf, secondOf, actorWorks, entryRefusal};
 
 // ---- refusals
 
@@ -76,6 +77,22 @@ fn is_kind(kind: u8) -> bool
     marks::and(1 <= kind, marks::and(kind <= 14, kind != 9))
 }
 
+// Damage has two numbers each in b and in p: the cabinet and the place below, how far the pattern is shifted above.
+fn damage_of(a: u8, b: u8, p: u8, q: u16) -> Step
+    ensures { λ r. ⌜ r ≡ damageOf a b p q ⌝ }
+{
+    Step::Damage {
+        a: a,
+        b: b % 16,
+        p: p % 32,
+        w: Pattern {
+            mask: q,
+            bits: p / 32,
+            octets: b / 16,
+        },
+    }
+}
+
 fn fields_of(kind: u8, a: u8, b: u8, p: u8, q: u16) -> Decoded
     ensures { λ r. ⌜ r ≡ fieldsOf kind a b p q ⌝ }
 {
@@ -95,12 +112,7 @@ fn fields_of(kind: u8, a: u8, b: u8, p: u8, q: u16) -> Decoded
         return if_zero(unused == 0, Decoded::Taken(Step::Deliver { a: a, b: b }));
     }
     if kind == 11 {
-        return Decoded::Taken(Step::Damage {
-            a: a,
-            b: b,
-            p: p,
-            q: q,
-        });
+        return Decoded::Taken(damage_of(a, b, p, q));
     }
     if kind == 12 {
         return if_zero(q == 0, Decoded::Taken(Step::Lose { a: a, b: b, p: p }));
@@ -159,7 +171,7 @@ fn first_of(s: Step) -> u8
             a,
             b: _,
             p: _,
-            q: _,
+            w: _,
         } => a,
         Step::Lose { a, b: _, p: _ } => a,
         Step::Trip { a } => a,
@@ -189,7 +201,7 @@ fn second_of(s: Step) -> u8
             a: _,
             b,
             p: _,
-            q: _,
+            w: _,
         } => b,
         Step::Lose { a: _, b, p: _ } => b,
         Step::Trip { a } => a,
@@ -238,7 +250,7 @@ fn actor_works(s: Step, first: bool, second: bool) -> bool
             a: _,
             b: _,
             p: _,
-            q: _,
+            w: _,
         } => true,
         Step::Lose { a: _, b: _, p: _ } => first,
         Step::Trip { a: _ } => first,

@@ -23,7 +23,7 @@ not-both false y h = refl
 length-wrong : (f : List ℕ) → number f 8 ≤ 65535 → 65535 < length f → offsetsRight f ≡ false
 length-wrong f m l =
     rw
-    (not-both (eqb (number f 8) (totalLength f)) (eqb (totalLength f) (length f)) (λ p q. omega (arith, eqb-true (number f 8) (totalLength f) p, eqb-true (totalLength f) (length f) q)), and-false, and-false)
+    (not-both (eqb (number f 8) (totalLength f)) (eqb (totalLength f) (length f)) (λ p q. omega (arith, eqb-true (number f 8) (totalLength f) p, eqb-true (totalLength f) (length f) q)), and-false, and-false, and-false)
 
 abbrev countRight : List ℕ → Bool
 countRight f = leb 2 (cabinetCount f) && leb (cabinetCount f) 8

@@ -5,7 +5,6 @@ use group::Outcome;
 use line::Line;
 use outgoing::Outgoing;
 use packet::Packet;
-use packet::Payload;
 use state::State;
 ghost use mathlib.Core.Path.{_≡_};
 ghost use mathlib.Core.Bool.{_&&_};
@@ -50,10 +49,8 @@ fn sent(g: Group, a: u8, b: u8, p: u8, q: u16, c: Cabinet, o: Outgoing) -> Group
     let ends = outlet::ends_of(p);
     let from = ends.from;
     let to = ends.to;
-    let carried = Payload {
-        outlet: to,
-        amount: q,
-    };
+    let version = g.packets;
+    let carried = packet::packed(version, to, q);
     let l = o.line_to(b).put(Packet::Normal(carried));
     let h = g.with_cabinet(a, c.sending(b, from, carried));
     h.with_outgoing(a, o.with_line_to(b, l))

@@ -25,12 +25,12 @@ fn perform(g: Group, s: Step) -> Outcome
         Step::Fetch { a } => restoring::fetch_step(g, records::before(a)),
         Step::Restored { a } => restoring::restored_step(g, records::before(a)),
         Step::Fail { a } => failing::fail_step(g, records::before(a)),
-        Step::Damage { a, b, p, q } => hurting::damage_step(
+        Step::Damage { a, b, p, w } => hurting::damage_step(
             g,
             records::before(a),
             records::before(b),
             p,
-            q,
+            w,
         ),
         Step::Lose { a, b, p } => hurting::lose_step(g, records::before(a), records::before(b), p),
         Step::Trip { a } => failing::trip_step(g, records::before(a)),

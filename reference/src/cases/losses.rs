@@ -1,12 +1,13 @@
 //! Losses in made cases: of normal packets, mostly where a save may find them without a crash;
 //! of packets whose loss the CRC does not see; and losses that are refused.
 
+use super::hurts::{damage_at, Spot};
 use super::{record, Record, Run};
-use crate::model::{crc_octets, Ends, Number, Outlet, Packet, State};
+use crate::model::{crc_octets, Ends, Number, Outlet, Packet, PacketVersion, State};
 
 // ---------------------------------------------------------------- what the CRC does not see
 
-/// The one amount whose packet leaves a CRC register as it is.
+/// The one amount whose packet of version 1 leaves a CRC register as it is.
 pub fn silent_amount(register: u16, outlet: Outlet) -> u16 {
     let before_amount = crc_octets(register, &[outlet.octet()]);
     before_amount ^ before_two_octets(register)
@@ -23,9 +24,6 @@ fn before_two_octets(register: u16) -> u16 {
 }
 
 // ---------------------------------------------------------------- sensible losses
-
-/// A line and a place in it.
-type Spot = (Number, Number, usize);
 
 fn loss_at((from, to, place): Spot) -> Record {
     record(12, from, to, place as u8, 0)
@@ -64,7 +62,7 @@ impl Run<'_> {
         }
     }
 
-    fn spots_with(&self, fits: impl Fn(&Packet) -> bool) -> Vec<Spot> {
+    pub(super) fn spots_with(&self, fits: impl Fn(&Packet) -> bool) -> Vec<Spot> {
         let mut spots = Vec::new();
         for (from, to) in self.filled_lines() {
             let packets = self.group.line(from, to).packets.iter().enumerate();
@@ -74,9 +72,11 @@ impl Run<'_> {
         spots
     }
 
-    /// A send whose packet leaves the sender's CRC as it is; its loss is to follow.
+    /// A send whose packet leaves the sender's CRC as it is; its loss is to follow. In version 2
+    /// there is none: a packet with its own check moves every register that sends come to.
     pub(super) fn silent_send(&mut self) -> Option<Record> {
-        if self.group.recovery_under_way() {
+        let one = self.group.packet_version() == PacketVersion::One;
+        if !one || self.group.recovery_under_way() {
             return None;
         }
         let sends = self.silent_sends();
@@ -127,9 +127,8 @@ impl Run<'_> {
         normal.retain(|&(from, to, _)| self.group.line(from, to).hurt);
         any.retain(|&(from, to, _)| self.group.line(from, to).hurt);
         let spots = if self.dice.per_thousand(700) && !normal.is_empty() { normal } else { any };
-        let (from, to, place) = self.dice.pick_any(&spots)?;
-        let pattern = if kind == 11 { self.pattern() } else { 0 };
-        Some(record(kind, from, to, place as u8, pattern))
+        let spot = self.dice.pick_any(&spots)?;
+        Some(if kind == 11 { damage_at(spot, self.any_burst()) } else { loss_at(spot) })
     }
 }
 
@@ -138,7 +137,7 @@ impl Run<'_> {
 impl Run<'_> {
     /// Now and then a second hurt of that line, which is refused; mostly a save soon.
     pub(super) fn after_loss(&mut self, loss: Record) {
-        self.lost_since_recovery = true;
+        self.hurt_since_recovery = true;
         self.save_first = self.dice.pick(&[0, 100, 400]);
         if self.dice.per_thousand(200) {
             self.hurt_again(usize::from(loss[1]), usize::from(loss[2]));
@@ -147,16 +146,16 @@ impl Run<'_> {
 
     /// At a packet put for it, behind all others.
     fn hurt_again(&mut self, from: Number, to: Number) {
-        let place = self.group.line(from, to).packets.len() as u8;
+        let spot = (from, to, self.group.line(from, to).packets.len());
         let p = self.p_to_send_with(from);
-        let pattern = self.dice.between(1, 65_535) as u16;
-        let (kind, q) = self.dice.pick(&[(11, pattern), (12, 0)]);
+        let burst = self.burst_to_be_taken();
+        let second = self.dice.pick(&[damage_at(spot, burst), loss_at(spot)]);
         self.to_follow.push_back(record(1, from, to, p, 1));
-        self.to_follow.push_back(record(kind, from, to, place, q));
+        self.to_follow.push_back(second);
     }
 
     pub(super) fn after_recovery(&mut self) {
-        if std::mem::take(&mut self.lost_since_recovery) || self.temper.doubtful {
+        if std::mem::take(&mut self.hurt_since_recovery) || self.temper.doubtful {
             self.save_first = self.dice.pick(&[0, 400, 1000]);
         }
     }

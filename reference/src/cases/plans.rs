@@ -2,18 +2,19 @@
 //! a save as far as its commit, and mostly the group is brought to rest before a point or a
 //! return. Most plans end where the bookings tell which save or point came back.
 
+use super::hurts::damage_at;
 use super::{
     damaged_group_file, draft_that_may_lose_its_lead, record, Case, Dice, GroupDraft, Record, Run,
     Wishes, LONG,
 };
 use crate::evening::PLAN_RECORD_LENGTH;
-use crate::model::{self, Event, Group, Number, Outcome, State, KINDS, TAKEN};
+use crate::model::{self, Event, Group, Number, Outcome, PacketVersion, State, KINDS, TAKEN};
 use crate::points::{Name, Points, NAME_LENGTH};
 
 pub fn make_plan_case(seed: u64, wishes: Wishes) -> Case {
     let mut dice = Dice::new(seed);
     let draft = draft_that_can_lose_some(&mut dice, wishes.cabinets);
-    let damaged = wishes.cabinets.is_none() && dice.per_thousand(40);
+    let damaged = wishes.cabinets.is_none() && dice.per_thousand(80);
     let group = if damaged { damaged_group_file(&mut dice, draft) } else { draft.octets() };
     let mut plan = match model::load(&group) {
         Ok(group) => Planner::new(&mut dice, group, wishes).make(),
@@ -112,9 +113,9 @@ fn drawn_weights(dice: &mut Dice, wishes: Wishes) -> Vec<(Scene, usize)> {
         (Scene::Fail, dice.pick(&[0, 1, 3])),
         (Scene::Trip, if trips { dice.pick(&[0, 2, 4]) } else { 0 }),
         (Scene::Stumble, if trips { dice.pick(&[0, 0, 1, 2]) } else { 0 }),
-        (Scene::SlyFault, if trips { dice.pick(&[0, 1, 3]) } else { 0 }),
+        (Scene::SlyFault, if trips { dice.pick(&[0, 2, 4]) } else { 0 }),
         (Scene::Doubt, if wishes.reports() { dice.pick(&[2, 6, 10]) } else { 0 }),
-        (Scene::Damage, if damage { dice.pick(&[0, 2, 4]) } else { 0 }),
+        (Scene::Damage, if damage { dice.pick(&[0, 5, 12]) } else { 0 }),
         (Scene::Loss, if damage { dice.pick(&[0, 2, 4]) } else { 0 }),
         (Scene::HurtOverReturn, if damage { dice.pick(&[0, 1, 2]) } else { 0 }),
         (Scene::Crash, dice.pick(&[0, 0, 0, 1])),
@@ -162,7 +163,7 @@ impl Planner<'_> {
 
     /// Mostly up to 500 records; once in a while more than are read.
     fn drawn_length(&mut self) -> usize {
-        if self.run.dice.per_thousand(2) {
+        if self.run.dice.per_thousand(4) {
             return LONG + self.run.dice.below(5);
         }
         self.run.dice.between(10, 500)
@@ -621,7 +622,7 @@ impl Planner<'_> {
     /// A fault where others are about to find a link fault or to commit.
     fn sly_fault_scene(&mut self) {
         self.settle();
-        if self.run.wishes.damage && self.chance(700) {
+        if self.run.wishes.damage && self.chance(500) {
             self.hurt_a_line();
         }
         if !self.begin() {
@@ -644,16 +645,20 @@ impl Planner<'_> {
         let Some((from, to)) = self.send_some() else {
             return;
         };
-        let pattern = self.run.dice.between(1, 65_535) as u16;
-        let hurts = [record(11, from, to, 0, pattern), record(12, from, to, 0, 0)];
+        let burst = self.run.burst_to_be_taken();
+        let hurts = [damage_at((from, to, 0), burst), record(12, from, to, 0, 0)];
         let hurt = self.run.dice.pick(&hurts);
         if !self.run.dangerous_to_hurt(from, to) {
             self.step(hurt);
         }
     }
 
-    /// A packet is hurt: of the lines as they are, or of a save begun for it.
+    /// A packet is hurt: of the lines as they are, of a save begun for it, or where it is known
+    /// what becomes of it.
     fn damage_scene(&mut self) {
+        if self.chance(500) {
+            return self.aimed_damage_scene();
+        }
         if self.chance(400) {
             self.send_some();
         } else if self.chance(800) {
@@ -667,6 +672,23 @@ impl Planner<'_> {
             self.step(record);
         }
         self.settle_mostly();
+    }
+
+    /// Mostly until the hurt is found and what it brings has come to its end.
+    fn aimed_damage_scene(&mut self) {
+        self.crowd_a_line();
+        let behind = self.chance(250) && self.save_up_to_commit();
+        let behind = behind.then(|| self.run.hurt_behind_a_hurt_signal()).flatten();
+        let record = behind.or_else(|| self.run.sensible_damage());
+        record.map(|record| self.step(record));
+        self.take_what_follows();
+        if self.run.group.packet_version() == PacketVersion::One && self.chance(700) {
+            self.save_up_to_commit();
+        }
+        self.settle_mostly();
+        if self.chance(300) {
+            self.save_and_settle();
+        }
     }
 
     /// A packet is lost, and a save finds it; mostly another one commits after the recovery.
@@ -712,8 +734,8 @@ impl Planner<'_> {
         let Some((from, to)) = self.send_some() else {
             return;
         };
-        let pattern = self.run.dice.between(1, 65_535) as u16;
-        let hurts = [record(11, from, to, 0, pattern), record(12, from, to, 0, 0)];
+        let burst = self.run.burst_to_be_taken();
+        let hurts = [damage_at((from, to, 0), burst), record(12, from, to, 0, 0)];
         let first = self.run.dice.pick(&hurts);
         self.step(first);
         self.settled_return();
@@ -866,6 +888,7 @@ mod tests {
     use crate::evening::{counted_evening, operation, Operation, Sight};
     use crate::listing::Tally;
     use crate::model::{booking_in, Image, Outlet};
+    use crate::own_checks::{Found, Misfit};
     use crate::trips::Between;
     use crate::unsure::{Lost, Refusal};
     use std::collections::BTreeSet;
@@ -891,7 +914,7 @@ mod tests {
     #[test]
     fn the_plans_reach_every_answer_and_sight() {
         let mut tally = Tally::default();
-        for index in 0..600 {
+        for index in 0..1000 {
             let case = make_plan_case(case_seed(7, index), wishes(true));
             tally.add(&counted_evening(&case.group, &case.steps, KINDS).1);
         }
@@ -906,6 +929,10 @@ mod tests {
         assert!(unsure.refused.keys().eq(&Refusal::ALL) && unsure.at_another_place > 0);
         assert!(unsure.recoveries_ended.keys().eq(&lost) && unsure.recoveries_by_recover > 0);
         assert!(unsure.recoveries_ended.values().all(|&ended| ended > 30));
+        let own_checks = &tally.own_checks;
+        assert!(own_checks.groups.len() == 2 && own_checks.misfits.keys().eq(&Misfit::ALL));
+        assert!(own_checks.recoveries_ended.keys().eq(&Found::ALL));
+        assert_eq!(own_checks.dropped.len(), 2);
     }
 
     /// The saves as the documents tell them: images at the cuts, points returned to, and what

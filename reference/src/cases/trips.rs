@@ -76,7 +76,7 @@ impl Run<'_> {
     }
 
     /// Each cause that there is as likely as the others, but a store's trip, which is always
-    /// there.
+    /// there, and a third trip in a recovery, which seldom is.
     pub(super) fn crashing_trip(&mut self) -> Option<Record> {
         let mut by_cause: BTreeMap<Crash, Vec<Number>> = BTreeMap::new();
         for a in self.group.working_cabinets() {
@@ -86,6 +86,9 @@ impl Run<'_> {
         }
         if by_cause.len() > 1 && self.dice.per_thousand(850) {
             by_cause.remove(&Crash::StoreTripped);
+        }
+        if by_cause.contains_key(&Crash::FailInRecovery) && self.dice.per_thousand(500) {
+            by_cause.retain(|cause, _| *cause == Crash::FailInRecovery);
         }
         let causes: Vec<Crash> = by_cause.keys().copied().collect();
         let cause = self.dice.pick_any(&causes)?;
@@ -138,7 +141,7 @@ impl Run<'_> {
     fn finds_a_link_fault(&self, records: &[Record]) -> bool {
         let mut group = self.group.clone();
         let outcomes = records.iter().map(|record| group.step(record, self.wishes.highest_kind));
-        outcomes.last().is_some_and(|outcome| matches!(outcome.event, Event::LinkFault { .. }))
+        outcomes.last().is_some_and(|outcome| matches!(outcome.event, Event::LinkFault(_)))
     }
 
     /// Somebody trips out of sight of the coordinator, which may still have the reports on all

@@ -106,7 +106,7 @@ impl Run<'_> {
     fn with_a_report_after(&self, mut way: Vec<Record>, lead: Number) -> Option<Vec<Record>> {
         let mut group = self.group.clone();
         let outcomes = way.iter().map(|record| group.step(record, self.wishes.highest_kind));
-        let found = outcomes.last().is_some_and(|o| matches!(o.event, Event::LinkFault { .. }));
+        let found = outcomes.last().is_some_and(|o| matches!(o.event, Event::LinkFault(_)));
         let mut numbers = group.numbers();
         let reports = |a: &Number| {
             let to_lead = group.cabinet(*a).coordinator() == lead;

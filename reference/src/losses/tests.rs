@@ -2,7 +2,7 @@
 
 use super::*;
 use crate::listing::{counted_listing, Counter};
-use crate::model::{load, Charge, Check, Group, Outlet, State, KINDS};
+use crate::model::{load, Charge, Check, Group, Outlet, Sign, State, KINDS};
 use crate::testing::{answers, bookings, deliver, one, send, settle, settle_until, Record};
 
 /// A damage or a loss on the line from a to b.
@@ -65,7 +65,7 @@ fn the_count_finds_what_the_crc_does_not_see() {
     assert_eq!((sent.crc, taken.crc), (START.crc, START.crc));
     assert_eq!((sent.count, taken.count), (1, 0));
     let events = save(&mut group);
-    assert!(events.contains(&Event::LinkFault { by_comparison: true }));
+    assert!(events.contains(&Event::LinkFault(Sign::CheckValue)));
     assert!(!events.contains(&Event::Commit));
     assert_eq!(bookings(&group), [30_000, 50, 25]);
     assert_eq!(save(&mut group).iter().filter(|&&event| event == Event::Commit).count(), 1);
@@ -288,7 +288,7 @@ fn a_loss_in_a_recovery_crashes_and_leaves_the_packet() {
 // ------------------------------------------------------------ the counts
 
 fn counted(group: &mut Group, records: &[Record]) -> LossCounts {
-    let mut counter = Counter::new();
+    let mut counter = Counter::new(group);
     for record in records {
         counter.step(group, record, KINDS);
     }

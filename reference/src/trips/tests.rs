@@ -276,7 +276,7 @@ fn a_trip_is_refused_as_a_fail_is() {
 // ------------------------------------------------------------ the counts
 
 fn counted(group: &mut Group, records: &[Record]) -> TripCounts {
-    let mut counter = Counter::new();
+    let mut counter = Counter::new(group);
     for record in records {
         counter.step(group, record, KINDS);
     }

@@ -320,7 +320,7 @@ fn wait_over_is_withdrawn() {
 // ------------------------------------------------------------ the counts
 
 fn counted(group: &mut Group, records: &[Record]) -> UnsureCounts {
-    let mut counter = Counter::new();
+    let mut counter = Counter::new(group);
     for record in records {
         counter.step(group, record, KINDS);
     }

@@ -12,7 +12,7 @@ use Rattle.packet.specs.declared.Check.{Check}
 use Rattle.packet.specs.declared.Place.{Place}
 use Rattle.packet.specs.declared.Packet.{Packet}
 use Rattle.packet.specs.declared.Packet.the-variants.{Empty, Normal as NormalPacket, Checkp, Resume, Recover, Fault, Invalid}
-use Rattle.packet.specs.Packet.{startCheck, sameCheck}
+use Rattle.packet.specs.Packet.{startCheck, sameCheck, fits}
 use Rattle.line.specs.Line.{rest}
 use Rattle.state.specs.declared.State.{State}
 use Rattle.state.specs.declared.State.the-variants.{Normal, CheckpBegin}
@@ -22,10 +22,11 @@ use Rattle.cabinet.specs.Alarm.{isFor}
 use Rattle.state.specs.State.{isIn, inRecovery}
 use Rattle.group.specs.Group.{cabinet, stateOf, line, withOutgoing, withLine, working}
 use Rattle.protocol.specs.Moves.{findLinkFault}
-use Rattle.protocol.specs.Receive.{serving, takesFrom, receiveNormal, receiveCheckp, receiveResume, receiveRecover, receiveFault, receiveInvalid, receive}
+use Rattle.protocol.specs.Receive.{serving, takesFrom, takes, receiveNormal, receiveCheckp, receiveResume, receiveRecover, receiveFault, receiveInvalid, receive}
 use Rattle.protocol.specs.Crash.{Recovers, Saves, Serves, Compares, Unreached, soundLinks, PlacesMeet, LinkFault}
 use Rattle.protocol.specs.Crash.PlacesMeet.{other-place}
-use Rattle.protocol.specs.Crash.LinkFault.{unequal, after-checkp, after-cut, hit}
+use Rattle.protocol.specs.Crash.LinkFault.{unequal, after-checkp, after-cut, unfit, hit}
+use Rattle.claims.proofs.State.Fun.{never, and-true, and-intro}
 use Rattle.claims.proofs.Answers.Tests.{Reflects, itself, not-reflects, or-reflects, and-reflects, in-state, in-recovery, in-serving, serves-or-recovers, fault-for, same-check, not-reached}
 use Rattle.claims.proofs.Answers.Answer.{Answer, recast, either, only-if, unless, crash-unless}
 use Rattle.claims.proofs.Answers.Answer.Answer.{took}
@@ -40,23 +41,23 @@ true-unless false n = absurd (n (λ e. false≢true e))
 abbrev Late : State → Bool → Type 0
 Late s come = ((s ≡ CheckpBegin) × (come ≡ true)) ⊎ Saves s
 
-abbrev takes : State → Bool → Bool
-takes s come = isIn s Normal || (isIn s CheckpBegin && not come)
+abbrev inTime : State → Bool → Bool
+inTime s come = isIn s Normal || (isIn s CheckpBegin && not come)
 
-late : (s : State) (come : Bool) → ((takes s come ≡ true → ⊥) × Serves s) ↔ Late s come
+late : (s : State) (come : Bool) → ((inTime s come ≡ true → ⊥) × Serves s) ↔ Late s come
 late s come = (to, from)
   where
-    taking : Reflects (takes s come) ((s ≡ Normal) ⊎ ((s ≡ CheckpBegin) × (come ≡ true → ⊥)))
+    taking : Reflects (inTime s come) ((s ≡ Normal) ⊎ ((s ≡ CheckpBegin) × (come ≡ true → ⊥)))
     taking =
         or-reflects (isIn s Normal) (isIn s CheckpBegin && not come) (in-state s Normal)
         (and-reflects (isIn s CheckpBegin) (not come) (in-state s CheckpBegin) (not-reflects come (itself come)))
 
-    to : (takes s come ≡ true → ⊥) × Serves s → Late s come
+    to : (inTime s come ≡ true → ⊥) × Serves s → Late s come
     to (n, inl e) = absurd (n (taking .1 (inl e)))
     to (n, inr (inl e)) = inl (e, true-unless come (λ m. n (taking .1 (inr (e, m)))))
     to (n, inr (inr e)) = inr e
 
-    from : Late s come → (takes s come ≡ true → ⊥) × Serves s
+    from : Late s come → (inTime s come ≡ true → ⊥) × Serves s
     from (inl (e, m)) = (λ t. false≢true (rw (e, m) at t), inr (inl e))
     from (inr (inl e)) = (λ t. false≢true (rw e at t), inr (inr (inl e)))
     from (inr (inr e)) = (λ t. false≢true (rw e at t), inr (inr (inr e)))
@@ -95,14 +96,25 @@ module _ (g : Group) (a b : ℕ) where
   unfolding receiveNormal cabinet withLine withOutgoing
   normal-answers p =
       recast (to, from)
-      (unless (takesFrom (cabinet g b) a) _ (itself (takesFrom (cabinet g b) a)) (only-if (serving state) _ (in-serving state) find-answers))
+      (unless (takes (cabinet g b) a p) _ (itself (takes (cabinet g b) a p)) (only-if (serving state) _ (in-serving state) find-answers))
     where
-      to : (takesFrom (cabinet g b) a ≡ true → ⊥) × (Serves state × Parts) → Upset (NormalPacket p)
-      to (n, (s, u)) = inr (⊎-elim (λ l. after-checkp (l .0) (l .1)) (λ l. after-cut l) (late state (marked (cabinet g b .noted .come) a) .0 (n, s)), u)
+      untaken : (takesFrom (cabinet g b) a ≡ true → ⊥) → takes (cabinet g b) a p ≡ true → ⊥
+      untaken n e = n (and-true {s = takesFrom (cabinet g b) a} e .0)
 
-      from : Upset (NormalPacket p) → (takesFrom (cabinet g b) a ≡ true → ⊥) × (Serves state × Parts)
-      from (inr (after-checkp e m, u)) = let l = late state (marked (cabinet g b .noted .come) a) .1 (inl (e, m)) in (l .0, (l .1, u))
-      from (inr (after-cut e, u)) = let l = late state (marked (cabinet g b .noted .come) a) .1 (inr e) in (l .0, (l .1, u))
+      -- it does not fit, or it comes too late
+      found : (t : Bool) → fits p ≡ t → (takes (cabinet g b) a p ≡ true → ⊥) → Serves state → LinkFault (cabinet g b) a (NormalPacket p)
+      found true e n s =
+          ⊎-elim (λ l. after-checkp (l .0) (l .1)) (λ l. after-cut l) (late state (marked (cabinet g b .noted .come) a) .0 ((λ t. n (and-intro t e)), s))
+      found false e n s = ⊎-elim (λ l. unfit (inl l) e) (λ l. ⊎-elim (λ k. unfit (inr k) e) (λ k. after-cut k) l) s
+
+      to : (takes (cabinet g b) a p ≡ true → ⊥) × (Serves state × Parts) → Upset (NormalPacket p)
+      to (n, (s, u)) = inr (found (fits p) refl n s, u)
+
+      from : Upset (NormalPacket p) → (takes (cabinet g b) a p ≡ true → ⊥) × (Serves state × Parts)
+      from (inr (after-checkp e m, u)) = let l = late state (marked (cabinet g b .noted .come) a) .1 (inl (e, m)) in (untaken (l .0), (l .1, u))
+      from (inr (after-cut e, u)) = let l = late state (marked (cabinet g b .noted .come) a) .1 (inr e) in (untaken (l .0), (l .1, u))
+      from (inr (unfit c e, u)) =
+          (λ t. never (and-true {s = takesFrom (cabinet g b) a} t .1) e, (⊎-elim (λ l. inl l) (λ l. inr (inl l)) c, u))
 
   checkp-answers : (v : Check) → Answer g [] (Upset (Checkp v)) (receiveCheckp g after a b v)
   unfolding receiveCheckp cabinet withLine withOutgoing

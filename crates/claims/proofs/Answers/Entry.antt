@@ -10,6 +10,7 @@ use borrow.Author.Tests.{ltb-true, ltb-false}
 use native.Mathlib.Omega.{arith}
 use Rattle.marks.specs.Marks.{marked}
 use Rattle.marks.specs.Reach.{connected}
+use Rattle.packet.specs.declared.Pattern.{Pattern}
 use Rattle.line.specs.Line.{oldest}
 use Rattle.group.specs.declared.Group.{Group}
 use Rattle.group.specs.declared.Outcome.{Outcome}
@@ -154,13 +155,13 @@ module _ (g : Group) (a : ℕ) where
 
 -- ---- damage
 
-damage-answers : (g : Group) (a b p q : ℕ) → Answers g (Damage a b p q) (damageStep g (a - 1) (b - 1) p q)
+damage-answers : (g : Group) (a b p : ℕ) (w : Pattern) → Answers g (Damage a b p w) (damageStep g (a - 1) (b - 1) p w)
 unfolding damageStep
-damage-answers g a b p q =
-    guarded (damageRefusal g (a - 1) (b - 1) p q) (kind-listed g (Damage a b p q))
+damage-answers g a b p w =
+    guarded (damageRefusal g (a - 1) (b - 1) p w) (kind-listed g (Damage a b p w))
     (recast (λ r. damage-in-recovery r, from) (crash-if (some (recoveringOnes g)) _ (some-recovers g)))
   where
-    from : Cause g (Damage a b p q) → SomeRecovers g
+    from : Cause g (Damage a b p w) → SomeRecovers g
     from (damage-in-recovery r) = r
 
 -- ---- lose

@@ -1,4 +1,4 @@
--- What document 01 asks of every run beside demand 3: lines keep to their sizes, and additions do not wrap.
+-- What the documents ask of every run beside demand 3: the packet version stays, lines keep to their sizes, and additions do not wrap.
 use Prim.Native.Nat.{ℕ, zero, suc, _+_, _<_, _≤_}
 use mathlib.Core.Path.{_≡_, refl, sym, ap, _∙_, subst}
 use mathlib.Core.Logic.{⊎-elim}
@@ -8,6 +8,7 @@ use lib.ListN.{length}
 use native.Mathlib.Omega.{arith}
 use native.Mathlib.Decide.{ℕ-discrete}
 use Rattle.marks.specs.Marks.{marked}
+use Rattle.packet.specs.declared.PacketVersion.{PacketVersion}
 use Rattle.packet.specs.declared.Payload.{Payload}
 use Rattle.packet.specs.declared.Packet.{Packet}
 use Rattle.packet.specs.declared.Packet.the-variants.{Empty, Normal as NormalPacket, Checkp, Resume, Recover, Fault, Invalid}
@@ -22,16 +23,19 @@ use Rattle.group.specs.declared.Group.{Group}
 use Rattle.group.specs.Group.{cabinet, stateOf, line, isCrashed, sum}
 use Rattle.load.specs.Load.{load, feederTotal}
 use Rattle.protocol.specs.Receive.{takesFrom}
-use Rattle.protocol.specs.History.{Operation}
+use Rattle.protocol.specs.History.{Operation, opening}
 use Rattle.protocol.specs.Restored.{Octets, AllOctets, worldAfter}
-use Rattle.claims.specs.Bounds.{LinesBounded, HasRoom, NeverWraps}
+use Rattle.claims.specs.Bounds.{VersionStays, LinesBounded, HasRoom, NeverWraps}
 use Rattle.claims.proofs.State.Fun.{never, is-true, sum-add, sum-swap}
 use Rattle.claims.proofs.State.View.{View, packetOf, content, view}
 use Rattle.claims.proofs.State.ViewMoves.{sim-off}
 use Rattle.claims.proofs.Invariant.Facts.{Ghost, Pair, unaware, amountsIn, amount}
 use Rattle.claims.proofs.Invariant.Whole.{Inv, outOf, gotOf}
 use Rattle.claims.proofs.Invariant.Words.{un-of, un-works, live-line}
-use Rattle.claims.proofs.Claims.Demand.{Runs, every-list}
+use Rattle.claims.proofs.Claims.Demand.{Runs, every-list, run-fixed}
+
+pub version-stays : VersionStays
+version-stays f xs = ap (λ (y : ℕ × PacketVersion). y .1) (run-fixed xs (opening (load f .group)))
 
 -- ---- sizes
 

@@ -11,6 +11,7 @@ use native.Mathlib.Omega.{arith}
 use native.Mathlib.Decide.{ℕ-discrete, decLt}
 use Rattle.marks.specs.Marks.{lowest}
 use Rattle.marks.specs.MarksLaws.{lowest-le-marked}
+use Rattle.packet.specs.declared.PacketVersion.{PacketVersion}
 use Rattle.state.specs.declared.State.{State}
 use Rattle.state.specs.declared.State.the-variants.{Normal, Error, Recovered, Crashed}
 use Rattle.image.specs.declared.Image.{Image}
@@ -36,7 +37,7 @@ use Rattle.protocol.specs.History.{History, Operation, stepping, pointing, retu
 use Rattle.protocol.specs.Restored.{Restored, Octets, OctetsIn, AllOctets, worldAfter, DemandThree}
 use Rattle.claims.proofs.State.Fun.{never, and-true, and-intro, not-true-false, cond-elim}
 use Rattle.claims.proofs.State.Every.{passed, every-step, FitsIn, decode-fits, asksUnsure, asksIn}
-use Rattle.claims.proofs.State.Counting.{step-n}
+use Rattle.claims.proofs.State.Fixed.{fixed, step-fixed, step-n}
 use Rattle.claims.proofs.State.View.{view}
 use Rattle.claims.proofs.State.Shape.{Shaped, Lined, Pictured, shaped}
 use Rattle.claims.proofs.State.Sim.{Fit}
@@ -379,20 +380,26 @@ unfolding run
 good-run total [] w o h = h
 good-run total (x ∷ xs) w o h = good-run total xs (advance w x) (o .1) (one-more total w h x (o .0) .0)
 
-return-n : (ps : Points) (g : Group) (name : List ℕ) → returnTo ps g name .group .n ≡ g .n
+return-fixed : (ps : Points) (g : Group) (name : List ℕ) → fixed (returnTo ps g name .group) ≡ fixed g
 unfolding returnTo returned
-return-n ps g name = cond-elim (λ (x : Outcome). x .group .n ≡ g .n) (eqb (returnRefusal ps g name) 0) (λ _. refl) (λ _. refl)
+return-fixed ps g name = cond-elim (λ (x : Outcome). fixed (x .group) ≡ fixed g) (eqb (returnRefusal ps g name) 0) (λ _. refl) (λ _. refl)
+
+advance-fixed : (x : Operation) (w : World) → fixed (advance w x .group) ≡ fixed (w .group)
+unfolding advance
+advance-fixed (stepping r) w = step-fixed (w .group) r
+advance-fixed (pointing name) w = refl
+advance-fixed (returning name) w = return-fixed (w .points) (w .group) name
+
+pub run-fixed : (xs : List Operation) (w : World) → fixed (run w xs .group) ≡ fixed (w .group)
+unfolding run
+run-fixed [] w = refl
+run-fixed (x ∷ xs) w = run-fixed xs (advance w x) ∙ advance-fixed x w
 
 pub advance-n : (x : Operation) (w : World) → advance w x .group .n ≡ w .group .n
-unfolding advance
-advance-n (stepping r) w = step-n (w .group) r
-advance-n (pointing name) w = refl
-advance-n (returning name) w = return-n (w .points) (w .group) name
+advance-n x w = ap (λ (y : ℕ × PacketVersion). y .0) (advance-fixed x w)
 
 pub run-n : (xs : List Operation) (w : World) → run w xs .group .n ≡ w .group .n
-unfolding run
-run-n [] w = refl
-run-n (x ∷ xs) w = run-n xs (advance w x) ∙ advance-n x w
+run-n xs w = ap (λ (y : ℕ × PacketVersion). y .0) (run-fixed xs w)
 
 pub every-list : (f : List ℕ) → Octets f → load f .answer ≡ 0 → (xs : List Operation) → AllOctets xs → Good (feederTotal f) (worldAfter f xs)
 every-list f of e xs o =

@@ -13,7 +13,7 @@ use native.Mathlib.Decide.{ℕ-discrete}
 use Rattle.marks.specs.Marks.{marked}
 use Rattle.packet.specs.declared.Packet.{Packet}
 use Rattle.packet.specs.declared.Packet.the-variants.{Empty, Normal as NormalPacket, Checkp, Resume, Recover, Fault, Invalid}
-use Rattle.packet.specs.Packet.{isNormal}
+use Rattle.packet.specs.Packet.{isNormal, fits}
 use Rattle.line.specs.Line.{oldest, packetAt}
 use Rattle.state.specs.declared.State.the-variants.{Normal, Checkpointed, Recovering, Recovered}
 use Rattle.cabinet.specs.declared.Alarm.{Alarm}
@@ -67,7 +67,7 @@ known-same false h = (refl, refl)
 
 taken-same : (t : Bool) (h : History) (a b : ℕ) (p : Packet) → SameSave (latest (noteTaken t h a b p)) (latest h)
 taken-same true h a b Empty = (refl, refl)
-taken-same true h a b (NormalPacket p) = (refl, refl)
+taken-same true h a b (NormalPacket p) = cond-elim (λ (x : History). SameSave (latest x) (latest h)) (fits p) (λ _. (refl, refl)) (λ _. (refl, refl))
 taken-same true h a b (Checkp v) = (refl, refl)
 taken-same true h a b Resume = (refl, refl)
 taken-same true h a b (Recover v) = (refl, refl)
@@ -124,7 +124,7 @@ module _ (g : Group) (recovers : any (recoveringOnes g) ≡ true) where
     observed-same (Fetch a) e = known-same (goes g g′ (a - 1) Recovering Recovered) h
     observed-same (RestoredStep a) e = end-same (ends g g′ (a - 1)) h g′
     observed-same (Fail a) e = absurd (refused-or (entryRefusal g (Fail a)) (failStep g (a - 1)) (fail-fifty (a - 1)) e)
-    observed-same (Damage a b p q) e = damage-same (isNormal (packetAt (line g (a - 1) (b - 1)) p)) h (a - 1) (b - 1)
+    observed-same (Damage a b p w) e = damage-same (isNormal (packetAt (line g (a - 1) (b - 1)) p)) h (a - 1) (b - 1)
     observed-same (Lose a b p) e = (refl, refl)
     observed-same (Trip a) e = absurd (refused-or (entryRefusal g (Trip a)) (tripStep g (a - 1)) (trip-fifty (a - 1)) e)
     observed-same (Unsure a) e = (refl, refl)

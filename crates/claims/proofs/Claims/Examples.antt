@@ -1,4 +1,4 @@
--- Demand 3 for each of the runs of `specs/Examples`, `specs/Returns`, `specs/Outlets`, `specs/Losses`, `specs/Trips` and `specs/Unsure`: its premises are met in runs that restore a save.
+-- Demand 3 for each of the runs of `specs/Examples`, `specs/Returns`, `specs/Outlets`, `specs/Losses`, `specs/Trips`, `specs/Unsure` and `specs/OwnChecks`: its premises are met in runs that restore a save.
 use Prim.Native.Nat.{ℕ, zero, suc}
 use mathlib.Core.Path.{_≡_, refl, ap, sym, subst, _∙_}
 use mathlib.Core.Bool.{Bool, true, _&&_}
@@ -27,6 +27,8 @@ use Rattle.protocol.proofs.Closed.Losses.{loss-found}
 use Rattle.protocol.proofs.Closed.Trips.{trips-found}
 use Rattle.protocol.specs.Unsure.{decided-after-fail, decided-after-fail-finds, decided-after-trip, decided-after-trip-finds, early, early-finds}
 use Rattle.protocol.proofs.Closed.Unsure.{decisions-found}
+use Rattle.protocol.specs.OwnChecks.{hurt-on-taking, hurt-on-taking-finds, check-hurt, check-hurt-finds, hurt-until-checkp, hurt-until-checkp-finds, fitting-loss, fitting-loss-finds}
+use Rattle.protocol.proofs.Closed.OwnChecks.{own-checks-found}
 
 -- ---- octets
 
@@ -153,3 +155,17 @@ decided-after-trip-restored = demanded decided-after-trip decided-after-trip-fin
 
 pub early-restored : Demanded early
 early-restored = demanded early early-finds (decisions-found .2) refl refl refl refl refl
+
+-- recoveries from a packet that is hurt or lost, three of them in packet version 2
+
+pub hurt-on-taking-restored : Demanded hurt-on-taking
+hurt-on-taking-restored = demanded hurt-on-taking hurt-on-taking-finds (own-checks-found .0) refl refl refl refl refl
+
+pub check-hurt-restored : Demanded check-hurt
+check-hurt-restored = demanded check-hurt check-hurt-finds (own-checks-found .1) refl refl refl refl refl
+
+pub hurt-until-checkp-restored : Demanded hurt-until-checkp
+hurt-until-checkp-restored = demanded hurt-until-checkp hurt-until-checkp-finds (own-checks-found .2) refl refl refl refl refl
+
+pub fitting-loss-restored : Demanded fitting-loss
+fitting-loss-restored = demanded fitting-loss fitting-loss-finds (own-checks-found .3) refl refl refl refl refl

@@ -52,14 +52,14 @@ module _ (total : ℕ) (g : Group) (h : History) (γ : Ghost) (w : Fit g) (i : I
   v = view g
 
   abbrev Ends : Step → View → Type 0
-  Ends s u = Unbounded (λ a b. handled s a b (v .lines a b)) (cameFrom s) v u
+  Ends s u = Unbounded (λ a b. handled g s a b (v .lines a b)) (cameFrom s) v u
 
   abbrev Owed : Step → Outcome → Type 0
   Owed s o = o .answer ≡ 0 → Ends s (view (o .group))
 
   -- a step that changes its own line and no state
-  line-ends : (s : Step) (u : View) → ((c : ℕ) → u .own c .state ≡ v .own c .state) → ((c d : ℕ) → u .lines c d ≡ handled s c d (v .lines c d)) → Ends s u
-  line-ends s u = still (λ c d. handled s c d (v .lines c d)) (cameFrom s) v u
+  line-ends : (s : Step) (u : View) → ((c : ℕ) → u .own c .state ≡ v .own c .state) → ((c d : ℕ) → u .lines c d ≡ handled g s c d (v .lines c d)) → Ends s u
+  line-ends s u = still (λ c d. handled g s c d (v .lines c d)) (cameFrom s) v u
 
   checked : (s : Step) (k : ℕ) (o : Outcome) → (k ≡ 0 → Owed s o) → Owed s (orRefuse k g o)
   checked s k o f = cond-elim (Owed s) (eqb k 0) (λ e. f (eqb-true k 0 e)) (λ e a. absurd (eqb-false k 0 e a))
@@ -92,7 +92,7 @@ module _ (total : ℕ) (g : Group) (h : History) (γ : Ghost) (w : Fit g) (i : I
       checked (Send a b p q) (sendRefusal g (a - 1) (b - 1) p q) _ (λ e _.
       let seen = send-seen total g h γ w i past (a - 1) (b - 1) p q (at a x .1) (at b y .1) f e in
       line-ends (Send a b p q) (view (sent g (a - 1) (b - 1) p q)) (λ c. ap (λ (u : View). u .own c .state) seen ∙ kept-at (λ (z : Own). z .state) (v .own) (a - 1) _ refl c)
-      (λ c d. ap (λ (u : View). u .lines c d) seen ∙ line-at (v .lines) (λ l. l ++ (NormalPacket (carried p q) ∷ [])) (a - 1) (b - 1) c d))
+      (λ c d. ap (λ (u : View). u .lines c d) seen ∙ line-at (v .lines) (λ l. l ++ (NormalPacket (carried g p q) ∷ [])) (a - 1) (b - 1) c d))
   performed (Note a p q) f x y o = checked (Note a p q) (noteRefusal g (a - 1) p q) _ (λ e _. cabinet-puts total g γ w i (a - 1) _ (at a x .1) (idle-same (stateOf g (a - 1))))
   performed (Begin a) f x y o = checked (Begin a) (beginRefusal g (a - 1)) _ (λ e _. begin-puts total g γ w i (a - 1) (at a x .1) o e)
   performed (Deliver a b) f x y o =
@@ -153,7 +153,7 @@ first-in-first-out f of e xs o r or s d taken a b = ⊎-elim (λ c. absurd (not-
     goes w =
         let fit = every-step Shaped Lined Pictured shaped g r or (w .fit) in
         rw (in-use (cabinet (step g r .group) a) (fit .cabs a) b)
-        (subst (λ (x : Outcome). Unbounded (λ i j. handled s i j (view g .lines i j)) (cameFrom s) (view g) (view (x .group))) (sym is)
+        (subst (λ (x : Outcome). Unbounded (λ i j. handled g s i j (view g .lines i j)) (cameFrom s) (view g) (view (x .group))) (sym is)
         (entered (feederTotal f) g (worldAfter f xs .history) (w .ghost) (w .fit) (w .inv) (w .past) s (subst FitsIn d (decode-fits r or))
         (sym (ap (λ (x : Outcome). x .answer) is) ∙ taken)) a b)
 

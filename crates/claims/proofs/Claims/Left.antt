@@ -7,7 +7,7 @@ use lib.Dec.{eqb}
 use Rattle.marks.specs.Marks.{marked}
 use Rattle.packet.specs.declared.Packet.{Packet}
 use Rattle.packet.specs.declared.Packet.the-variants.{Empty, Normal as NormalPacket, Checkp, Resume, Recover, Fault, Invalid}
-use Rattle.packet.specs.Packet.{isNormal}
+use Rattle.packet.specs.Packet.{isNormal, fits}
 use Rattle.line.specs.Line.{oldest, packetAt}
 use Rattle.state.specs.declared.State.the-variants.{Normal, Checkpointed, Recovering, Recovered}
 use Rattle.image.specs.declared.Image.{Image}
@@ -39,7 +39,7 @@ known-leaves false h = nothing h
 
 taken-leaves : (t : Bool) (h : History) (a b : ℕ) (p : Packet) → Leaves h (noteTaken t h a b p)
 taken-leaves true h a b Empty = nothing h
-taken-leaves true h a b (NormalPacket p) = record { points = refl; lost = λ c m e. e }
+taken-leaves true h a b (NormalPacket p) = cond-elim (Leaves h) (fits p) (λ _. record { points = refl; lost = λ c m e. e }) (λ _. nothing h)
 taken-leaves true h a b (Checkp v) = nothing h
 taken-leaves true h a b Resume = nothing h
 taken-leaves true h a b (Recover v) = nothing h
@@ -74,7 +74,7 @@ observed-leaves h g g′ (Saved a) =
 observed-leaves h g g′ (Fetch a) = known-leaves (goes g g′ (a - 1) Recovering Recovered) h
 observed-leaves h g g′ (Restored a) = end-leaves (ends g g′ (a - 1)) h g′
 observed-leaves h g g′ (Fail a) = record { points = refl; lost = λ c m e. e }
-observed-leaves h g g′ (Damage a b p q) = damage-leaves (isNormal (packetAt (line g (a - 1) (b - 1)) p)) h (a - 1) (b - 1)
+observed-leaves h g g′ (Damage a b p w) = damage-leaves (isNormal (packetAt (line g (a - 1) (b - 1)) p)) h (a - 1) (b - 1)
 observed-leaves h g g′ (Lose a b p) = record { points = refl; lost = λ c m e. e }
 observed-leaves h g g′ (Trip a) = record { points = refl; lost = λ c m e. e }
 observed-leaves h g g′ (Unsure a) = nothing h

@@ -36,7 +36,7 @@ use Rattle.protocol.specs.Restored.{Restored, Octets, OctetsIn}
 use Rattle.claims.specs.NoClock.{NoReports, WaitTaken, waited, Reached, start, next, wait, isReport, loaded, operated, waitedAt, BeforeUnreported, unsureRecord, report, times, OneOfEach, AllTaken, NoClock, NoClockBefore}
 use Rattle.claims.proofs.State.Fun.{never, is-true, is-false, and-true, and-intro, not-true-false, cond-elim, upd-pair}
 use Rattle.claims.proofs.State.Every.{passed, ok-recoverWith, every-step, asksIn, decode-asks}
-use Rattle.claims.proofs.State.Counting.{step-n, recover-n}
+use Rattle.claims.proofs.State.Fixed.{step-n, recover-n}
 use Rattle.claims.proofs.State.View.{View, Own, Side, view}
 use Rattle.claims.proofs.State.Shape.{Shaped, Lined, Pictured, shaped}
 use Rattle.claims.proofs.State.Sim.{Fit}

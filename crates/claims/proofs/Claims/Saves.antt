@@ -34,7 +34,7 @@ use Rattle.protocol.specs.Restored.{Octets, AllOctets, worldAfter, Balanced, am
 use Rattle.claims.specs.Saves.{Commits, savedTotal, CommitsWhole, CommitsUnhurt, CommitsBetweenResumes, TakesResume, ResumeOfNewest, VersionsNameNewest, KnownWhereUsed, OfNewest, LastReport, DecidedByOld, FetchedOfNewest, CutsSinceBegin}
 use Rattle.claims.proofs.State.Fun.{never, is-true, and-true, and-intro, not-true-false, cond-elim, sum-cong}
 use Rattle.claims.proofs.State.Every.{passed}
-use Rattle.claims.proofs.State.Counting.{step-n}
+use Rattle.claims.proofs.State.Fixed.{step-n}
 use Rattle.claims.proofs.State.View.{view}
 use Rattle.claims.proofs.State.Cells.{content-set}
 use Rattle.claims.proofs.Answers.Tests.{in-state}

@@ -28,7 +28,7 @@ use Rattle.group.specs.declared.Outcome.{Outcome}
 use Rattle.group.specs.Group.{cabinet, withCabinet, stateOf, outgoing, line, rowsOf, working, withSound, taken}
 use Rattle.protocol.specs.History.{History, upd}
 use Rattle.protocol.specs.Moves.{join, takeCheckp, enterError, findLinkFault, endRecovery}
-use Rattle.protocol.specs.Receive.{serving, takesFrom, joinIf, resumesFrom, receive, receiveNormal, receiveCheckp, receiveResume, receiveRecover, receiveFault, receiveInvalid}
+use Rattle.protocol.specs.Receive.{serving, takes, joinIf, resumesFrom, receive, receiveNormal, receiveCheckp, receiveResume, receiveRecover, receiveFault, receiveInvalid}
 use Rattle.protocol.specs.Kinds.{delivered}
 use Rattle.claims.proofs.State.Fun.{and-true, and-same, and-false, cond-elim, kept-at, upd-same, upd-other, pair-same, pair-other}
 use Rattle.claims.proofs.State.Every.{with-cabinet, ok-join, ok-enterError}
@@ -136,7 +136,7 @@ module _ (total : ℕ) (g : Group) (h : History) (γ : Ghost) (w : Fit g) (i : I
   normal : (p : Payload) → Owed (receiveNormal g g1 a b p)
   unfolding receiveNormal
   normal p =
-      cond-elim Owed (takesFrom (cabinet g1 b) a)
+      cond-elim Owed (takes (cabinet g1 b) a p)
       (λ _ _. subst Ends (sym (sim-take g1 fit1 a b p la lb))
       (still base back v (vTake (view g1) a b p) (λ c. kept-at (λ (o : Own). o .state) (view g1 .own) b _ refl c ∙ states c) lines))
       (λ _. cond-elim Owed (serving (stateOf g1 b)) linked (λ _ _. dropped))

@@ -8,12 +8,13 @@ use mathlib.Core.List.{List, [], _∷_, _++_}
 use lib.ListN.{length, getD, take, drop}
 use lib.Dec.{eqb}
 use Rattle.packet.specs.declared.Check.{Check}
+use Rattle.packet.specs.declared.OwnCheck.the-variants.{Unchecked}
 use Rattle.packet.specs.declared.Payload.{Payload}
 use Rattle.packet.specs.declared.Place.{Place}
 use Rattle.packet.specs.declared.Place.the-variants.{Tripped as AtTripped}
 use Rattle.packet.specs.declared.Packet.{Packet}
 use Rattle.packet.specs.declared.Packet.the-variants.{Empty, Normal as NormalPacket, Checkp, Resume, Recover, Fault, Invalid}
-use Rattle.packet.specs.Packet.{startCheck, stepCheck}
+use Rattle.packet.specs.Packet.{startCheck, stepCheck, fits}
 use Rattle.state.specs.declared.State.the-variants.{Normal, CheckpBegin, Checkpointing, Checkpointed, Error, Recovering, Recovered, Crashed}
 use Rattle.state.specs.declared.Version.{Version}
 use Rattle.state.specs.declared.Version.the-variants.{Known, Unknown, Lost}
@@ -192,15 +193,25 @@ unfoldable pub Amounts : List Payload → Type 0
 Amounts [] = Unit {0}
 Amounts (p ∷ l) = (p .amount < 65536) × Amounts l
 
+-- every packet fits its own check, if it carries one
+unfoldable pub Fitting : List Payload → Type 0
+Fitting [] = Unit {0}
+Fitting (p ∷ l) = (fits p ≡ true) × Fitting l
+
 -- the amounts of a log, added up
 unfoldable pub amount : List Payload → ℕ
 amount [] = 0
 amount (p ∷ l) = p .amount + amount l
 
--- equal, or different in exactly one place, by another amount for the same outlet or by a packet left out
+-- what damage leaves of a packet: another amount for the same outlet where it carries no check, and else one that does not fit
+pub data Hurt : Payload → Payload → Type 0 where
+  amount-changed : {p q : Payload} → p .own ≡ Unchecked → q .own ≡ Unchecked → p .outlet ≡ q .outlet → p .amount ≢ q .amount → Hurt p q
+  unfit : {p q : Payload} → fits q ≡ false → Hurt p q
+
+-- equal, or different in exactly one place, by a packet that is hurt or one left out
 pub data Differ : Bool → List Payload → List Payload → Type 0 where
   same : {l : List Payload} → Differ false l l
-  here : {p : Payload} {m : ℕ} {l : List Payload} → p .amount ≢ m → Differ true (p ∷ l) (record { outlet = p .outlet; amount = m } ∷ l)
+  here : {p q : Payload} {l : List Payload} → Hurt p q → Differ true (p ∷ l) (q ∷ l)
   missing : {p : Payload} {l : List Payload} → Differ true (p ∷ l) l
   later : {b : Bool} {p : Payload} {k l : List Payload} → Differ b k l → Differ b (p ∷ k) (p ∷ l)
 
@@ -278,6 +289,8 @@ pub record Pair (b : Big) (c d : ℕ) (o : Own) (m : Mind) (p : Own) (n : Mind) 
   -- W: no more is taken or on the way than was sent; a loss leaves less
   pub noMore : b .clean ≡ true → w .got + amount (amountsIn l) ≤ w .out
   pub small : Amounts (w .sent) × (Amounts (w .taken) × Amounts (amountsIn l))
+  -- G10
+  pub fit : Fitting (w .sent) × Fitting (w .taken)
 
 -- ---- facts about one cabinet; z are its slots in the store
 

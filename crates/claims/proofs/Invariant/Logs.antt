@@ -4,22 +4,25 @@ use Prim.Native.Nat.{ℕ, zero, suc, _+_, _%_, _≤_, _<_}
 use mathlib.Core.Path.{_≡_, refl, ap, _∙_, sym}
 use mathlib.Core.Bool.{Bool, true, false, cond, false≢true, true≢false}
 use mathlib.Core.List.{List, [], _∷_, _++_, nil≢cons, append-nil}
-use lib.ListN.{getD}
+use lib.ListN.{getD, drop}
 use native.Mathlib.Omega.{arith}
 use Rattle.crc.specs.Crc.{crcFrom}
-use Rattle.crc.proofs.Laws.{one-differs}
+use Rattle.crc.proofs.Laws.{from-append, one-differs}
+use Rattle.outlet.specs.declared.Outlet.{Outlet}
 use Rattle.outlet.specs.Outlet.{octetOf}
+use Rattle.packet.specs.declared.OwnCheck.{OwnCheck}
+use Rattle.packet.specs.declared.OwnCheck.the-variants.{Unchecked}
 use Rattle.packet.specs.declared.Check.{Check}
 use Rattle.packet.specs.declared.Payload.{Payload}
 use Rattle.packet.specs.declared.Packet.{Packet}
 use Rattle.packet.specs.declared.Packet.the-variants.{Empty, Normal as NormalPacket, Checkp, Resume, Recover, Fault, Invalid}
-use Rattle.packet.specs.Packet.{octetsOf, startCheck, stepCheck, isNormal, isEmpty}
+use Rattle.packet.specs.Packet.{firstThree, ownOctets, octetsOf, fits, startCheck, stepCheck, isNormal, isEmpty}
 use mathlib.Core.Logic.{_≢_, _⊎_, inl, inr, ⊎-elim}
 use Rattle.packet.specs.declared.Place.{Place}
 use Rattle.state.specs.declared.Version.{Version}
 use Rattle.state.specs.declared.Version.the-variants.{Known}
 use Rattle.claims.proofs.State.Fun.{never}
-use Rattle.claims.proofs.Invariant.Facts.{amountsIn, isCheckp, count, resumeFirst, checkFrom, checkOf, Amounts, Differ, same, here, missing, later, Alarms, amount, isFault, isSafe, isInvalid, checkpLast}
+use Rattle.claims.proofs.Invariant.Facts.{amountsIn, isCheckp, count, resumeFirst, checkFrom, checkOf, Amounts, Fitting, amount-changed, unfit, Differ, same, here, missing, later, Alarms, amount, isFault, isSafe, isInvalid, checkpLast}
 
 -- ---- one packet more
 
@@ -54,6 +57,23 @@ pub small-snoc : (l : List Payload) (q : Payload) → Amounts l → q .amount < 
 unfolding Amounts
 small-snoc [] q a h = (h, tt)
 small-snoc (p ∷ l) q a h = (a .0, small-snoc l q (a .1) h)
+
+pub fitting-snoc : (l : List Payload) (q : Payload) → Fitting l → fits q ≡ true → Fitting (l ++ (q ∷ []))
+unfolding Fitting
+fitting-snoc [] q a h = (h, tt)
+fitting-snoc (p ∷ l) q a h = (a .0, fitting-snoc l q (a .1) h)
+
+-- a packet among those that fit
+pub fitting-at : (k : List Payload) (q : Payload) (l : List Payload) → Fitting (k ++ (q ∷ l)) → fits q ≡ true
+unfolding Fitting
+fitting-at [] q l a = a .0
+fitting-at (p ∷ k) q l a = fitting-at k q l (a .1)
+
+pub fitting-drop : (i : ℕ) (l : List Payload) → Fitting l → Fitting (drop i l)
+unfolding Fitting
+fitting-drop zero l a = a
+fitting-drop (suc i) [] a = a
+fitting-drop (suc i) (p ∷ l) a = fitting-drop i l (a .1)
 
 pub count-snoc : (f : Packet → Bool) (l : List Packet) (p : Packet) → count f (l ++ (p ∷ [])) ≡ count f l + cond (f p) 1 0
 unfolding count
@@ -245,7 +265,7 @@ octetsIn (p ∷ l) = octetsOf p ++ octetsIn l
 check-octets : (c : Check) (l : List Payload) → checkFrom c l .crc ≡ crcFrom (c .crc) (octetsIn l)
 unfolding checkFrom crcFrom
 check-octets c [] = refl
-check-octets c (p ∷ l) = check-octets (stepCheck c p) l
+check-octets c (p ∷ l) = check-octets (stepCheck c p) l ∙ sym (from-append (octetsOf p) (octetsIn l) (c .crc))
 
 mod-lt : (k : ℕ) → k % 65536 < 65536
 mod-lt k = omega arith
@@ -263,21 +283,29 @@ counts-apart c d [] a b n e = n (ap (λ (x : Check). x .count) e)
 counts-apart c d (p ∷ l) a b n e =
     counts-apart (stepCheck c p) (stepCheck d p) l (mod-lt (c .count + 1)) (mod-lt (d .count + 1)) (λ f. n (counts-stay (c .count) (d .count) a b f)) e
 
--- one amount that differs is seen by the CRC, and a packet that is missing by the count, from any register
-seen : (c : Check) {k l : List Payload} → Differ true k l → Amounts k → Amounts l → c .count < 65536 → checkFrom c k ≡ checkFrom c l → ⊥
-unfolding Amounts checkFrom
-seen c (here {p} {m} {l} n) a b s e =
-    one-differs (octetOf (p .outlet) ∷ []) (octetsIn l) (c .crc) (p .amount) m (a .0) (b .0) n
-    (sym (check-octets c (p ∷ l)) ∙ ap (λ (x : Check). x .crc) e ∙ check-octets c (record { outlet = p .outlet; amount = m } ∷ l))
-seen c (missing {p} {l}) a b s e = counts-apart (stepCheck c p) c l (mod-lt (c .count + 1)) s (one-more (c .count) s) e
-seen c (later {p = p} d) a b s e = seen (stepCheck c p) d (a .1) (b .1) (mod-lt (c .count + 1)) e
+-- a packet that carries no check is its first three octets
+bare-octets : (p : Payload) → p .own ≡ Unchecked → octetsOf p ≡ firstThree (p .outlet) (p .amount)
+bare-octets p e = ap (λ (k : OwnCheck). firstThree (p .outlet) (p .amount) ++ ownOctets k) e
+
+-- one amount that differs is seen by the CRC, a packet that does not fit is none of those taken, and one that is missing is seen by the count,
+-- from any register
+seen : (c : Check) {k l : List Payload} → Differ true k l → Amounts k → Amounts l → Fitting l → c .count < 65536 → checkFrom c k ≡ checkFrom c l → ⊥
+unfolding Amounts Fitting checkFrom
+seen c (here {p} {q} {l} (amount-changed x y o n)) a b f s e =
+    one-differs (octetOf (p .outlet) ∷ []) (octetsIn l) (c .crc) (p .amount) (q .amount) (a .0) (b .0) n
+    (sym (check-octets c (p ∷ l) ∙ ap (λ (r : List ℕ). crcFrom (c .crc) (r ++ octetsIn l)) (bare-octets p x))
+    ∙ (ap (λ (r : Check). r .crc) e ∙ check-octets c (q ∷ l))
+    ∙ ap (λ (r : List ℕ). crcFrom (c .crc) (r ++ octetsIn l)) (bare-octets q y ∙ ap (λ (r : Outlet). firstThree r (q .amount)) (sym o)))
+seen c (here (unfit u)) a b f s e = never (f .0) u
+seen c (missing {p} {l}) a b f s e = counts-apart (stepCheck c p) c l (mod-lt (c .count + 1)) s (one-more (c .count) s) e
+seen c (later {p = p} d) a b f s e = seen (stepCheck c p) d (a .1) (b .1) (f .1) (mod-lt (c .count + 1)) e
 
 pub differ-none : {k l : List Payload} → Differ false k l → k ≡ l
 differ-none same = refl
 differ-none (later {p = p} d) = ap (λ (r : List Payload). p ∷ r) (differ-none d)
 
 -- nothing hurt passes an equal comparison
-pub equal-checks : (b : Bool) (k l : List Payload) → Differ b k l → Amounts k → Amounts l → checkOf k ≡ checkOf l → (b ≡ false) × (k ≡ l)
+pub equal-checks : (b : Bool) (k l : List Payload) → Differ b k l → Amounts k → Amounts l → Fitting l → checkOf k ≡ checkOf l → (b ≡ false) × (k ≡ l)
 unfolding checkOf
-equal-checks true k l d a c e = absurd (seen startCheck d a c (omega arith) e)
-equal-checks false k l d a c e = (refl, differ-none d)
+equal-checks true k l d a c f e = absurd (seen startCheck d a c f (omega arith) e)
+equal-checks false k l d a c f e = (refl, differ-none d)

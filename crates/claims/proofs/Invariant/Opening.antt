@@ -34,7 +34,7 @@ use Rattle.claims.proofs.State.View.{Own, Side, view, content}
 use Rattle.claims.proofs.State.Shape.{Pictured}
 use Rattle.claims.proofs.State.Sim.{Fit}
 use Rattle.claims.proofs.State.Methods.{no-marks, all-start}
-use Rattle.claims.proofs.Invariant.Facts.{Big, Mind, Wire, Ghost, Pair, Node, Stream, unaware, behind, closed, amountsIn, count, checkpLast, Amounts, amount, same, isCheckp}
+use Rattle.claims.proofs.Invariant.Facts.{Big, Mind, Wire, Ghost, Pair, Node, Stream, unaware, behind, closed, amountsIn, count, checkpLast, Amounts, Fitting, amount, same, isCheckp}
 use Rattle.claims.proofs.Invariant.Whole.{Inv, PairAt, NodeAt, BooksAt, LeadAt, GroundOf, PlacesOf, ChainOf, workOf, outOf, gotOf}
 use Rattle.claims.proofs.Invariant.Past.{Past, bare-balanced, quiet-of}
 use Rattle.claims.proofs.Invariant.Logs.{check-none, no-checkp-end, count-none}
@@ -119,7 +119,7 @@ module _ (c d : ℕ) (o p : Own) (x y : Image) (s t : Side) (to td lk : Bool) (r
   p-open e = p-not CheckpBegin refl refl (and-true {s = isIn (p .state) CheckpBegin} e .0)
 
   start-pair : Pair b₀ c d o (m₀ to x) p (m₀ td y) s t [] (w₀ lk)
-  unfolding count checkpLast Amounts amountsIn amount
+  unfolding count checkpLast Amounts Fitting amountsIn amount
   start-pair = record {
     table = λ u. tables (sym (working-tab to o ro) ∙ un-works b₀ o u);
     struck = λ a. absurd (false≢true a);
@@ -152,6 +152,7 @@ module _ (c d : ℕ) (o p : Own) (x y : Image) (s t : Side) (to td lk : Bool) (r
     unhurt = λ e u. ct .hurt;
     noMore = λ e. omega arith;
     small = (tt, (tt, tt));
+    fit = (tt, tt);
   }
 
 module _ (c : ℕ) (o : Own) (x : Image) (t : Bool) (z : Bool → Image) (r : Ready t o) (slot : z false ≡ x) (size : Pictured x) where

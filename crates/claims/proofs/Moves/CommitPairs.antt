@@ -132,4 +132,5 @@ module _ (b : Big) (c d : ℕ) (o : Own) (m : Mind) (p : Own) (n : Mind) (s t : 
     unhurt = h .unhurt;
     noMore = h .noMore;
     small = h .small;
+    fit = h .fit;
   }

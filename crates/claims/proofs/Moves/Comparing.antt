@@ -25,7 +25,7 @@ use Rattle.claims.proofs.State.Methods.{sCompared}
 use Rattle.claims.proofs.State.ViewMoves.{vCompare}
 use Rattle.claims.proofs.Invariant.Facts.{Big, Mind, Wire, Ghost, Pair, Stream, Node, aware, unaware, linked, closed, amountsIn, count, checkpLast, checkOf, Amounts, Differ, same, isCheckp, amount}
 use Rattle.claims.proofs.Invariant.Whole.{Inv}
-use Rattle.claims.proofs.Invariant.Logs.{equal-checks, check-none, differ-none, only-alarms, no-checkp-end, count-none}
+use Rattle.claims.proofs.Invariant.Logs.{equal-checks, fitting-drop, check-none, differ-none, only-alarms, no-checkp-end, count-none}
 use Rattle.claims.proofs.Invariant.Words.{un-or-aware, un-not-aware, linked-used, live-line}
 use Rattle.claims.proofs.Invariant.Frame.{out-kept, got-kept, move-pairs, move-nodes, move-books, quiet-inv}
 
@@ -91,7 +91,7 @@ module _ (b : Big) (c d : ℕ) (o : Own) (m : Mind) (p : Own) (n : Mind) (s t : 
     module _ (equal : x ≡ t .took) (begins : p .state ≡ CheckpBegin) (joined : n .joined ≡ true) where
       unhurt-equal : (t .hurt ≡ false) × (drop (w .ver) (w .sent) ≡ drop (w .ver) (w .taken))
       unhurt-equal =
-          equal-checks (t .hurt) _ _ differing (amounts-drop (w .ver) (w .sent) (h .small .0)) (amounts-drop (w .ver) (w .taken) (h .small .1 .0))
+          equal-checks (t .hurt) _ _ differing (amounts-drop (w .ver) (w .sent) (h .small .0)) (amounts-drop (w .ver) (w .taken) (h .small .1 .0)) (fitting-drop (w .ver) (w .taken) (h .fit .1))
           (sym sent-value ∙ (equal ∙ stream .reads))
 
       pub equal-logs : w .sent ≡ w .taken
@@ -192,6 +192,7 @@ module _ (b : Big) (c d : ℕ) (o : Own) (m : Mind) (p : Own) (n : Mind) (s t : 
     unhurt = λ e u. refl;
     noMore = λ e. omega (arith, h .noMore e);
     small = (h .small .0, (h .small .1 .0, tt));
+    fit = h .fit;
   }
 
 -- the line the other way: nothing of it is compared

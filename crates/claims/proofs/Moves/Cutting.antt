@@ -92,6 +92,7 @@ module _ (b : Big) (c d : ℕ) (o : Own) (m : Mind) (p : Own) (n : Mind) (s t : 
     unhurt = h .unhurt;
     noMore = h .noMore;
     small = h .small;
+    fit = h .fit;
   }
 
 -- the one that cuts is the receiver
@@ -139,6 +140,7 @@ module _ (b : Big) (c d : ℕ) (o : Own) (m : Mind) (p : Own) (n : Mind) (s t : 
     unhurt = λ e u. h .unhurt e un;
     noMore = h .noMore;
     small = h .small;
+    fit = h .fit;
   }
 
 -- ---- the cabinet

@@ -6,17 +6,18 @@ use mathlib.Core.Logic.{_≢_}
 use mathlib.Core.Bool.{Bool, true, false, cond, not, false≢true, true≢false}
 use mathlib.Core.List.{List, [], _∷_, _++_, nil≢cons}
 use lib.ListN.{getD, set}
-use lib.Bits.{bitXor, xor-lt, xor-comm}
-use lib.Dec.{ltb}
-use borrow.Author.Tests.{ltb-true}
 use native.Mathlib.Omega.{arith}
-use Rattle.crc.proofs.Xor.{xor-cancel}
 use Rattle.marks.specs.Reach.{mark}
+use Rattle.packet.specs.declared.PacketVersion.{PacketVersion}
+use Rattle.packet.specs.declared.OwnCheck.{OwnCheck}
+use Rattle.packet.specs.declared.OwnCheck.the-variants.{Unchecked, Checked}
+use Rattle.packet.specs.declared.Pattern.{Pattern}
 use Rattle.packet.specs.declared.Payload.{Payload}
 use Rattle.packet.specs.declared.Check.{Check}
 use Rattle.packet.specs.declared.Packet.{Packet}
 use Rattle.packet.specs.declared.Packet.the-variants.{Empty, Normal as NormalPacket, Checkp, Resume, Recover, Fault, Invalid}
-use Rattle.packet.specs.Packet.{isEmpty, isNormal, damaged}
+use Rattle.packet.specs.Packet.{fits, isEmpty, isNormal, patternRight, hurtBy, damaged}
+use Rattle.packet.proofs.Bursts.{bursts-seen, amounts-change, outlet-kept, bounded}
 use Rattle.line.specs.Line.{packetAt, replaced}
 use Rattle.state.specs.declared.State.{State}
 use Rattle.state.specs.declared.State.the-variants.{Checkpointing, Error}
@@ -31,7 +32,7 @@ use Rattle.claims.proofs.State.View.{View, content, view, setLine}
 use Rattle.claims.proofs.State.Cells.{content-set}
 use Rattle.claims.proofs.State.Shape.{Shaped, Lined, Pictured, shaped}
 use Rattle.claims.proofs.State.Sim.{Fit, view-line}
-use Rattle.claims.proofs.Invariant.Facts.{Wire, Ghost, amountOf, amountsIn, count, isFault, isCheckp, isSafe, checkpLast, resumes, resumeFirst, Amounts, Differ, here, amount}
+use Rattle.claims.proofs.Invariant.Facts.{Wire, Ghost, amountOf, amountsIn, count, isFault, isCheckp, isSafe, checkpLast, resumes, resumeFirst, Amounts, Fitting, Hurt, amount-changed, unfit, Differ, here, amount}
 use Rattle.claims.proofs.Invariant.Whole.{Inv}
 use Rattle.claims.proofs.Invariant.Past.{Past, Kept, no-cuts, past-same}
 use Rattle.claims.proofs.Invariant.Logs.{head-eq, tail-eq}
@@ -43,10 +44,10 @@ use Rattle.claims.proofs.Moves.Hurting.{Hit, resumes-later, differ-late
 
 -- ---- a line with one packet damaged
 
-abbrev pub hit : List Packet → ℕ → ℕ → List Packet
-hit l k q = set l k (damaged (getD l k Empty) q)
+abbrev pub hit : List Packet → ℕ → Pattern → List Packet
+hit l k w = set l k (damaged (getD l k Empty) w)
 
-damaged-plain : (f : Packet → Bool) (x : Packet) (q : ℕ) → isEmpty x ≡ false → f Invalid ≡ false → ((p : Payload) → f (NormalPacket p) ≡ false) → f (damaged x q) ≡ false
+damaged-plain : (f : Packet → Bool) (x : Packet) (q : Pattern) → isEmpty x ≡ false → f Invalid ≡ false → ((p : Payload) → f (NormalPacket p) ≡ false) → f (damaged x q) ≡ false
 damaged-plain f Empty q e i n = absurd (true≢false e)
 damaged-plain f (NormalPacket p) q e i n = n _
 damaged-plain f (Checkp v) q e i n = i
@@ -55,7 +56,7 @@ damaged-plain f (Recover v) q e i n = i
 damaged-plain f (Fault p) q e i n = i
 damaged-plain f Invalid q e i n = i
 
-damaged-safe : (x : Packet) (q : ℕ) → isSafe (damaged x q) ≡ isSafe x
+damaged-safe : (x : Packet) (q : Pattern) → isSafe (damaged x q) ≡ isSafe x
 damaged-safe Empty q = refl
 damaged-safe (NormalPacket p) q = refl
 damaged-safe (Checkp v) q = refl
@@ -97,7 +98,7 @@ ended (x ∷ l) zero y v (z ∷ j) n e = (x ∷ j, ap (λ (r : List Packet). x �
 ended (x ∷ l) (suc k) y v [] n e = ([], rw (set-nil l k y (tail-eq e)) (ap (λ (p : Packet). p ∷ []) (head-eq e)))
 ended (x ∷ l) (suc k) y v (z ∷ j) n e = let r = ended l k y v j n (tail-eq e) in (x ∷ r .0, ap (λ (r : List Packet). x ∷ r) (r .1))
 
-resumes-hit : (x : Packet) (q : ℕ) (r : Bool) → resumes x r ≡ true → resumes (damaged x q) r ≡ true
+resumes-hit : (x : Packet) (q : Pattern) (r : Bool) → resumes x r ≡ true → resumes (damaged x q) r ≡ true
 resumes-hit Empty q r e = absurd (false≢true e)
 resumes-hit (NormalPacket p) q r e = absurd (false≢true e)
 resumes-hit (Checkp v) q r e = refl
@@ -106,7 +107,7 @@ resumes-hit (Recover v) q r e = refl
 resumes-hit (Fault p) q r e = refl
 resumes-hit Invalid q r e = refl
 
-resume-hit : (l : List Packet) (k q : ℕ) → resumeFirst l ≡ true → resumeFirst (hit l k q) ≡ true
+resume-hit : (l : List Packet) (k : ℕ) (q : Pattern) → resumeFirst l ≡ true → resumeFirst (hit l k q) ≡ true
 unfolding resumeFirst
 resume-hit [] k q e = absurd (false≢true e)
 resume-hit (x ∷ l) zero q e = resumes-hit x q (resumeFirst l) e
@@ -114,7 +115,7 @@ resume-hit (x ∷ l) (suc k) q e = resumes-later x (resumeFirst l) (resumeFirst 
 
 -- ---- its amounts
 
-plain-amount : (x : Packet) (q : ℕ) (r : List Payload) → isNormal x ≡ false → amountOf (damaged x q) r ≡ amountOf x r
+plain-amount : (x : Packet) (q : Pattern) (r : List Payload) → isNormal x ≡ false → amountOf (damaged x q) r ≡ amountOf x r
 plain-amount Empty q r e = refl
 plain-amount (NormalPacket p) q r e = absurd (true≢false e)
 plain-amount (Checkp v) q r e = refl
@@ -124,44 +125,59 @@ plain-amount (Fault p) q r e = refl
 plain-amount Invalid q r e = refl
 
 -- damage to a fail-safe packet leaves them
-amounts-hit : (l : List Packet) (k q : ℕ) → isNormal (getD l k Empty) ≡ false → amountsIn (hit l k q) ≡ amountsIn l
+amounts-hit : (l : List Packet) (k : ℕ) (q : Pattern) → isNormal (getD l k Empty) ≡ false → amountsIn (hit l k q) ≡ amountsIn l
 unfolding amountsIn
 amounts-hit [] k q e = refl
 amounts-hit (x ∷ l) zero q e = plain-amount x q (amountsIn l) e
 amounts-hit (x ∷ l) (suc k) q e = ap (amountOf x) (amounts-hit l k q e)
 
-xor-changes : (n q : ℕ) → 0 < q → n ≢ bitXor n q
-xor-changes n q l e =
-    let z : q ≡ 0 = xor-cancel q 0 n (xor-comm q n ∙ sym e) in
-    omega arith
+-- what damage that is taken leaves of a packet that fitted
+hurts : (v : PacketVersion) (p : Payload) (q : Pattern) → q .mask < 65536 → patternRight v q ≡ true → fits p ≡ true → Hurt p (hurtBy p q)
+hurts v p q s r f = go (p .own) refl
+  where
+    go : (k : OwnCheck) → p .own ≡ k → Hurt p (hurtBy p q)
+    go Unchecked e = let c = amounts-change p e v q r in amount-changed e (c .0) (outlet-kept p q) (c .1)
+    go (Checked c) e = unfit (bursts-seen p c e f v q s r)
 
-differ-first : (x : Packet) (q : ℕ) (r : List Payload) → 0 < q → isNormal x ≡ true → Differ true (amountOf x r) (amountOf (damaged x q) r)
-differ-first Empty q r l e = absurd (false≢true e)
-differ-first (NormalPacket p) q r l e = here (xor-changes (p .amount) q l)
-differ-first (Checkp v) q r l e = absurd (false≢true e)
-differ-first Resume q r l e = absurd (false≢true e)
-differ-first (Recover v) q r l e = absurd (false≢true e)
-differ-first (Fault p) q r l e = absurd (false≢true e)
-differ-first Invalid q r l e = absurd (false≢true e)
+module _ (version : PacketVersion) (q : Pattern) (lq : q .mask < 65536) (right : patternRight version q ≡ true) where
+  differ-first : (x : Packet) (r : List Payload) → isNormal x ≡ true → Fitting (amountOf x r) → Differ true (amountOf x r) (amountOf (damaged x q) r)
+  unfolding Fitting
+  differ-first Empty r e f = absurd (false≢true e)
+  differ-first (NormalPacket p) r e f = here (hurts version p q lq right (f .0))
+  differ-first (Checkp v) r e f = absurd (false≢true e)
+  differ-first Resume r e f = absurd (false≢true e)
+  differ-first (Recover v) r e f = absurd (false≢true e)
+  differ-first (Fault p) r e f = absurd (false≢true e)
+  differ-first Invalid r e f = absurd (false≢true e)
 
--- damage to a normal packet changes one
-differ-hit : (l : List Packet) (k q : ℕ) → 0 < q → isNormal (getD l k Empty) ≡ true → Differ true (amountsIn l) (amountsIn (hit l k q))
-unfolding amountsIn
-differ-hit [] k q h e = absurd (false≢true e)
-differ-hit (x ∷ l) zero q h e = differ-first x q (amountsIn l) h e
-differ-hit (x ∷ l) (suc k) q h e = differ-later x (amountsIn l) (amountsIn (hit l k q)) (differ-hit l k q h e)
+  fitting-rest : (x : Packet) (r : List Payload) → Fitting (amountOf x r) → Fitting r
+  unfolding Fitting
+  fitting-rest Empty r f = f
+  fitting-rest (NormalPacket p) r f = f .1
+  fitting-rest (Checkp v) r f = f
+  fitting-rest Resume r f = f
+  fitting-rest (Recover v) r f = f
+  fitting-rest (Fault p) r f = f
+  fitting-rest Invalid r f = f
 
-small-first : (x : Packet) (q : ℕ) (r : List Payload) → q < 65536 → Amounts (amountOf x r) → Amounts (amountOf (damaged x q) r)
+  -- damage to a normal packet changes one
+  differ-hit : (l : List Packet) (k : ℕ) → isNormal (getD l k Empty) ≡ true → Fitting (amountsIn l) → Differ true (amountsIn l) (amountsIn (hit l k q))
+  unfolding amountsIn
+  differ-hit [] k e f = absurd (false≢true e)
+  differ-hit (x ∷ l) zero e f = differ-first x (amountsIn l) e f
+  differ-hit (x ∷ l) (suc k) e f = differ-later x (amountsIn l) (amountsIn (hit l k q)) (differ-hit l k e (fitting-rest x (amountsIn l) f))
+
+small-first : (x : Packet) (q : Pattern) (r : List Payload) → q .mask < 65536 → Amounts (amountOf x r) → Amounts (amountOf (damaged x q) r)
 unfolding Amounts
 small-first Empty q r l a = a
-small-first (NormalPacket p) q r l a = (xor-lt 16 (p .amount) q (a .0) l, a .1)
+small-first (NormalPacket p) q r l a = (bounded p q (a .0) l, a .1)
 small-first (Checkp v) q r l a = a
 small-first Resume q r l a = a
 small-first (Recover v) q r l a = a
 small-first (Fault p) q r l a = a
 small-first Invalid q r l a = a
 
-small-hit : (l : List Packet) (k q : ℕ) → q < 65536 → Amounts (amountsIn l) → Amounts (amountsIn (hit l k q))
+small-hit : (l : List Packet) (k : ℕ) (q : Pattern) → q .mask < 65536 → Amounts (amountsIn l) → Amounts (amountsIn (hit l k q))
 unfolding amountsIn
 small-hit [] k q h a = a
 small-hit (x ∷ l) zero q h a = small-first x q (amountsIn l) h a
@@ -169,7 +185,7 @@ small-hit (x ∷ l) (suc k) q h a = small-later x (amountsIn l) (amountsIn (hit 
 
 -- ---- what is left of the line
 
-module _ (l : List Packet) (k q : ℕ) (lq : q < 65536) (some-q : 0 < q) (full : isEmpty (getD l k Empty) ≡ false) where
+module _ (version : PacketVersion) (l : List Packet) (k : ℕ) (q : Pattern) (lq : q .mask < 65536) (right : patternRight version q ≡ true) (full : isEmpty (getD l k Empty) ≡ false) where
   abbrev new : Packet
   new = damaged (getD l k Empty) q
 
@@ -188,7 +204,7 @@ module _ (l : List Packet) (k q : ℕ) (lq : q < 65536) (some-q : 0 < q) (full :
     ended = λ c v r e. ended l k new v r no-checkp e;
     resumed = resume-hit l k q;
     safe = rw (count-same isSafe l k new (damaged-safe (getD l k Empty) q)) (omega arith);
-    other = differ-hit l k q some-q;
+    other = differ-hit version q lq right l k;
     same = amounts-hit l k q;
     small = small-hit l k q lq;
   }
@@ -200,7 +216,7 @@ still-clean false c e = (refl, e)
 -- ---- the step
 
 module _ (total : ℕ) (g : Group) (h : History) (γ : Ghost) (w : Fit g) (i : Inv (g .n) total (view g) γ) (past : Past (g .n) (view g) γ h)
-    (a b p q : ℕ) (la : a < 8) (lb : b < 8) (lq : q < 65536) (fine : damageRefusal g a b p q ≡ 0) (still : some (recoveringOnes g) ≡ false) where
+    (a b p : ℕ) (q : Pattern) (la : a < 8) (lb : b < 8) (lq : q .mask < 65536) (fine : damageRefusal g a b p q ≡ 0) (still : some (recoveringOnes g) ≡ false) where
   abbrev old : Packet
   old = packetAt (line g a b) p
 
@@ -211,7 +227,7 @@ module _ (total : ℕ) (g : Group) (h : History) (γ : Ghost) (w : Fit g) (i : I
       let e3 = passed t 14 _ (e2 .1) in
       (not-true-false (e2 .0), e3 .0, not-true-false (passed (not u) 19 0 (e3 .1) .0))
 
-  met : (isEmpty old ≡ false) × (ltb 0 q ≡ true) × (hurtAlready g a b old ≡ false)
+  met : (isEmpty old ≡ false) × (patternRight (g .packets) q ≡ true) × (hurtAlready g a b old ≡ false)
   met = checks (mark (rowsOf (g .links)) a b) _ _ _ fine
 
   abbrev v : View
@@ -230,7 +246,7 @@ module _ (total : ℕ) (g : Group) (h : History) (γ : Ghost) (w : Fit g) (i : I
   not-twice e = is-false (v .side b a .hurt) (λ f. never (and-intro (ap isNormal (sym (lined .1)) ∙ e) f) (met .2))
 
   hits : Hit normal (v .lines a b) (hit (v .lines a b) p q)
-  hits = damage-hits (v .lines a b) p q lq (ltb-true 0 q (met .1)) full-there
+  hits = damage-hits (g .packets) (v .lines a b) p q lq (met .1) full-there
 
   -- no longer clean where the packet is normal
   abbrev clean′ : Bool → Bool

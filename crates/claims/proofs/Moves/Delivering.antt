@@ -2,7 +2,7 @@
 use Prim.Native.Nat.{ℕ, _<_}
 use mathlib.Core.Path.{_≡_, refl, sym, ap, _∙_, subst}
 use mathlib.Core.Logic.{_≢_, ⊎-elim}
-use mathlib.Core.Bool.{Bool, true, false, not, _&&_, _||_, false≢true}
+use mathlib.Core.Bool.{Bool, true, false, cond, not, _&&_, _||_, false≢true, true≢false}
 use mathlib.Core.List.{List, [], _∷_, nil≢cons}
 use lib.ListN.{getD}
 use native.Mathlib.Omega.{arith}
@@ -13,21 +13,21 @@ use Rattle.packet.specs.declared.Check.{Check}
 use Rattle.packet.specs.declared.Place.{Place}
 use Rattle.packet.specs.declared.Packet.{Packet}
 use Rattle.packet.specs.declared.Packet.the-variants.{Empty, Normal as NormalPacket, Checkp, Resume, Recover, Fault, Invalid}
-use Rattle.packet.specs.Packet.{isEmpty, isNormal, sameCheck, startCheck}
+use Rattle.packet.specs.Packet.{isEmpty, isNormal, fits, sameCheck, startCheck}
 use Rattle.line.specs.Line.{oldest, rest}
 use Rattle.state.specs.declared.State.{State}
 use Rattle.state.specs.declared.State.the-variants.{Normal, CheckpBegin, Checkpointed, Recovered}
 use Rattle.cabinet.specs.declared.Cabinet.{Cabinet}
-use Rattle.state.specs.State.{isIn, works}
+use Rattle.state.specs.State.{isIn, works, inSaving}
 use Rattle.cabinet.specs.Cabinet.{inUse, taking}
 use Rattle.group.specs.declared.Group.{Group}
 use Rattle.group.specs.declared.Outcome.{Outcome}
 use Rattle.group.specs.Group.{cabinet, withCabinet, stateOf, line, rowsOf, working, taken}
 use Rattle.protocol.specs.Moves.{findLinkFault, takeCheckp, adopt, endRecovery}
-use Rattle.protocol.specs.Receive.{serving, takesFrom, joinIf, resumesFrom, receive, receiveNormal, receiveCheckp, receiveResume, receiveRecover, receiveFault, receiveInvalid}
+use Rattle.protocol.specs.Receive.{serving, takesFrom, takes, joinIf, resumesFrom, receive, receiveNormal, receiveCheckp, receiveResume, receiveRecover, receiveFault, receiveInvalid}
 use Rattle.protocol.specs.Kinds.{delivered}
-use Rattle.protocol.specs.History.{History, goes, noteTaken, noteKnown, noteCuts}
-use Rattle.claims.proofs.State.Fun.{never, and-true, and-intro, cond-elim, and-off, or-split}
+use Rattle.protocol.specs.History.{History, logged, withTaken, goes, noteTaken, noteKnown, noteCuts}
+use Rattle.claims.proofs.State.Fun.{never, is-true, is-false, and-true, and-intro, cond-elim, and-off, or-split}
 use Rattle.claims.proofs.State.View.{view, used, content}
 use Rattle.claims.proofs.State.Sim.{Fit, in-use}
 use Rattle.claims.proofs.State.Methods.{hitsLink}
@@ -43,14 +43,23 @@ use Rattle.claims.proofs.Moves.Taking.{no-stray, keeps-take}
 use Rattle.claims.proofs.Moves.Beginning.{keeps-checkp}
 use Rattle.claims.proofs.Moves.Adopting.{keeps-adopt, adopt-goes}
 use Rattle.claims.proofs.Moves.Hearing.{off}
-use Rattle.claims.proofs.Moves.Heeding.{off-cabinet, keeps-receive-fault, keeps-receive-recover, taken-none, known-none}
-use Rattle.claims.proofs.Moves.LinkFault.{keeps-link-fault, fault-state, invalid-upset, unequal-upset}
+use Rattle.claims.proofs.Moves.Heeding.{off-cabinet, keeps-receive-fault, keeps-receive-recover, taken-none, taken-unfit, known-none}
+use Rattle.claims.proofs.Moves.LinkFault.{keeps-link-fault, fault-state, invalid-upset, unfit-upset, unequal-upset}
 use Rattle.claims.proofs.Moves.Resuming.{keeps-resume, resume-goes, keeps-resume-dropped}
 
 -- ---- states
 
 takes-open : (c : Cabinet) (a : ℕ) → takesFrom c a ≡ true → isIn (c .phase .state) Checkpointed ≡ false
 takes-open c a e = apart (λ s. isIn s Normal || (isIn s CheckpBegin && not (marked (c .noted .come) a))) (c .phase .state) Checkpointed e refl
+
+-- a cabinet that does not serve takes no packet
+idle-takes : (c : Cabinet) (a : ℕ) → serving (c .phase .state) ≡ false → takesFrom c a ≡ false
+idle-takes c a = go (isIn (c .phase .state) Normal) (isIn (c .phase .state) CheckpBegin) (inSaving (c .phase .state)) (not (marked (c .noted .come) a))
+  where
+    go : (n b s t : Bool) → (n || (b || s)) ≡ false → (n || (b && t)) ≡ false
+    go true b s t e = e
+    go false true s t e = absurd (true≢false e)
+    go false false s t e = refl
 
 not-first : (v : Check) (l : List Packet) → resumeFirst (Checkp v ∷ l) ≡ true → ⊥
 unfolding resumeFirst
@@ -152,31 +161,42 @@ module _ (total : ℕ) (g : Group) (h : History) (γ : Ghost) (w : Fit g) (i : I
         unnoted _ e (and-off (isIn (stateOf g b) Checkpointed) _ (fault-state total g h γ w i past a b la lb other full uses sv)) k)
         (λ c f. absurd (omega arith))
 
+    -- none but one that does not fit is a link fault
     not-linked-fault : (q : Payload) → p ≡ NormalPacket q → takesFrom (cabinet g b) a ≡ false → unaware (γ .big) (view g .own b) ≡ true → ⊥
     not-linked-fault q e f u = no-stray total g γ i a b la q e u f
 
     normal-owed : (q : Payload) → p ≡ NormalPacket q → Owed (receiveNormal g (off g a b) a b q)
     unfolding receiveNormal
     normal-owed q e =
-        cond-elim Owed (takesFrom (cabinet (off g a b) b) a)
-        (λ t _. took (ap (λ (c : Cabinet). takesFrom c a) (sym (off-cabinet g a b b)) ∙ t))
-        (λ f. let out = ap (λ (c : Cabinet). takesFrom c a) (sym (off-cabinet g a b b)) ∙ f in
-        cond-elim Owed (serving (stateOf (off g a b) b))
-        (λ s. absurd (not-linked-fault q e out (serves-un (sym serving-off ∙ s))))
-        (λ s _. unnoted (off g a b) (ap (λ (t : Bool). noteTaken (marked (inUse (cabinet g b)) a && t) h a b p) out ∙ ap (λ (t : Bool). noteTaken (t && false) h a b p) uses) off-goes
-        (keeps-drop total g h γ w i past a b la lb full
-        (λ n u k. not-linked-fault q e out u) (λ r u k. absurd (not-linked-fault q e out (and-true {s = unaware (γ .big) (view g .own b)} r .0)))
-        (λ x u. absurd (never x (ap isFault e))))))
+        cond-elim Owed (takes (cabinet (off g a b) b) a q)
+        (λ t _. let y = and-true {s = takesFrom (cabinet g b) a} (ap (λ (c : Cabinet). takes c a q) (sym (off-cabinet g a b b)) ∙ t) in took (y .0) (y .1))
+        (λ f. cond-elim Owed (serving (stateOf (off g a b) b))
+        (λ s. hurt-one (sym serving-off ∙ s) (ap (λ (c : Cabinet). takes c a q) (sym (off-cabinet g a b b)) ∙ f))
+        (λ s _. dropped (idle-takes (cabinet g b) a (sym serving-off ∙ s))))
       where
         added : Group
         added = withCabinet (off g a b) b (taking (cabinet (off g a b) b) a q)
 
-        took : takesFrom (cabinet g b) a ≡ true → Kept total g γ added (noteCuts (noted added) g added)
-        took t =
+        took : takesFrom (cabinet g b) a ≡ true → fits q ≡ true → Kept total g γ added (noteCuts (noted added) g added)
+        took t y =
             subst (λ (x : History). Kept total g γ added (noteCuts x g added))
             (sym (known-none (goes g added b Checkpointed Normal) (noteTaken taking-it h a b p) (ap (λ (u : Bool). u && isIn (stateOf added b) Normal) (takes-open (cabinet g b) a t))
-            ∙ ap (λ (u : Bool). noteTaken u h a b p) (and-intro uses t) ∙ ap (noteTaken true h a b) e))
-            (keeps-take total g γ i a b la q e h w past lb t)
+            ∙ ap (λ (u : Bool). noteTaken u h a b p) (and-intro uses t) ∙ ap (noteTaken true h a b) e ∙ ap (λ (u : Bool). cond u (withTaken h (logged (h .taken) a b q)) h) y))
+            (keeps-take total g γ i a b la q e h w past lb t y)
+
+        -- a cabinet that serves takes every packet that fits
+        hurt-one : serving (stateOf g b) ≡ true → takes (cabinet g b) a q ≡ false → Owed (findLinkFault g (off g a b) a b)
+        hurt-one sv f =
+            let in-time : takesFrom (cabinet g b) a ≡ true = is-true (takesFrom (cabinet g b) a) (λ out. not-linked-fault q e out (serves-un sv)) in
+            let bad : fits q ≡ false = is-false (fits q) (λ y. never (and-intro in-time y) f) in
+            link-owed sv (ap (noteTaken taking-it h a b) e ∙ taken-unfit taking-it h a b q bad) (λ s. unfit-upset total g h γ w i past a b la lb other full uses s q e bad)
+
+        dropped : takesFrom (cabinet g b) a ≡ false → Kept total g γ (off g a b) (noteCuts (noted (off g a b)) g (off g a b))
+        dropped out =
+            unnoted (off g a b) (ap (λ (t : Bool). noteTaken (marked (inUse (cabinet g b)) a && t) h a b p) out ∙ ap (λ (t : Bool). noteTaken (t && false) h a b p) uses) off-goes
+            (keeps-drop total g h γ w i past a b la lb full
+            (λ n u k. not-linked-fault q e out u) (λ r u k. absurd (not-linked-fault q e out (and-true {s = unaware (γ .big) (view g .own b)} r .0)))
+            (λ x u. absurd (never x (ap isFault e))))
 
     -- ---- a checkp
 

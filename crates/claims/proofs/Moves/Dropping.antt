@@ -87,6 +87,7 @@ module _ (b : Big) (c d : ℕ) (o : Own) (m : Mind) (p : Own) (n : Mind) (s t : 
     unhurt = h .unhurt;
     noMore = λ e. omega (arith, h .noMore e, amount-rest x k);
     small = (h .small .0, (h .small .1 .0, small-rest x k (h .small .1 .1)));
+    fit = h .fit;
   }
 
 -- ---- the group

@@ -18,7 +18,7 @@ use Rattle.state.specs.State.{isIn, works, inSaving}
 use Rattle.claims.proofs.State.Fun.{never, and-true, and-intro}
 use Rattle.claims.proofs.State.View.{Own, Side, used}
 use Rattle.claims.proofs.State.Methods.{hitsCabinet, hitsLink}
-use Rattle.claims.proofs.Invariant.Facts.{Big, Mind, Wire, Pair, Stream, Alarms, aware, unaware, linked, behind, closed, amountsIn, count, isFault, Amounts, same, amount}
+use Rattle.claims.proofs.Invariant.Facts.{Big, Mind, Wire, Pair, Stream, Alarms, aware, unaware, linked, behind, closed, amountsIn, count, isFault, Amounts, Fitting, same, amount}
 use Rattle.claims.proofs.Invariant.Logs.{check-none, Short, Bare, short-bare, no-checkp-end}
 use Rattle.claims.proofs.Invariant.Words.{un-works, un-not-aware}
 
@@ -147,7 +147,7 @@ module _ (b : Big) (k x : ℕ) (q : Place) (c d : ℕ) (o : Own) (m : Mind) (p :
       un-not-aware b o u (co .knows (un-works b o u))
 
   pub ended-pair : Pair b′ c d o (mEnd m (works (o .state))) p (mEnd n (works (p .state))) s t l (wEnd sound)
-  unfolding Amounts amount
+  unfolding Amounts Fitting amount
   ended-pair = record {
     table = λ u. table′ (o-works u);
     struck = λ a. absurd (false≢true a);
@@ -180,6 +180,7 @@ module _ (b : Big) (k x : ℕ) (q : Place) (c d : ℕ) (o : Own) (m : Mind) (p :
     unhurt = λ e u. fresh-back (p-works u) .2;
     noMore = λ e. omega (arith, ap amount (bare .none));
     small = (tt, (tt, small-line));
+    fit = (tt, tt);
   }
     where
       behind-works : behind b′ o (mEnd m (works (o .state))) ≡ true → works (o .state) ≡ true

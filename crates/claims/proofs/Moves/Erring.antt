@@ -102,6 +102,7 @@ module _ (b : Big) (c d : ℕ) (o : Own) (m : Mind) (p : Own) (n : Mind) (s t : 
         unhurt = h .unhurt;
         noMore = λ e. omega (arith, h .noMore e, ap amount (erred-bare (o .version) q (used s′)));
         small = (h .small .0, (h .small .1 .0, rw (erred-bare (o .version) q (used s′)) tt));
+        fit = h .fit;
       }
     where
       no : {A : Type 0} → unaware b (oErred o q y) ≡ true → A
@@ -154,6 +155,7 @@ module _ (b : Big) (c d : ℕ) (o : Own) (m : Mind) (p : Own) (n : Mind) (s t : 
         unhurt = λ e. no;
         noMore = h .noMore;
         small = h .small;
+        fit = h .fit;
       }
     where
       no : {A : Type 0} → unaware b (oErred p q y) ≡ true → A

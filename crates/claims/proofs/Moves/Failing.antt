@@ -75,6 +75,7 @@ module _ (b : Big) (c d : ℕ) (o : Own) (m : Mind) (p : Own) (n : Mind) (s t : 
     unhurt = h .unhurt;
     noMore = λ e. omega (arith, h .noMore e);
     small = (h .small .0, (h .small .1 .0, search));
+    fit = h .fit;
   }
 
   pub fail-to : inRecovery (o .state) ≡ false → Pair b c d o m (oFailed p) n s t [] w
@@ -111,6 +112,7 @@ module _ (b : Big) (c d : ℕ) (o : Own) (m : Mind) (p : Own) (n : Mind) (s t : 
     unhurt = λ e u. absurd (false≢true u);
     noMore = λ e. omega (arith, h .noMore e);
     small = (h .small .0, (h .small .1 .0, search));
+    fit = h .fit;
   }
 
 -- ---- the failed cabinet

@@ -181,6 +181,7 @@ module _ (b : Big) (c d : ℕ) (o : Own) (m : Mind) (p : Own) (n : Mind) (s t : 
       unhurt = h .unhurt;
       noMore = h .noMore;
       small = h .small;
+      fit = h .fit;
     }
 
   module _ (aw : aware b p ≡ true) where
@@ -227,6 +228,7 @@ module _ (b : Big) (c d : ℕ) (o : Own) (m : Mind) (p : Own) (n : Mind) (s t : 
       unhurt = λ e. calm-none;
       noMore = h .noMore;
       small = h .small;
+      fit = h .fit;
     }
 
 module _ (b : Big) (c : ℕ) (o : Own) (m : Mind) (z : Bool → Image) (h : Node b c o m z) (aw : aware b o ≡ true) (state : o .state ≡ Recovering)

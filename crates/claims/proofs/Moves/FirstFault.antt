@@ -106,6 +106,7 @@ flip-pair b c d o m p n s t l w h ro rp =
       unhurt = λ e u. h .unhurt e (up u);
       noMore = h .noMore;
       small = h .small;
+      fit = h .fit;
     }
 
 flip-node : (b : Big) (c : ℕ) (o : Own) (m : Mind) (z : Bool → Image) → Node b c o m z → inRecovery (o .state) ≡ false → Node (bFaulted b) c o m z

@@ -95,6 +95,7 @@ module _ (b : Big) (c d : ℕ) (o : Own) (m : Mind) (p : Own) (n : Mind) (s t : 
     unhurt = h .unhurt;
     noMore = λ e. rw (goes-amounts x l (used s)) (h .noMore e);
     small = (h .small .0, (h .small .1 .0, rw (goes-amounts x l (used s)) (h .small .1 .1)));
+    fit = h .fit;
   }
     where
       no : {A : Type 0} → unaware b (oGoes o x) ≡ true → A
@@ -138,6 +139,7 @@ module _ (b : Big) (c d : ℕ) (o : Own) (m : Mind) (p : Own) (n : Mind) (s t : 
     unhurt = λ e. no;
     noMore = h .noMore;
     small = h .small;
+    fit = h .fit;
   }
     where
       no : {A : Type 0} → unaware b (oGoes p x) ≡ true → A

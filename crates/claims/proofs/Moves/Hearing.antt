@@ -133,6 +133,7 @@ module _ (b : Big) (c d : ℕ) (o : Own) (m : Mind) (p : Own) (n : Mind) (s t : 
     unhurt = h .unhurt;
     noMore = λ e. rw (← same-amounts) (h .noMore e);
     small = (h .small .0, (h .small .1 .0, rw (← same-amounts) (h .small .1 .1)));
+    fit = h .fit;
   }
 
 pub hear-from : (b : Big) (c d : ℕ) (o : Own) (m : Mind) (p : Own) (n : Mind) (s t : Side) (l : List Packet) (w : Wire) → Pair b c d o m p n s t l w

@@ -3,14 +3,15 @@
 use Prim.Native.Nat.{ℕ, _<_}
 use mathlib.Core.Path.{_≡_, refl, sym, ap, _∙_}
 use mathlib.Core.Logic.{_≢_}
-use mathlib.Core.Bool.{Bool, true, false, _&&_, true≢false}
+use mathlib.Core.Bool.{Bool, true, false, cond, _&&_, true≢false}
 use mathlib.Core.List.{[], nil≢cons}
 use native.Mathlib.Omega.{arith}
 use Rattle.marks.specs.Marks.{marked}
+use Rattle.packet.specs.declared.Payload.{Payload}
 use Rattle.packet.specs.declared.Place.{Place}
 use Rattle.packet.specs.declared.Packet.{Packet}
 use Rattle.packet.specs.declared.Packet.the-variants.{Empty, Normal as NormalPacket, Checkp, Resume, Recover, Fault, Invalid}
-use Rattle.packet.specs.Packet.{isNormal}
+use Rattle.packet.specs.Packet.{isNormal, fits}
 use Rattle.line.specs.Line.{oldest}
 use Rattle.state.specs.declared.State.{State}
 use Rattle.state.specs.declared.State.the-variants.{Normal, Checkpointed, Error}
@@ -22,7 +23,7 @@ use Rattle.group.specs.declared.Outcome.{Outcome}
 use Rattle.group.specs.Group.{cabinet, stateOf, line, withLine, withOutgoing, taken}
 use Rattle.protocol.specs.Moves.{recoverWith, enterError, hear}
 use Rattle.protocol.specs.Receive.{serving, receiveRecover, receiveFault}
-use Rattle.protocol.specs.History.{History, goes, noteTaken, noteKnown, noteCuts}
+use Rattle.protocol.specs.History.{History, logged, withTaken, goes, noteTaken, noteKnown, noteCuts}
 use Rattle.claims.proofs.State.Fun.{never, and-true, cond-elim, and-off}
 use Rattle.claims.proofs.State.View.{view}
 use Rattle.claims.proofs.State.Sim.{Fit}
@@ -46,6 +47,11 @@ taken-none true h a b (Recover v) e = refl
 taken-none true h a b (Fault p) e = refl
 taken-none true h a b Invalid e = refl
 taken-none false h a b p e = refl
+
+-- nor is one that does not fit its check
+pub taken-unfit : (t : Bool) (h : History) (a b : ℕ) (p : Payload) → fits p ≡ false → noteTaken t h a b (NormalPacket p) ≡ h
+taken-unfit true h a b p e = ap (λ (f : Bool). cond f (withTaken h (logged (h .taken) a b p)) h) e
+taken-unfit false h a b p e = refl
 
 pub known-none : (t : Bool) (h : History) → t ≡ false → noteKnown t h ≡ h
 known-none true h e = absurd (true≢false e)

@@ -25,10 +25,10 @@ use Rattle.claims.proofs.State.View.{View, Own, Side, used, view, setLi
 use Rattle.claims.proofs.State.Sim.{Fit}
 use Rattle.claims.proofs.State.Methods.{sRegisters}
 use Rattle.claims.proofs.State.ViewMoves.{vHurt, sim-hurt}
-use Rattle.claims.proofs.Invariant.Facts.{Big, Mind, Wire, Ghost, Pair, Node, Stream, aware, unaware, linked, closed, amountsIn, amount, Amounts, count, isFault, isCheckp, isSafe, isInvalid, checkpLast, resumes, resumeFirst, amountOf, Differ, later}
+use Rattle.claims.proofs.Invariant.Facts.{Big, Mind, Wire, Ghost, Pair, Node, Stream, aware, unaware, linked, closed, amountsIn, amount, Amounts, count, isFault, isCheckp, isSafe, isInvalid, checkpLast, resumes, resumeFirst, amountOf, Fitting, Differ, later}
 use Rattle.claims.proofs.Invariant.Whole.{Inv}
 use Rattle.claims.proofs.Invariant.Past.{Past}
-use Rattle.claims.proofs.Invariant.Logs.{differ-none}
+use Rattle.claims.proofs.Invariant.Logs.{differ-none, fitting-drop}
 use Rattle.claims.proofs.Invariant.Words.{un-of, un-not-aware, linked-used, live-line}
 use Rattle.claims.proofs.Invariant.Frame.{move-pairs, move-nodes, move-books, out-kept, got-kept, same-mind, quiet-inv}
 use Rattle.claims.proofs.Moves.Sending.{wires, gWire, wire-kept}
@@ -168,13 +168,18 @@ pub record Hit (x : Bool) (l l′ : List Packet) : Type 0 where
   pub ended : checkpLast l → (v : Check) (k : List Packet) → l′ ≡ k ++ (Checkp v ∷ []) → (r : List Packet) × (l ≡ r ++ (Checkp v ∷ []))
   pub resumed : resumeFirst l ≡ true → resumeFirst l′ ≡ true
   pub safe : count isSafe l′ ≤ count isSafe l
-  pub other : x ≡ true → Differ true (amountsIn l) (amountsIn l′)
+  pub other : x ≡ true → Fitting (amountsIn l) → Differ true (amountsIn l) (amountsIn l′)
   pub same : x ≡ false → amountsIn l′ ≡ amountsIn l
   pub small : Amounts (amountsIn l) → Amounts (amountsIn l′)
 
 differ-after : (u : List Payload) {r s : List Payload} → Differ true r s → Differ true (u ++ r) (u ++ s)
 differ-after [] d = d
 differ-after (p ∷ u) d = later (differ-after u d)
+
+fitting-after : (k l : List Payload) → Fitting (k ++ l) → Fitting l
+unfolding Fitting
+fitting-after [] l f = f
+fitting-after (p ∷ k) l f = fitting-after k l (f .1)
 
 unhurt-both : (x y : Bool) → cond x true y ≡ false → (x ≡ false) × (y ≡ false)
 unhurt-both true y e = absurd (true≢false e)
@@ -197,7 +202,8 @@ module _ (b : Big) (c d : ℕ) (o : Own) (m : Mind) (p : Own) (n : Mind) (s t : 
       go : (y : Bool) → x ≡ y → Differ (cond y true (t .hurt)) (drop (w .ver) (w .sent)) (drop (w .ver) (w .taken) ++ amountsIn l′)
       go true e =
           let z : drop (w .ver) (w .sent) ≡ drop (w .ver) (w .taken) ++ amountsIn l = differ-none (rw (once e) at f) in
-          rw z (differ-after (drop (w .ver) (w .taken)) (hit .other e))
+          rw z (differ-after (drop (w .ver) (w .taken))
+          (hit .other e (fitting-after (drop (w .ver) (w .taken)) (amountsIn l) (subst Fitting z (fitting-drop (w .ver) (w .sent) (h .fit .0))))))
       go false e = rw (hit .same e) f
 
   hit-stream : Stream (m .joined && not (n .joined && t .come)) (sHurt x t .hurt) (s .put) (t .took) (wHurt x w) l′
@@ -248,6 +254,7 @@ module _ (b : Big) (c d : ℕ) (o : Own) (m : Mind) (p : Own) (n : Mind) (s t : 
     unhurt = λ e u. absurd (never e upset);
     noMore = λ e. omega (arith, h .noMore e, less e);
     small = (h .small .0, (h .small .1 .0, hit .small (h .small .1 .1)));
+    fit = h .fit;
   }
 
 -- the pair back: the hurt mark stands at the sending end

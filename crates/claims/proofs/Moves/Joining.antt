@@ -216,6 +216,7 @@ module _ (b : Big) (c d : ℕ) (o : Own) (m : Mind) (p : Own) (n : Mind) (s t : 
     unhurt = h .unhurt;
     noMore = λ e. rw same-amounts (h .noMore e);
     small = (h .small .0, (h .small .1 .0, rw same-amounts (h .small .1 .1)));
+    fit = h .fit;
   }
     where
       before : linked m n w ≡ true → behind b p n ≡ true → resumeFirst l ≡ true
@@ -263,6 +264,7 @@ module _ (b : Big) (c d : ℕ) (o : Own) (m : Mind) (p : Own) (n : Mind) (s t : 
     unhurt = λ e u. h .unhurt e un;
     noMore = h .noMore;
     small = h .small;
+    fit = h .fit;
   }
 
 -- ---- the cabinets

@@ -15,11 +15,12 @@ use Rattle.marks.specs.Reach.{Rows, mark, struck, connected}
 use Rattle.marks.specs.ReachLaws.{struck-there, struck-back, struck-other, length-struck}
 use Rattle.packet.specs.declared.Place.{Place}
 use Rattle.packet.specs.declared.Place.the-variants.{Link as AtLink}
+use Rattle.packet.specs.declared.Payload.{Payload}
 use Rattle.packet.specs.declared.Check.{Check}
 use Rattle.packet.specs.declared.Packet.{Packet}
-use Rattle.packet.specs.declared.Packet.the-variants.{Checkp, Invalid}
+use Rattle.packet.specs.declared.Packet.the-variants.{Normal as NormalPacket, Checkp, Invalid}
 use Rattle.line.specs.declared.Line.{Line}
-use Rattle.packet.specs.Packet.{linkPlace, isEmpty}
+use Rattle.packet.specs.Packet.{linkPlace, fits, isEmpty}
 use Rattle.line.specs.Line.{oldest, rest}
 use Rattle.state.specs.declared.State.{State}
 use Rattle.state.specs.declared.State.the-variants.{Failed, Normal, CheckpBegin, Checkpointing, Checkpointed, Error, Recovering, Recovered, Crashed}
@@ -45,6 +46,7 @@ use Rattle.claims.proofs.Invariant.Words.{un-of, un-not-aware}
 use Rattle.claims.proofs.Invariant.Reaching.{Reach, reach-group, length-rows, view-sound}
 use Rattle.claims.proofs.Invariant.Staying.{stays-calm}
 use Rattle.claims.proofs.Moves.Dropping.{drop-inv}
+use Rattle.claims.proofs.Moves.Taking.{take-unfit}
 use Rattle.claims.proofs.Moves.Comparing.{unequal-hurt}
 use Rattle.claims.proofs.Moves.FirstFault.{gFaulted, gError}
 use Rattle.claims.proofs.Moves.ErrorSeen.{vError, erred, erredLine, sErred, error-seen, error-knows, error-side, error-line, error-works, erred-not-saving, error-here, strike-used, sim-error, oErred, erred-works}
@@ -324,6 +326,12 @@ module _ (total : ℕ) (g : Group) (h : History) (γ : Ghost) (w : Fit g) (i : I
       let here = sim-off g a b full ∙ ap (λ (p : Packet). p ∷ left) e in
       let z : count isInvalid (Invalid ∷ left) ≡ 0 = subst (λ (l : List Packet). count isInvalid l ≡ 0) here (i .core .pairs a b .sound c) in
       omega arith
+
+  -- damage to a packet that carries its own check
+  pub unfit-upset : (q : Payload) → oldest (line g a b) ≡ NormalPacket q → fits q ≡ false → γ .big .calm ≡ true → ⊥
+  unfit-upset q e u c =
+      let un = un-of (γ .big) (view g .own b) (calm .0) (calm .1) in
+      never (take-unfit (g .n) total (view g) γ i a b la q left (sim-off g a b full ∙ ap (λ (p : Packet). p ∷ left) e) un u) (i .core .pairs a b .unhurt c un)
 
   -- damage to a packet before it, or its loss: the values are unequal
   pub unequal-upset : (x : Check) → oldest (line g a b) ≡ Checkp x → x ≢ view g .side b a .took → γ .big .calm ≡ true → ⊥

@@ -140,7 +140,7 @@ loss-hits l k n = record {
   ended = ended-left l k n;
   resumed = resume-left l k n;
   safe = count-left isSafe l k;
-  other = λ e. differ-left l k n;
+  other = λ e f. differ-left l k n;
   same = λ e. absurd (true≢false e);
   small = small-left l k;
 }

@@ -121,6 +121,7 @@ module _ (b : Big) (c d : ℕ) (o : Own) (m : Mind) (p : Own) (n : Mind) (s t : 
     unhurt = h .unhurt;
     noMore = λ e. omega (arith, h .noMore e, ap amount (before ∙ sym (bare .none)));
     small = (h .small .0, (h .small .1 .0, subst Amounts (before ∙ sym (bare .none)) (h .small .1 .1)));
+    fit = h .fit;
   }
 
 -- ---- the pairs to the cabinet
@@ -177,6 +178,7 @@ module _ (b : Big) (c d : ℕ) (o : Own) (m : Mind) (p : Own) (n : Mind) (s t : 
     unhurt = λ e u. h .unhurt e up;
     noMore = h .noMore;
     small = h .small;
+    fit = h .fit;
   }
 
 -- ---- the fault places: the cabinet is not aware of one, so its alarm is no matter

@@ -17,7 +17,8 @@ use Rattle.packet.specs.declared.Payload.{Payload}
 use Rattle.packet.specs.declared.Check.{Check}
 use Rattle.packet.specs.declared.Packet.{Packet}
 use Rattle.packet.specs.declared.Packet.the-variants.{Normal as NormalPacket}
-use Rattle.packet.specs.Packet.{stepCheck}
+use Rattle.packet.specs.Packet.{stepCheck, fits}
+use Rattle.packet.proofs.Bursts.{put-fits}
 use Rattle.line.specs.Line.{normals}
 use Rattle.state.specs.declared.State.{State}
 use Rattle.state.specs.declared.State.the-variants.{Normal, Checkpointing, Checkpointed}
@@ -40,7 +41,7 @@ use Rattle.claims.proofs.Answers.Tests.{in-state}
 use Rattle.claims.proofs.Invariant.Facts.{Big, Mind, Wire, Ghost, Pair, Books, Stream, aware, unaware, linked, behind, closed, amountsIn, count, isFault, isCheckp, isSafe, isInvalid, amount}
 use Rattle.claims.proofs.Invariant.Whole.{Inv, PairAt, BooksAt, outOf, gotOf}
 use Rattle.claims.proofs.Invariant.Past.{Past, Kept, no-cuts, calm-stays}
-use Rattle.claims.proofs.Invariant.Logs.{amounts-snoc, count-snoc, resume-more, differ-more, check-snoc, no-checkp-end, amount-snoc, small-snoc, checkp-last}
+use Rattle.claims.proofs.Invariant.Logs.{amounts-snoc, count-snoc, resume-more, differ-more, check-snoc, no-checkp-end, amount-snoc, small-snoc, fitting-snoc, checkp-last}
 use Rattle.claims.proofs.Invariant.Words.{un-of, un-works, linked-used, all-counted}
 use Rattle.claims.proofs.Invariant.Frame.{moved, minded, move-pairs, move-nodes, same-mind, quiet-inv}
 use Rattle.claims.proofs.Moves.Noting.{image-from, image-to, image-node}
@@ -65,7 +66,7 @@ wire-kept {A} f γ a b w e c d =
 
 module _ (b : Big) (c d : ℕ) (o : Own) (m : Mind) (p : Own) (n : Mind) (s t : Side) (l : List Packet) (w : Wire) (h : Pair b c d o m p n s t l w)
     (un : unaware b o ≡ true) (normal : o .state ≡ Normal) (early : m .joined ≡ false) (tab : m .tab ≡ true) (us : used s ≡ true)
-    (there : works (p .state) ≡ true) (q : Payload) (small : q .amount < 65536) (x : Image) where
+    (there : works (p .state) ≡ true) (q : Payload) (small : q .amount < 65536) (fit : fits q ≡ true) (x : Image) where
   is-linked : linked m n w ≡ true
   is-linked = linked-used h un tab us
 
@@ -136,6 +137,7 @@ module _ (b : Big) (c d : ℕ) (o : Own) (m : Mind) (p : Own) (n : Mind) (s t : 
     unhurt = h .unhurt;
     noMore = λ e. omega (arith, h .noMore e, ap amount (amounts-snoc l q), amount-snoc (amountsIn l) q);
     small = (small-snoc (w .sent) q (h .small .0) small, (h .small .1 .0, rw (amounts-snoc l q) (small-snoc (amountsIn l) q (h .small .1 .1) small)));
+    fit = (fitting-snoc (w .sent) q (h .fit .0) fit, h .fit .1);
   }
 
 -- the pair back: the sender's register stands at the receiving end
@@ -158,7 +160,7 @@ sent-books b o m out more got q x un undone paid e h =
 -- ---- together
 
 module _ (n total : ℕ) (v : View) (γ : Ghost) (i : Inv n total v γ) (a b : ℕ) (lb : b < 8) (normal : v .own a .state ≡ Normal)
-    (us : used (v .side a b) ≡ true) (q : Payload) (small : q .amount < 65536) (x : Image)
+    (us : used (v .side a b) ≡ true) (q : Payload) (small : q .amount < 65536) (fit : fits q ≡ true) (x : Image)
     (paid : booked x + q .amount ≡ booked (v .own a .image)) where
   abbrev o′ : Own
   o′ = oImage (v .own a) x
@@ -208,7 +210,7 @@ module _ (n total : ℕ) (v : View) (γ : Ghost) (i : Inv n total v γ) (a b : �
   sent-from : (j : ℕ) → j ≢ a → Pair (γ .big) a j o′ (γ .mind a) (v .own j) (γ .mind j) (sides j) (v .side j a) (lines′ a j) (w′ a j)
   sent-from j d = elim (ℕ-discrete j b) [
     | yes e ↦ rw (e, upd-same (v .side a) b toB, pair-same (v .lines) a b filled, pair-same (γ .wire) a b wire′)
-        (sent-pair _ _ _ _ _ _ _ _ _ _ _ (i .core .pairs a b) un normal early tab us (i .meets a b (un-works (γ .big) (v .own a) un) us) q small x)
+        (sent-pair _ _ _ _ _ _ _ _ _ _ _ (i .core .pairs a b) un normal early tab us (i .meets a b (un-works (γ .big) (v .own a) un) us) q small fit x)
     | no f ↦ rw (upd-other (v .side a) b toB j f, pair-other (v .lines) a b filled a j (λ y z. f z), pair-other (γ .wire) a b wire′ a j (λ y z. f z))
         (image-from _ _ _ _ _ _ _ _ _ _ _ (i .core .pairs a j) x)
   ]
@@ -275,7 +277,7 @@ module _ (total : ℕ) (g : Group) (h : History) (γ : Ghost) (w : Fit g) (i : I
   from = endsOf s .from
 
   abbrev p : Payload
-  p = carried s q
+  p = carried g s q
 
   checks : (r s t u x : Bool) → need r 13 (need s 14 (need t 15 (need u 16 (need x 17 0)))) ≡ 0 → (r ≡ true) × (s ≡ true) × (u ≡ true) × (x ≡ true)
   checks r s t u x e =
@@ -347,7 +349,7 @@ module _ (total : ℕ) (g : Group) (h : History) (γ : Ghost) (w : Fit g) (i : I
     hurt = λ c d. past .hurt c d ∙ sym (wire-kept (λ (x : Wire). x .hurt) γ a b (wSent (γ .wire a b) p) refl c d);
     cuts = λ e c f.
         let x = past .cuts e c f in
-        let away : c ≢ a = λ j. undone (g .n) total v γ i a b lb normal us p lq paidImage paid (rw j at f) in
+        let away : c ≢ a = λ j. undone (g .n) total v γ i a b lb normal us p lq (put-fits (g .packets) (endsOf s .to) q) paidImage paid (rw j at f) in
         (x .0, x .1, x .2, (λ d. x .3 d ∙ sym (ap (λ (y : Wire). y .sent) (pair-other (γ .wire) a b (wSent (γ .wire a b) p) c d (λ y z. away y)))), (λ d. x .4 d ∙ sym (taken-kept d c)));
     noCut = past .noCut;
     known = past .known;
@@ -365,7 +367,7 @@ module _ (total : ℕ) (g : Group) (h : History) (γ : Ghost) (w : Fit g) (i : I
   keeps-send = record {
     ghost = δ;
     inv = subst (λ (x : View). Inv (g .n) total x δ) (sym seen)
-        (sent-inv (g .n) total v γ i a b lb normal us p lq paidImage paid);
+        (sent-inv (g .n) total v γ i a b lb normal us p lq (put-fits (g .packets) (endsOf s .to) q) paidImage paid);
     past = rw (no-cuts h′ g g′ (λ c e. ap (λ (s : State). isIn s Checkpointing) (sym (state-kept c)) ∙ e)) past′;
     stays = calm-stays i (view g′) δ a _ _ (ap (λ (u : View). u .own) seen) (ap (λ (u : View). u .side) seen) (un-of (γ .big) (v .own a) (rw normal) (rw normal)) (rw normal) (λ f. f);
   }

@@ -4,7 +4,7 @@ use mathlib.Core.Path.{_≡_, refl, sym, ap, _∙_, subst}
 use mathlib.Core.Logic.{_≢_, _⊎_, inl, inr, ⊎-elim}
 use mathlib.Core.Bool.{Bool, true, false, not, _&&_, _||_, false≢true, true≢false}
 use mathlib.Core.List.{List, [], _∷_, _++_, append-assoc, nil≢cons}
-use lib.ListN.{length-append}
+use lib.ListN.{drop, length-append}
 use lib.Seq.{drop-append-le, take-append-le}
 use native.Mathlib.Omega.{arith}
 use native.Mathlib.Decide.{ℕ-discrete}
@@ -14,7 +14,7 @@ use Rattle.packet.specs.declared.Check.{Check}
 use Rattle.packet.specs.declared.Place.{Place}
 use Rattle.packet.specs.declared.Packet.{Packet}
 use Rattle.packet.specs.declared.Packet.the-variants.{Normal as NormalPacket, Recover}
-use Rattle.packet.specs.Packet.{startCheck, stepCheck}
+use Rattle.packet.specs.Packet.{startCheck, stepCheck, fits}
 use Rattle.line.specs.Line.{oldest, rest}
 use Rattle.cabinet.specs.declared.Alarm.the-variants.{Fault as At}
 use Rattle.state.specs.declared.State.{State}
@@ -28,17 +28,17 @@ use Rattle.group.specs.declared.Group.{Group}
 use Rattle.group.specs.Group.{cabinet, withCabinet, stateOf, line, withLine, sum}
 use Rattle.protocol.specs.Receive.{takesFrom}
 use Rattle.protocol.specs.History.{History, upd, logged, withTaken, noteCuts}
-use Rattle.claims.proofs.State.Fun.{never, and-true, and-intro, is-false, upd-same, upd-other, upd-elim, sum-cong, sum-at, or-right, kept-at, pair-same, pair-other, pair-both}
+use Rattle.claims.proofs.State.Fun.{never, and-true, and-intro, is-true, is-false, upd-same, upd-other, upd-elim, sum-cong, sum-at, or-right, kept-at, pair-same, pair-other, pair-both}
 use Rattle.claims.proofs.State.Every.{with-line}
 use Rattle.claims.proofs.State.View.{View, Own, Side, used, content, view}
 use Rattle.claims.proofs.State.Shape.{Shaped, Lined, Pictured, shaped}
 use Rattle.claims.proofs.State.Sim.{Fit}
 use Rattle.claims.proofs.State.Methods.{sRegisters}
 use Rattle.claims.proofs.State.ViewMoves.{oImage, vTake, sim-take, sim-off, view-off}
-use Rattle.claims.proofs.Invariant.Facts.{Big, Mind, Wire, Ghost, Pair, Node, Books, Stream, SameTo, aware, unaware, linked, behind, closed, amountsIn, count, isInvalid, checkpLast, resumeFirst, Amounts, amount}
+use Rattle.claims.proofs.Invariant.Facts.{Big, Mind, Wire, Ghost, Pair, Node, Books, Stream, SameTo, aware, unaware, linked, behind, closed, amountsIn, count, isInvalid, checkpLast, resumeFirst, Amounts, Fitting, Differ, amount}
 use Rattle.claims.proofs.Invariant.Whole.{Inv, PairAt, BooksAt, outOf, gotOf}
 use Rattle.claims.proofs.Invariant.Past.{Past, Kept, no-cuts, calm-stays, calm-error}
-use Rattle.claims.proofs.Invariant.Logs.{check-snoc, count-rest, small-snoc, only-alarms}
+use Rattle.claims.proofs.Invariant.Logs.{check-snoc, count-rest, small-snoc, fitting-snoc, fitting-at, fitting-drop, differ-none, only-alarms}
 use Rattle.claims.proofs.Invariant.Words.{un-of, un-works, un-not-aware, un-or-aware, linked-used, live-line}
 use Rattle.claims.proofs.Invariant.Frame.{moved, minded, move-pairs, move-nodes, same-mind, quiet-inv}
 use Rattle.claims.proofs.Moves.Noting.{image-from, image-to}
@@ -82,9 +82,18 @@ module _ (b : Big) (c d : ℕ) (o : Own) (m : Mind) (p : Own) (n : Mind) (s t : 
       let ahead : behind b o m ≡ false = is-false (behind b o m) (λ f. no-end (isIn (o .state) Recovered) q k (h .behindEmpty f)) in
       true≢false (sym (h .resumed sender-linked sender-calm ahead e))
 
+  -- one that does not fit its check was hurt: all that was sent fits
+  pub unfit-marked : unaware b p ≡ true → fits q ≡ false → t .hurt ≡ true
+  unfolding amountsIn
+  unfit-marked up u =
+      is-true (t .hurt) (λ e.
+      let z : drop (w .ver) (w .sent) ≡ drop (w .ver) (w .taken) ++ (q ∷ amountsIn k)
+      = differ-none (subst (λ (y : Bool). Differ y (drop (w .ver) (w .sent)) (drop (w .ver) (w .taken) ++ (q ∷ amountsIn k))) e (h .stream sender-linked sender-calm up .differ)) in
+      never (fitting-at (drop (w .ver) (w .taken)) q (amountsIn k) (subst Fitting z (fitting-drop (w .ver) (w .sent) (h .fit .0)))) u)
+
   -- ---- the packet is added
 
-  module _ (up : unaware b p ≡ true) (x : Image) where
+  module _ (up : unaware b p ≡ true) (fit : fits q ≡ true) (x : Image) where
     abbrev t′ : Side
     t′ = sRegisters t (t .put) (stepCheck (t .took) q) (t .hurt)
 
@@ -143,6 +152,7 @@ module _ (b : Big) (c d : ℕ) (o : Own) (m : Mind) (p : Own) (n : Mind) (s t : 
       unhurt = h .unhurt;
       noMore = λ e. omega (arith, h .noMore e);
       small = (h .small .0, (small-snoc (w .taken) q (h .small .1 .0) (small-taken .0), small-taken .1));
+      fit = (h .fit .0, fitting-snoc (w .taken) q (h .fit .1) fit);
     }
 
 -- the pair back: the receiver's register stands at the sending end
@@ -193,6 +203,9 @@ module _ (n total : ℕ) (v : View) (γ : Ghost) (i : Inv n total v γ) (a b : �
   pub take-waits : behind (γ .big) (v .own b) (γ .mind b) ≡ true → ⊥
   take-waits = not-waiting _ _ _ _ _ _ _ _ _ k _ q here (i .core .nodes a .placeKnown) (i .core .nodes a .placed)
 
+  pub take-unfit : unaware (γ .big) (v .own b) ≡ true → fits q ≡ false → v .side b a .hurt ≡ true
+  take-unfit = unfit-marked _ _ _ _ _ _ _ _ _ k _ q here (i .core .nodes a .placeKnown) (i .core .nodes a .placed)
+
   pub take-undone : γ .mind b .done ≡ true → ⊥
   take-undone e = take-open (rw e)
 
@@ -223,7 +236,7 @@ module _ (n total : ℕ) (v : View) (γ : Ghost) (i : Inv n total v γ) (a b : �
       go Recovered e = absurd (waits (rw e))
       go Crashed e = absurd (never (rw e) (node .running))
 
-  module _ (un : unaware (γ .big) (v .own b) ≡ true) (x : Image) (added : (j : ℕ) × (booked x + 65536 * j ≡ booked (v .own b .image) + q .amount)) where
+  module _ (un : unaware (γ .big) (v .own b) ≡ true) (fit : fits q ≡ true) (x : Image) (added : (j : ℕ) × (booked x + 65536 * j ≡ booked (v .own b .image) + q .amount)) where
     abbrev o′ : Own
     o′ = oImage (v .own b) x
 
@@ -251,7 +264,7 @@ module _ (n total : ℕ) (v : View) (γ : Ghost) (i : Inv n total v γ) (a b : �
     taken-to : (c : ℕ) → c ≢ b → Pair (γ .big) c b (v .own c) (γ .mind c) o′ (γ .mind b) (v .side c b) (sides c) (lines′ c b) (w′ c b)
     taken-to c d = elim (ℕ-discrete c a) [
       | yes e ↦ rw (e, upd-same (v .side b) a toA, pair-same (v .lines) a b k, pair-same (γ .wire) a b wire′)
-          (taken-pair _ _ _ _ _ _ _ _ _ k _ q here (i .core .nodes a .placeKnown) (i .core .nodes a .placed) un x)
+          (taken-pair _ _ _ _ _ _ _ _ _ k _ q here (i .core .nodes a .placeKnown) (i .core .nodes a .placed) un fit x)
       | no f ↦ rw (upd-other (v .side b) a toA c f, pair-other (v .lines) a b k c b (λ y z. f y), pair-other (γ .wire) a b wire′ c b (λ y z. f y))
           (image-to _ _ _ _ _ _ _ _ _ _ _ (i .core .pairs c b) x)
     ]
@@ -332,7 +345,7 @@ module _ (total : ℕ) (g : Group) (γ : Ghost) (i : Inv (g .n) total (view g) �
       begun : (stateOf g b ≡ CheckpBegin) × (marked (cabinet g b .noted .come) a ≡ false) → ⊥
       begun e = never (rw (e .0, e .1)) out
 
-  module _ (h : History) (w : Fit g) (past : Past (g .n) (view g) γ h) (lb : b < 8) (takes : takesFrom (cabinet g b) a ≡ true) where
+  module _ (h : History) (w : Fit g) (past : Past (g .n) (view g) γ h) (lb : b < 8) (takes : takesFrom (cabinet g b) a ≡ true) (fit : fits q ≡ true) where
     abbrev g1 : Group
     g1 = withLine g a b (rest (line g a b))
 
@@ -362,7 +375,7 @@ module _ (total : ℕ) (g : Group) (γ : Ghost) (i : Inv (g .n) total (view g) �
     added : (j : ℕ) × (booked image′ + 65536 * j ≡ booked (cabinet g b .image) + q .amount)
     added = booked-credited (q .outlet) (cabinet g b .image) (q .amount) (w .cabs b .image .octets)
 
-    seen : view g′ ≡ moved v b (oImage (v .own b) image′) (sides (g .n) total v γ i a b la q left lined calm image′ added)
+    seen : view g′ ≡ moved v b (oImage (v .own b) image′) (sides (g .n) total v γ i a b la q left lined calm fit image′ added)
         (upd (v .lines) a (upd (v .lines a) b left)) (v .slots)
     seen =
         sim-take g1 (with-line Shaped Lined Pictured shaped g a b _ (shaped .less (line g a b) (w .lines a b)) w) a b q la lb
@@ -417,7 +430,7 @@ module _ (total : ℕ) (g : Group) (γ : Ghost) (i : Inv (g .n) total (view g) �
     keeps-take = record {
       ghost = δ;
       inv = subst (λ (x : View). Inv (g .n) total x δ) (sym seen)
-          (taken-inv (g .n) total v γ i a b la q left lined calm image′ added);
+          (taken-inv (g .n) total v γ i a b la q left lined calm fit image′ added);
       past = rw (no-cuts h′ g g′ (λ c e. ap (λ (s : State). isIn s Checkpointing) (sym (state-kept c)) ∙ e)) past′;
       stays = calm-stays i (view g′) δ b _ _ (ap (λ (u : View). u .own) seen) (ap (λ (u : View). u .side) seen) calm (calm-error i b calm) (λ f. f);
     }

@@ -127,6 +127,7 @@ module _ (b : Big) (c d : ℕ) (o : Own) (m : Mind) (p : Own) (n : Mind) (s t : 
     unhurt = h .unhurt;
     noMore = λ e. omega (arith, h .noMore e);
     small = (h .small .0, (h .small .1 .0, search));
+    fit = h .fit;
   }
     where
       none : {A : Type 0} → aware b o ≡ true → A

@@ -165,6 +165,7 @@ module _ (b : Big) (c d : ℕ) (o : Own) (m : Mind) (p : Own) (n : Mind) (s t : 
     unhurt = h .unhurt;
     noMore = h .noMore;
     small = h .small;
+    fit = h .fit;
   }
 
 module _ (b : Big) (c : ℕ) (o : Own) (m : Mind) (z : Bool → Image) (h : Node b c o m z) (here : Waiting b c o m)

@@ -114,6 +114,7 @@ module _ (b : Big) (c d : ℕ) (o : Own) (m : Mind) (p : Own) (n : Mind) (s t : 
         unhurt = h .unhurt;
         noMore = h .noMore;
         small = h .small;
+        fit = h .fit;
       }
 
   pub written-to : unaware b p ≡ true → p .state ≡ Checkpointing → n .done ≡ true → n .joined ≡ true → Pair b c d o m (oWritten p x) (mWrote n) s t l w
@@ -152,6 +153,7 @@ module _ (b : Big) (c d : ℕ) (o : Own) (m : Mind) (p : Own) (n : Mind) (s t : 
         unhurt = λ e u. h .unhurt e un;
         noMore = h .noMore;
         small = h .small;
+        fit = h .fit;
       }
 
 -- ---- the cabinet: y are its slots with the piece written

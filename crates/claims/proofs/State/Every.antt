@@ -16,6 +16,7 @@ use Rattle.packet.specs.declared.Payload.{Payload}
 use Rattle.packet.specs.declared.Check.{Check}
 use Rattle.packet.specs.declared.Place.{Place}
 use Rattle.packet.specs.declared.Place.the-variants.{Failed as AtFailed, Tripped as AtTripped, Link as AtLink}
+use Rattle.packet.specs.declared.Pattern.{Pattern}
 use Rattle.packet.specs.declared.Packet.{Packet}
 use Rattle.packet.specs.declared.Packet.the-variants.{Empty, Normal as NormalPacket, Checkp, Resume, Recover, Fault, Invalid}
 use Rattle.line.specs.declared.Cell.{Cell}
@@ -45,7 +46,7 @@ use Rattle.protocol.specs.declared.Step.the-variants.{Send, Note, Begin, Delive
 use Rattle.protocol.specs.declared.Decoded.{Decoded}
 use Rattle.protocol.specs.declared.Decoded.the-variants.{Malformed, Unused, Taken}
 use Rattle.protocol.specs.Moves.{broadcast, join, cutIfAll, takeCheckp, resumeWith, commit, adopt, recoverWith, recoverIfKnown, raise, enterError, hear, findLinkFault, emptiedTo, markFailed, trip, neighbours, enterErrorIf, alarmTo, endRecovery, noteAt, noteFor, noteLost}
-use Rattle.protocol.specs.Receive.{serving, takesFrom, receiveNormal, joinIf, receiveCheckp, resumesFrom, receiveResume, receiveRecover, receiveFault, receiveInvalid, receive}
+use Rattle.protocol.specs.Receive.{serving, takes, receiveNormal, joinIf, receiveCheckp, resumesFrom, receiveResume, receiveRecover, receiveFault, receiveInvalid, receive}
 use Rattle.protocol.specs.Kinds.{need, orRefuse, sendRefusal, carried, sent, sendStep, noteRefusal, noteStep, beginStep, beginRefusal, deliverRefusal, delivered, deliverStep, writeRefusal, writePiece, oweIf, writeStep, savedRefusal, reportSaved, commitIfAll, savedStep, fetchRefusal, fetchPiece, fetchStep, restoredRefusal, reportRestored, endIfAll, restoredStep, failCrashes, failStep, hurtIf, hurt, damageRefusal, damageStep, loseRefusal, lost, loseStep, tripCrashes, tripOnce, tripStep, unsureRefusal, reportUnsure, decideIfAll, unsureStep}
 use Rattle.protocol.specs.Entry.{step, stepDecoded, perform, entryRefusal, decode, fieldsOf, aloneOf, isKind}
 use Rattle.claims.proofs.State.Fun.{never, cond-elim, and-true}
@@ -106,7 +107,7 @@ asksUnsure (Saved a) = false
 asksUnsure (Fetch a) = false
 asksUnsure (Restored a) = false
 asksUnsure (Fail a) = false
-asksUnsure (Damage a b p q) = false
+asksUnsure (Damage a b p w) = false
 asksUnsure (Lose a b p) = false
 asksUnsure (Trip a) = false
 asksUnsure (Unsure a) = true
@@ -128,7 +129,7 @@ Fits (Saved a) = Unit {0}
 Fits (Fetch a) = Unit {0}
 Fits (Restored a) = Unit {0}
 Fits (Fail a) = Unit {0}
-Fits (Damage a b p q) = q < 65536
+Fits (Damage a b p w) = w .mask < 65536
 Fits (Lose a b p) = Unit {0}
 Fits (Trip a) = Unit {0}
 Fits (Unsure a) = Unit {0}
@@ -205,7 +206,7 @@ pub record Closed (C : Cabinet → Type 0) (L : Line → Type 0) (I : Image → 
   pub less : (l : Line) → L l → L (rest l)
   pub more : (l : Line) (p : Packet) → isNormal p ≡ false → L l → L (put l p)
   pub sends : (l : Line) (p : Payload) → p .amount < 65536 → normals l < 8 → L l → L (put l (NormalPacket p))
-  pub damages : (l : Line) (k q : ℕ) → q < 65536 → L l → L (replaced l k (damaged (packetAt l k) q))
+  pub damages : (l : Line) (k : ℕ) (w : Pattern) → w .mask < 65536 → L l → L (replaced l k (damaged (packetAt l k) w))
   pub loses : (l : Line) (k : ℕ) → L l → L (without l k)
 
 -- the arrays of a group have eight elements each
@@ -471,7 +472,7 @@ module _ (C : Cabinet → Type 0) (L : Line → Type 0) (I : Image → Type 0) (
     pub ok-normal : (p : Payload) → OkOf (receiveNormal before g a b p)
     unfolding receiveNormal
     ok-normal p =
-        cond-elim OkOf (takesFrom (cabinet g b) a) (λ _. with-cabinet g b _ (k .taking _ a p (h .cabs b)) h)
+        cond-elim OkOf (takes (cabinet g b) a p) (λ _. with-cabinet g b _ (k .taking _ a p (h .cabs b)) h)
         (λ _. cond-elim OkOf (serving (stateOf g b)) (λ _. ok-linkFault before g a b hb h) (λ _. h))
 
     pub ok-checkp : (v : Check) → OkOf (receiveCheckp before g a b v)
@@ -526,10 +527,10 @@ module _ (C : Cabinet → Type 0) (L : Line → Type 0) (I : Image → Type 0) (
         or-refuse (sendRefusal g a b p q) g (taken (sent g a b p q))
         (λ e.
         let room = ltb-true (normals (line g a b)) 8 (fifth (marked (inUse (cabinet g a)) b) (isIn (stateOf g a) Normal) (ltb 0 q && leb p 3) (leb q (booking (endsOf p .from) (cabinet g a .image))) (ltb (normals (line g a b)) 8) e) in
-        with-line (withCabinet g a (sending (cabinet g a) b (endsOf p .from) (carried p q))) a b
-        (put (line g a b) (NormalPacket (carried p q)))
-        (k .sends (line g a b) (carried p q) l room (h .lines a b))
-        (with-cabinet g a _ (k .sending _ b (endsOf p .from) (carried p q) l (h .cabs a)) h))
+        with-line (withCabinet g a (sending (cabinet g a) b (endsOf p .from) (carried g p q))) a b
+        (put (line g a b) (NormalPacket (carried g p q)))
+        (k .sends (line g a b) (carried g p q) l room (h .lines a b))
+        (with-cabinet g a _ (k .sending _ b (endsOf p .from) (carried g p q) l (h .cabs a)) h))
         h
 
     pub ok-note : (a p q : ℕ) → OkOf (noteStep g a p q)
@@ -644,12 +645,12 @@ module _ (C : Cabinet → Type 0) (L : Line → Type 0) (I : Image → Type 0) (
     unfolding tripStep
     ok-tripStep = cond-elim OkOf (ltb (tripsOf g a) 2) (λ _. ok-tripOnce (tripsOf g a + 1)) (λ _. ok-fail)
 
-    pub ok-damage : (b p q : ℕ) → q < 65536 → OkOf (damageStep g a b p q)
+    pub ok-damage : (b p : ℕ) (w : Pattern) → w .mask < 65536 → OkOf (damageStep g a b p w)
     unfolding damageStep hurt
-    ok-damage b p q l =
-        or-refuse (damageRefusal g a b p q) g _
+    ok-damage b p w l =
+        or-refuse (damageRefusal g a b p w) g _
         (λ _. cond-elim OkOf (some (recoveringOnes g)) (λ _. ok-crashed g h)
-        (λ _. ok-hurtIf (isNormal (packetAt (line g a b) p)) _ a b (with-line g a b _ (k .damages _ p q l (h .lines a b)) h)))
+        (λ _. ok-hurtIf (isNormal (packetAt (line g a b) p)) _ a b (with-line g a b _ (k .damages _ p w l (h .lines a b)) h)))
         h
 
     pub ok-lose : (b p : ℕ) → OkOf (loseStep g a b p)
@@ -673,7 +674,7 @@ module _ (C : Cabinet → Type 0) (L : Line → Type 0) (I : Image → Type 0) (
   ok-perform g h (Fetch a) f = ok-fetch g h (a - 1)
   ok-perform g h (Restored a) f = ok-restored g h (a - 1)
   ok-perform g h (Fail a) f = ok-fail g h (a - 1)
-  ok-perform g h (Damage a b p q) f = ok-damage g h (a - 1) (b - 1) p q f
+  ok-perform g h (Damage a b p w) f = ok-damage g h (a - 1) (b - 1) p w f
   ok-perform g h (Lose a b p) f = ok-lose g h (a - 1) (b - 1) p
   ok-perform g h (Trip a) f = ok-tripStep g h (a - 1)
   ok-perform g h (Unsure a) f = ok-unsure g h (a - 1)

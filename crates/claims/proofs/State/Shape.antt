@@ -5,7 +5,6 @@ use mathlib.Core.Path.{_≡_, refl, sym, ap, _∙_}
 use mathlib.Core.Bool.{Bool, true, false, cond, false≢true}
 use mathlib.Core.List.{List, [], _∷_, _++_}
 use lib.ListN.{length, getD, set, length-set}
-use lib.Bits.{xor-lt}
 use lib.Dec.{eqb, ltb}
 use native.Mathlib.Omega.{arith}
 use Rattle.marks.specs.Marks.{Marks, marked}
@@ -13,11 +12,13 @@ use Rattle.outlet.specs.declared.Outlet.{Outlet}
 use Rattle.packet.specs.declared.Check.{Check}
 use Rattle.packet.specs.declared.Place.{Place}
 use Rattle.packet.specs.declared.Place.the-variants.{Failed as AtFailed, Tripped as AtTripped, Link as AtLink}
+use Rattle.packet.specs.declared.Pattern.{Pattern}
 use Rattle.packet.specs.declared.Packet.{Packet}
 use Rattle.packet.specs.declared.Packet.the-variants.{Empty, Normal as NormalPacket, Checkp, Resume, Recover, Fault, Invalid}
 use Rattle.line.specs.declared.Cell.{Cell}
 use Rattle.line.specs.declared.Line.{Line}
 use Rattle.packet.specs.Packet.{isEmpty, isNormal, damaged, startCheck}
+use Rattle.packet.proofs.Bursts.{bounded}
 use Rattle.line.specs.Line.{emptyCell, emptyLine, put, putCells, restCells, withoutCells, normals, normalsIn, packetAt}
 use Rattle.image.specs.declared.Image.{Image}
 use Rattle.cabinet.specs.declared.Cabinet.{Cabinet}
@@ -151,32 +152,32 @@ normals-set [] k p e = refl
 normals-set (c ∷ cs) zero p e = rw e
 normals-set (c ∷ cs) (suc k) p e = omega (arith, normals-set cs k p e)
 
-damaged-normal : (p : Packet) (q : ℕ) → isNormal (damaged p q) ≡ isNormal p
-damaged-normal Empty q = refl
-damaged-normal (NormalPacket p) q = refl
-damaged-normal (Checkp v) q = refl
-damaged-normal Resume q = refl
-damaged-normal (Recover v) q = refl
-damaged-normal (Fault p) q = refl
-damaged-normal Invalid q = refl
+damaged-normal : (p : Packet) (w : Pattern) → isNormal (damaged p w) ≡ isNormal p
+damaged-normal Empty w = refl
+damaged-normal (NormalPacket p) w = refl
+damaged-normal (Checkp v) w = refl
+damaged-normal Resume w = refl
+damaged-normal (Recover v) w = refl
+damaged-normal (Fault p) w = refl
+damaged-normal Invalid w = refl
 
-damaged-empty : (p : Packet) (q : ℕ) → isEmpty (damaged p q) ≡ isEmpty p
-damaged-empty Empty q = refl
-damaged-empty (NormalPacket p) q = refl
-damaged-empty (Checkp v) q = refl
-damaged-empty Resume q = refl
-damaged-empty (Recover v) q = refl
-damaged-empty (Fault p) q = refl
-damaged-empty Invalid q = refl
+damaged-empty : (p : Packet) (w : Pattern) → isEmpty (damaged p w) ≡ isEmpty p
+damaged-empty Empty w = refl
+damaged-empty (NormalPacket p) w = refl
+damaged-empty (Checkp v) w = refl
+damaged-empty Resume w = refl
+damaged-empty (Recover v) w = refl
+damaged-empty (Fault p) w = refl
+damaged-empty Invalid w = refl
 
-damaged-fits : (p : Packet) (q : ℕ) → q < 65536 → Fits p → Fits (damaged p q)
-damaged-fits Empty q l h = tt
-damaged-fits (NormalPacket p) q l h = xor-lt 16 (p .amount) q h l
-damaged-fits (Checkp v) q l h = tt
-damaged-fits Resume q l h = tt
-damaged-fits (Recover v) q l h = tt
-damaged-fits (Fault p) q l h = tt
-damaged-fits Invalid q l h = tt
+damaged-fits : (p : Packet) (w : Pattern) → w .mask < 65536 → Fits p → Fits (damaged p w)
+damaged-fits Empty w l h = tt
+damaged-fits (NormalPacket p) w l h = bounded p w h l
+damaged-fits (Checkp v) w l h = tt
+damaged-fits Resume w l h = tt
+damaged-fits (Recover v) w l h = tt
+damaged-fits (Fault p) w l h = tt
+damaged-fits Invalid w l h = tt
 
 safe-fits : (p : Packet) → isNormal p ≡ false → Fits p
 safe-fits Empty e = tt
@@ -226,12 +227,12 @@ packed-empty (c ∷ cs) zero e h = ((λ _. h .0 e), h .1)
 packed-empty (c ∷ cs) (suc k) e h = ((λ x. content-empty cs k e ∙ h .0 x), packed-empty cs k e (h .1))
 
 -- nothing changes where no packet stands
-packed-damaged : (cs : List Cell) (k q : ℕ) → Packed cs → Packed (set cs k (record { packet = damaged (getD cs k emptyCell .packet) q }))
-packed-damaged cs k q h = go (isEmpty (getD cs k emptyCell .packet)) refl
+packed-damaged : (cs : List Cell) (k : ℕ) (w : Pattern) → Packed cs → Packed (set cs k (record { packet = damaged (getD cs k emptyCell .packet) w }))
+packed-damaged cs k w h = go (isEmpty (getD cs k emptyCell .packet)) refl
   where
-    go : (t : Bool) → isEmpty (getD cs k emptyCell .packet) ≡ t → Packed (set cs k (record { packet = damaged (getD cs k emptyCell .packet) q }))
+    go : (t : Bool) → isEmpty (getD cs k emptyCell .packet) ≡ t → Packed (set cs k (record { packet = damaged (getD cs k emptyCell .packet) w }))
     go true e = rw (empty-is (getD cs k emptyCell .packet) e) (packed-empty cs k e h)
-    go false e = packed-set cs k _ (damaged-empty (getD cs k emptyCell .packet) q ∙ e) e h
+    go false e = packed-set cs k _ (damaged-empty (getD cs k emptyCell .packet) w ∙ e) e h
 
 -- ---- together
 

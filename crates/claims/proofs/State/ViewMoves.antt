@@ -332,11 +332,11 @@ vSent v a b o p =
     a b (v .lines a b ++ (NormalPacket p ∷ []))
 
 pub sim-sent : (g : Group) → Fit g → (a b s q : ℕ) → q < 65536 → a < 8 → b < 8 → length (view g .lines a b) < 12
-    → view (sent g a b s q) ≡ vSent (view g) a b (endsOf s .from) (carried s q)
+    → view (sent g a b s q) ≡ vSent (view g) a b (endsOf s .from) (carried g s q)
 unfolding sent
 sim-sent g w a b s q lq la lb room =
     let o = endsOf s .from in
-    let p = carried s q in
+    let p = carried g s q in
     let paid = with-cabinet Shaped Lined Pictured shaped g a (sending (cabinet g a) b o p) (shaped .sending (cabinet g a) b o p lq (w .cabs a)) w in
     view-line _ (paid .frame) a b _ la lb
     ∙ ap (setLine (view (withCabinet g a (sending (cabinet g a) b o p))) a b) (put-content (line g a b) (w .lines a b) (NormalPacket p) refl room)

@@ -7,15 +7,15 @@ use Rattle.linkcheck.proofs.receive_normal.Tie as tie
 
 returns : tie.Need-returns
 unfolding receiveNormal cabinet
-returns c = rw (c .taken .ensures, c .before .with-cabinet .ensures, c .before .before .taking .ensures, ← c .before .before .before .before .before .before .cabinet .ensures, ← c .before .before .before .before .takes-from .ensures, c .before .before .before .if1 .taken)
+returns c = rw (c .taken .ensures, c .before .with-cabinet .ensures, c .before .before .taking .ensures, ← c .before .before .before .before .before .before .cabinet .ensures, ← c .before .before .before .before .takes .ensures, c .before .before .before .if1 .taken)
 
 returns-2 : tie.Need-returns-2
 unfolding receiveNormal cabinet
-returns-2 c = rw (c .find-link-fault .ensures, ← c .before .before .before .before .before .before .cabinet .ensures, ← c .before .before .before .before .takes-from .ensures, c .before .before .before .if1 .left, ← c .before .before .serving .ensures, c .before .if2 .taken)
+returns-2 c = rw (c .find-link-fault .ensures, ← c .before .before .before .before .before .before .cabinet .ensures, ← c .before .before .before .before .takes .ensures, c .before .before .before .if1 .left, ← c .before .before .serving .ensures, c .before .if2 .taken)
 
 returns-3 : tie.Need-returns-3
 unfolding receiveNormal cabinet
-returns-3 c = rw (c .taken2 .ensures, ← c .before .before .before .before .before .before .cabinet .ensures, ← c .before .before .before .before .takes-from .ensures, c .before .before .before .if1 .left, ← c .before .before .serving .ensures, c .before .if2 .left)
+returns-3 c = rw (c .taken2 .ensures, ← c .before .before .before .before .before .before .cabinet .ensures, ← c .before .before .before .before .takes .ensures, c .before .before .before .if1 .left, ← c .before .before .serving .ensures, c .before .if2 .left)
 
 pub receive-normal-spec : {M : Type 1} → statement M
 receive-normal-spec = tie.close (tie.spec

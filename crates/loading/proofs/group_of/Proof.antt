@@ -11,4 +11,5 @@ group-of-spec = tie.close (tie.spec
     (λ c κs. search needs)
     (λ c κs. search needs)
     (λ c κs. search needs)
-    (λ c. rw (c .store-of .ensures, c .before .empty .ensures, c .before .before .cabinets-of .ensures, c .before .before .before .cabinet-count .ensures .0, c .before .before .before .before .of-rows .ensures)))
+    (λ c κs. search needs)
+    (λ c. rw (c .version-of .ensures, c .before .store-of .ensures, c .before .before .empty .ensures, c .before .before .before .cabinets-of .ensures, c .before .before .before .before .cabinet-count .ensures .0, c .before .before .before .before .before .of-rows .ensures)))

@@ -14,7 +14,7 @@ damaged-spec = tie.close (tie.spec
     (λ c. search needs)
     (λ c. search needs)
     (λ c. rw (c .enum-told .given .1))
-    (λ c. rw (c .hurt .ensures, c .before .before .p .given .1))
+    (λ c. rw (c .hurt-by .ensures, c .before .before .p .given .1))
     (λ c. rw (c .enum-told2 .given .1))
     (λ c. rw (c .enum-told3 .given .1))
     (λ c. rw (c .enum-told4 .given .1))

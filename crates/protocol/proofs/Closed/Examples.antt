@@ -3,9 +3,10 @@ use mathlib.Core.Path.{_≡_, refl}
 use Rattle.crc.specs.Crc.{crcBit, crcBits, crcOctet, crcFrom}
 use Rattle.marks.specs.Marks.{lowest, covers, both, nextUp}
 use Rattle.marks.specs.Reach.{struck, connected}
+use Rattle.packet.specs.Packet.{fits, shifted, patternRight, hurtBy}
 use Rattle.outgoing.specs.Lines.{emptyLines, lineTo, withLineTo, putAll, putCheckps}
 use Rattle.group.specs.Group.{cabinet, withCabinet, outgoing, withOutgoing, line, withLine, blankSlots, slot, withSlots, withSlot, rowsOf, ofRows, withSound, some, working, recoveringOnes, forgetTrips, isCrashed, sum}
-use Rattle.load.specs.Load.{load}
+use Rattle.load.specs.Load.{versionOf, load}
 use Rattle.protocol.specs.Moves.{broadcast, join, cutIfAll, takeCheckp, resumeWith, commit, adopt, recoverWith, raise, enterError, hear, findLinkFault, markFailed, alarmTo, endRecovery, noteLost}
 use Rattle.protocol.specs.Receive.{receiveNormal, receiveCheckp, receiveResume, receiveRecover, receiveFault}
 use Rattle.protocol.specs.Kinds.{sent, sendStep, noteStep, beginStep, delivered, deliverStep, writePiece, writeStep, reportSaved, commitIfAll, savedStep, fetchPiece, fetchStep, reportRestored, endIfAll, restoredStep, failStep, hurt, damageStep, reportUnsure, decideIfAll, unsureStep}
@@ -15,5 +16,5 @@ use Rattle.protocol.specs.History.{upd, logged, advance}
 use Rattle.protocol.specs.Examples.{walk, found, after-save, after-save-finds, passed-over, passed-over-finds, link-fault, link-fault-finds, second-recovery, second-recovery-finds, restored-before, restored-before-finds}
 
 pub runs-found : (found after-save ≡ after-save-finds) × (found passed-over ≡ passed-over-finds) × (found link-fault ≡ link-fault-finds) × (found second-recovery ≡ second-recovery-finds) × (found restored-before ≡ restored-before-finds)
-unfolding crcBit crcBits crcOctet crcFrom lowest covers both nextUp struck connected emptyLines lineTo withLineTo putAll putCheckps cabinet withCabinet outgoing withOutgoing line withLine blankSlots slot withSlots withSlot rowsOf ofRows withSound some working recoveringOnes forgetTrips isCrashed sum load broadcast join cutIfAll takeCheckp resumeWith commit adopt recoverWith raise enterError hear findLinkFault markFailed alarmTo endRecovery noteLost receiveNormal receiveCheckp receiveResume receiveRecover receiveFault sent sendStep noteStep beginStep delivered deliverStep writePiece writeStep reportSaved commitIfAll savedStep fetchPiece fetchStep reportRestored endIfAll restoredStep failStep hurt damageStep reportUnsure decideIfAll unsureStep step operate upd logged advance walk found
+unfolding crcBit crcBits crcOctet crcFrom fits shifted patternRight hurtBy lowest covers both nextUp struck connected emptyLines lineTo withLineTo putAll putCheckps cabinet withCabinet outgoing withOutgoing line withLine blankSlots slot withSlots withSlot rowsOf ofRows withSound some working recoveringOnes forgetTrips isCrashed sum versionOf load broadcast join cutIfAll takeCheckp resumeWith commit adopt recoverWith raise enterError hear findLinkFault markFailed alarmTo endRecovery noteLost receiveNormal receiveCheckp receiveResume receiveRecover receiveFault sent sendStep noteStep beginStep delivered deliverStep writePiece writeStep reportSaved commitIfAll savedStep fetchPiece fetchStep reportRestored endIfAll restoredStep failStep hurt damageStep reportUnsure decideIfAll unsureStep step operate upd logged advance walk found
 runs-found = (refl, refl, refl, refl, refl)

@@ -4,9 +4,10 @@ use mathlib.Core.List.{map}
 use Rattle.crc.specs.Crc.{crcBit, crcBits, crcOctet, crcFrom}
 use Rattle.marks.specs.Marks.{lowest, covers, both}
 use Rattle.marks.specs.Reach.{connected}
+use Rattle.packet.specs.Packet.{fits}
 use Rattle.outgoing.specs.Lines.{emptyLines, lineTo, withLineTo, putAll}
 use Rattle.group.specs.Group.{cabinet, withCabinet, outgoing, withOutgoing, line, withLine, blankSlots, slot, rowsOf, ofRows, some, working, recoveringOnes, isCrashed, sum}
-use Rattle.load.specs.Load.{load}
+use Rattle.load.specs.Load.{versionOf, load}
 use Rattle.protocol.specs.Moves.{broadcast, resumeWith, recoverWith, raise, enterError, markFailed, alarmTo, endRecovery, noteLost}
 use Rattle.protocol.specs.Receive.{receiveNormal}
 use Rattle.protocol.specs.Kinds.{sent, sendStep, beginStep, delivered, deliverStep, fetchPiece, fetchStep, reportRestored, endIfAll, restoredStep, failStep}
@@ -16,5 +17,5 @@ use Rattle.protocol.specs.Marked.{Case, marked, found}
 
 -- every case of the table is found as the paper has it
 pub marked-cases : map (λ (c : Case). found (c .asked)) marked ≡ map (λ (c : Case). c .expected) marked
-unfolding crcBit crcBits crcOctet crcFrom lowest covers both connected emptyLines lineTo withLineTo putAll cabinet withCabinet outgoing withOutgoing line withLine blankSlots slot rowsOf ofRows some working recoveringOnes isCrashed sum load broadcast resumeWith recoverWith raise enterError markFailed alarmTo endRecovery noteLost receiveNormal sent sendStep beginStep delivered deliverStep fetchPiece fetchStep reportRestored endIfAll restoredStep failStep step stepAll answersFrom parts runLines listing found
+unfolding crcBit crcBits crcOctet crcFrom fits lowest covers both connected emptyLines lineTo withLineTo putAll cabinet withCabinet outgoing withOutgoing line withLine blankSlots slot rowsOf ofRows some working recoveringOnes isCrashed sum versionOf load broadcast resumeWith recoverWith raise enterError markFailed alarmTo endRecovery noteLost receiveNormal sent sendStep beginStep delivered deliverStep fetchPiece fetchStep reportRestored endIfAll restoredStep failStep step stepAll answersFrom parts runLines listing found
 marked-cases = refl

@@ -4,9 +4,10 @@ use mathlib.Core.List.{map}
 use Rattle.crc.specs.Crc.{crcBit, crcBits, crcOctet, crcFrom}
 use Rattle.marks.specs.Marks.{lowest, covers, both, nextUp}
 use Rattle.marks.specs.Reach.{struck, connected}
+use Rattle.packet.specs.Packet.{fits, shifted, patternRight, hurtBy}
 use Rattle.outgoing.specs.Lines.{emptyLines, lineTo, withLineTo, putAll, putCheckps}
 use Rattle.group.specs.Group.{cabinet, withCabinet, outgoing, withOutgoing, line, withLine, blankSlots, slot, withSlots, withSlot, rowsOf, ofRows, withSound, some, working, recoveringOnes, tripsOf, withTripsOf, forgetTrips, isCrashed, crashAll, sum}
-use Rattle.load.specs.Load.{load}
+use Rattle.load.specs.Load.{versionOf, load}
 use Rattle.protocol.specs.Moves.{broadcast, join, cutIfAll, takeCheckp, resumeWith, commit, adopt, recoverWith, raise, enterError, hear, findLinkFault, markFailed, trip, alarmTo, endRecovery, noteLost}
 use Rattle.protocol.specs.Receive.{receiveNormal, receiveCheckp, receiveResume, receiveRecover, receiveFault, receiveInvalid}
 use Rattle.protocol.specs.Kinds.{sent, sendStep, noteStep, beginStep, delivered, deliverStep, writePiece, writeStep, reportSaved, commitIfAll, savedStep, fetchPiece, fetchStep, reportRestored, endIfAll, restoredStep, failStep, hurt, damageStep, lost, loseStep, tripOnce, tripStep, reportUnsure, decideIfAll, unsureStep}
@@ -22,7 +23,7 @@ use Rattle.protocol.specs.Trips.{comes-back, comes-back-finds, trip-pass
 pub trips-found : (found comes-back ≡ comes-back-finds) × (found trip-passed-over ≡ trip-passed-over-finds)
     × (found third-trip-fails ≡ third-trip-fails-finds) × (found lead-moves-on ≡ lead-moves-on-finds) × (found middle-trips ≡ middle-trips-finds)
     × (found trips-while-saving ≡ trips-while-saving-finds)
-unfolding crcBit crcBits crcOctet crcFrom lowest covers both nextUp struck connected emptyLines lineTo withLineTo putAll putCheckps cabinet withCabinet outgoing withOutgoing line withLine blankSlots slot withSlots withSlot rowsOf ofRows withSound some working recoveringOnes tripsOf withTripsOf forgetTrips isCrashed sum load broadcast join cutIfAll takeCheckp resumeWith commit adopt recoverWith raise enterError hear markFailed trip alarmTo endRecovery noteLost receiveNormal receiveCheckp receiveResume receiveRecover receiveFault sent sendStep noteStep beginStep delivered deliverStep writePiece writeStep reportSaved commitIfAll savedStep fetchPiece fetchStep reportRestored endIfAll restoredStep failStep tripOnce tripStep reportUnsure decideIfAll unsureStep step operate upd logged advance walk found
+unfolding crcBit crcBits crcOctet crcFrom fits lowest covers both nextUp struck connected emptyLines lineTo withLineTo putAll putCheckps cabinet withCabinet outgoing withOutgoing line withLine blankSlots slot withSlots withSlot rowsOf ofRows withSound some working recoveringOnes tripsOf withTripsOf forgetTrips isCrashed sum versionOf load broadcast join cutIfAll takeCheckp resumeWith commit adopt recoverWith raise enterError hear markFailed trip alarmTo endRecovery noteLost receiveNormal receiveCheckp receiveResume receiveRecover receiveFault sent sendStep noteStep beginStep delivered deliverStep writePiece writeStep reportSaved commitIfAll savedStep fetchPiece fetchStep reportRestored endIfAll restoredStep failStep tripOnce tripStep reportUnsure decideIfAll unsureStep step operate upd logged advance walk found
 trips-found = (refl, refl, refl, refl, refl, refl)
 
 pub round-again : RoundAgain
@@ -30,9 +31,9 @@ unfolding lowest both nextUp
 round-again = (refl, refl, refl)
 
 pub runs-answered : AsWritten leads × AsWritten counts
-unfolding crcBit crcBits crcOctet crcFrom lowest covers both nextUp struck connected emptyLines lineTo withLineTo putAll putCheckps cabinet withCabinet outgoing withOutgoing line withLine blankSlots slot withSlots withSlot rowsOf ofRows withSound some working recoveringOnes tripsOf withTripsOf forgetTrips isCrashed crashAll sum load broadcast join cutIfAll takeCheckp resumeWith commit adopt recoverWith raise enterError hear markFailed trip alarmTo endRecovery noteLost receiveNormal receiveCheckp receiveResume receiveRecover receiveFault sent sendStep noteStep beginStep delivered deliverStep writePiece writeStep reportSaved commitIfAll savedStep fetchPiece fetchStep reportRestored endIfAll restoredStep failStep tripOnce tripStep reportUnsure decideIfAll unsureStep step answersFrom answered
+unfolding crcBit crcBits crcOctet crcFrom fits lowest covers both nextUp struck connected emptyLines lineTo withLineTo putAll putCheckps cabinet withCabinet outgoing withOutgoing line withLine blankSlots slot withSlots withSlot rowsOf ofRows withSound some working recoveringOnes tripsOf withTripsOf forgetTrips isCrashed crashAll sum versionOf load broadcast join cutIfAll takeCheckp resumeWith commit adopt recoverWith raise enterError hear markFailed trip alarmTo endRecovery noteLost receiveNormal receiveCheckp receiveResume receiveRecover receiveFault sent sendStep noteStep beginStep delivered deliverStep writePiece writeStep reportSaved commitIfAll savedStep fetchPiece fetchStep reportRestored endIfAll restoredStep failStep tripOnce tripStep reportUnsure decideIfAll unsureStep step answersFrom answered
 runs-answered = (refl, refl)
 
 pub trip-cases : map (λ (c : Case). foundIn (c .asked)) tripCases ≡ map (λ (c : Case). c .expected) tripCases
-unfolding crcBit crcBits crcOctet crcFrom lowest covers both nextUp struck connected emptyLines lineTo withLineTo putAll putCheckps cabinet withCabinet outgoing withOutgoing line withLine blankSlots slot withSlots withSlot rowsOf ofRows withSound some working recoveringOnes tripsOf withTripsOf forgetTrips isCrashed crashAll sum load broadcast join cutIfAll takeCheckp resumeWith commit adopt recoverWith raise enterError hear findLinkFault markFailed trip alarmTo endRecovery noteLost receiveNormal receiveCheckp receiveResume receiveRecover receiveFault receiveInvalid sent sendStep noteStep beginStep delivered deliverStep writePiece writeStep reportSaved commitIfAll savedStep fetchPiece fetchStep reportRestored endIfAll restoredStep failStep hurt damageStep lost loseStep tripOnce tripStep reportUnsure decideIfAll unsureStep step stepAll answersFrom parts runLines listing foundIn
+unfolding crcBit crcBits crcOctet crcFrom fits shifted patternRight hurtBy lowest covers both nextUp struck connected emptyLines lineTo withLineTo putAll putCheckps cabinet withCabinet outgoing withOutgoing line withLine blankSlots slot withSlots withSlot rowsOf ofRows withSound some working recoveringOnes tripsOf withTripsOf forgetTrips isCrashed crashAll sum versionOf load broadcast join cutIfAll takeCheckp resumeWith commit adopt recoverWith raise enterError hear findLinkFault markFailed trip alarmTo endRecovery noteLost receiveNormal receiveCheckp receiveResume receiveRecover receiveFault receiveInvalid sent sendStep noteStep beginStep delivered deliverStep writePiece writeStep reportSaved commitIfAll savedStep fetchPiece fetchStep reportRestored endIfAll restoredStep failStep hurt damageStep lost loseStep tripOnce tripStep reportUnsure decideIfAll unsureStep step stepAll answersFrom parts runLines listing foundIn
 trip-cases = refl

@@ -1,0 +1,2 @@
+-- What holds of packets that damage hits.
+pub mod Bursts
