@@ -328,7 +328,7 @@ pub record World : Type 0 where
   pub points : Points
   pub history : History
 
--- each outcome is handed on, so that it is computed once
+-- the world after a step record, by its outcome, which is handed on so that a closed run computes it once
 abbrev pub stepped : World → List ℕ → Outcome → World
 stepped w r o = record { group = o .group; points = w .points; history = recordDecoded (w .history) (w .group) o (decode r) }
 

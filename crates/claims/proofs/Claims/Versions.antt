@@ -46,7 +46,8 @@ use Rattle.claims.specs.Fifo.{isLine, handled, joins, resumes, entersErr
 use Rattle.claims.proofs.State.Fun.{cond-elim}
 use Rattle.claims.proofs.State.Every.{each, getD-each}
 use Rattle.claims.proofs.Answers.Entry.{refusal-keeps, crash-stops}
-use Rattle.claims.proofs.Claims.Demand.{run-append, octets-append, run-fixed}
+use Rattle.claims.proofs.Claims.Demand.{run-append, octets-append}
+use Rattle.claims.proofs.Claims.Bounds.{version-stays}
 use Rattle.claims.proofs.Claims.Fifo.{first-in-first-out}
 
 -- ---- lists
@@ -172,9 +173,6 @@ module _ (f : List ℕ) (of : Octets f) (e : load f .answer ≡ 0) where
   abbrev v : PacketVersion
   v = load f .group .packets
 
-  version-here : (xs : List Operation) → worldAfter f xs .group .packets ≡ v
-  version-here xs = ap (λ (y : ℕ × PacketVersion). y .1) (run-fixed xs (opening (load f .group)))
-
   step-of : (xs : List Operation) → AllOctets xs → (r : List ℕ) → Octets r → Carrying v (worldAfter f xs .group) → Carrying v (step (worldAfter f xs .group) r .group)
   step-of xs o r or h = elim (ℕ-discrete (step g r .answer) 0) [
     | yes taken ↦ took (decode r) refl taken
@@ -192,8 +190,8 @@ module _ (f : List ℕ) (of : Octets f) (e : load f .answer ≡ 0) where
       took Unused is taken = absurd (omega (arith, taken, decoded g r Unused is))
       took (Taken s) is taken = λ a b.
           subst (AllOf v) (sym (first-in-first-out f of e xs o r or s is taken a b))
-          (subst (λ (u : PacketVersion). AllOf u (lineAfter g (step g r .group) s a b)) (version-here xs)
-          (line-of g (step g r .group) s a b (subst (λ (u : PacketVersion). Carrying u g) (sym (version-here xs)) h)))
+          (subst (λ (u : PacketVersion). AllOf u (lineAfter g (step g r .group) s a b)) (version-stays f xs)
+          (line-of g (step g r .group) s a b (subst (λ (u : PacketVersion). Carrying u g) (sym (version-stays f xs)) h)))
 
   one-of : (xs : List Operation) → AllOctets xs → (x : Operation) → AllOctets (x ∷ []) → Carrying v (worldAfter f xs .group) → Carrying v (advance (worldAfter f xs) x .group)
   unfolding advance
@@ -234,4 +232,4 @@ pub packets-of-version : PacketsOfVersion
 unfolding run
 packets-of-version f of e xs o a b k p is =
     standing (load f .group .packets) (line (worldAfter f xs .group) a b .cells) k p is (from f of e [] xs tt o (at-start f of e) a b)
-    ∙ ap packetOctets (sym (version-here f of e xs))
+    ∙ ap packetOctets (sym (version-stays f xs))
