@@ -6,6 +6,7 @@ pub mod losses;
 pub mod plans;
 mod trips;
 mod unsure;
+pub mod words;
 
 use crate::model::{
     self, Crash, Ends, Event, Group, Number, Outcome, Packet, PacketVersion, State, CRASHED, KINDS,

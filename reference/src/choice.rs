@@ -94,6 +94,9 @@ fn marks(tally: &Tally) -> BTreeSet<String> {
     add_keys(&mut marks, "point", &tally.point_answers);
     add_keys(&mut marks, "return", &tally.return_answers);
     add_keys(&mut marks, "sight", &tally.sights);
+    add_keys(&mut marks, "line", &tally.words.answers);
+    add_keys(&mut marks, "word", &tally.words.stood);
+    add_keys(&mut marks, "word of", &tally.words.marks);
     marks
 }
 

@@ -1,11 +1,13 @@
-//! The two forms of a case: a group file with steps, for the listing, or with a plan, for the
-//! program `evening`.
+//! The forms of a case: a group file with steps, for the listing or for the program `word`, or
+//! with a plan, for the program `evening`.
 
 use crate::cases::plans::make_plan_case;
+use crate::cases::words::make_word_case;
 use crate::cases::{make_case, Case, Record, Wishes};
 use crate::evening::{counted_evening, operation, Operation, PLAN_RECORD_LENGTH};
 use crate::listing::{counted_listing, Tally, RECORDS_READ};
 use crate::model::RECORD_LENGTH;
+use crate::word::counted_word;
 use std::path::Path;
 use std::{fs, io};
 
@@ -13,28 +15,30 @@ use std::{fs, io};
 pub enum Form {
     Steps,
     Plan,
+    Word,
 }
 
 impl Form {
     /// The file beside group.dat.
     pub fn records_file(self) -> &'static str {
         match self {
-            Form::Steps => "steps.dat",
+            Form::Steps | Form::Word => "steps.dat",
             Form::Plan => "plan.dat",
         }
     }
 
     /// The file with the expected text in a case folder.
-    fn text_file(self) -> &'static str {
+    pub fn text_file(self) -> &'static str {
         match self {
             Form::Steps => "expected",
             Form::Plan => "evening",
+            Form::Word => "word",
         }
     }
 
     pub fn record_length(self) -> usize {
         match self {
-            Form::Steps => RECORD_LENGTH,
+            Form::Steps | Form::Word => RECORD_LENGTH,
             Form::Plan => PLAN_RECORD_LENGTH,
         }
     }
@@ -42,7 +46,7 @@ impl Form {
     /// For each record that is read its step, or none if it is no step.
     pub fn steps(self, case: &Case) -> Vec<Option<Record>> {
         let step = match self {
-            Form::Steps => |record: &[u8]| record.try_into().ok(),
+            Form::Steps | Form::Word => |record: &[u8]| record.try_into().ok(),
             Form::Plan => step_of_plan_record,
         };
         case.steps.chunks(self.record_length()).take(RECORDS_READ).map(step).collect()
@@ -52,6 +56,7 @@ impl Form {
         match self {
             Form::Steps => make_case(seed, wishes),
             Form::Plan => make_plan_case(seed, wishes),
+            Form::Word => make_word_case(seed, wishes),
         }
     }
 
@@ -60,6 +65,7 @@ impl Form {
         match self {
             Form::Steps => counted_listing(&case.group, &case.steps, highest_kind),
             Form::Plan => counted_evening(&case.group, &case.steps, highest_kind),
+            Form::Word => counted_word(&case.group, &case.steps, highest_kind),
         }
     }
 
@@ -71,6 +77,7 @@ impl Form {
         match self {
             Form::Steps => tally.report(),
             Form::Plan => tally.report() + &tally.plan_report(),
+            Form::Word => tally.report() + &tally.words.report(),
         }
     }
 
@@ -84,14 +91,15 @@ impl Form {
         fs::read(folder.join(self.text_file()))
     }
 
-    /// The form of the case that a folder holds, if it holds one.
-    pub fn of_folder(folder: &Path) -> Option<Form> {
+    /// The forms of the cases that a folder holds: a plan, or steps with one text or both.
+    pub fn of_folder(folder: &Path) -> Vec<Form> {
         let holds = |name: &str| folder.join(name).is_file();
         if holds("plan.dat") && holds("evening") {
-            Some(Form::Plan)
-        } else {
-            holds("expected").then_some(Form::Steps)
+            return vec![Form::Plan];
         }
+        let mut forms = vec![Form::Steps, Form::Word];
+        forms.retain(|form| holds(form.text_file()));
+        forms
     }
 }
 

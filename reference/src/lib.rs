@@ -19,3 +19,4 @@ mod testing;
 pub mod trips;
 pub mod unsure;
 pub mod widened;
+pub mod word;

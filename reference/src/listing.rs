@@ -9,6 +9,7 @@ use crate::outlets::{OutletCounts, Watch};
 use crate::own_checks::{HurtWatch, OwnCheckCounts};
 use crate::trips::{Stand, TripCounts, TripWatch};
 use crate::unsure::{UnsureCounts, UnsureWatch};
+use crate::word::WordCounts;
 use std::collections::BTreeMap;
 use std::fmt::{Debug, Write};
 
@@ -35,6 +36,7 @@ pub struct Tally {
     pub point_answers: BTreeMap<u8, u64>,
     pub return_answers: BTreeMap<u8, u64>,
     pub sights: BTreeMap<Sight, u64>,
+    pub words: WordCounts,
 }
 
 impl Tally {
@@ -93,6 +95,7 @@ impl Tally {
         add_counts(&mut self.point_answers, &other.point_answers);
         add_counts(&mut self.return_answers, &other.return_answers);
         add_counts(&mut self.sights, &other.sights);
+        self.words.add(&other.words);
     }
 
     pub fn report(&self) -> String {

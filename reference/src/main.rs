@@ -1,4 +1,4 @@
-//! The commands: list, evening, compare, make, pack, vectors and bench.
+//! The commands: list, evening, word, compare, make, pack, vectors and bench.
 
 use reference::cases::{case_seed, make_case, Case, Wishes};
 use reference::choice::most_telling;
@@ -18,12 +18,13 @@ use std::{env, fs};
 const USAGE: &str = "usage:
   reference list DIR [--kinds K]
   reference evening DIR [--kinds K]
-  reference compare PROGRAM [--plans] [--seed S] [--cases N] [--damage] [--kinds K]
-  reference make OUT [--plans] [--seed S] [--cases N] [--damage] [--kinds K]
-  reference pack DIR OUT [--plans] [--from-01 | --from-card C] [--most N]
+  reference word DIR [--kinds K]
+  reference compare PROGRAM [--plans | --word] [--seed S] [--cases N] [--damage] [--kinds K]
+  reference make OUT [--plans | --word] [--seed S] [--cases N] [--damage] [--kinds K]
+  reference pack DIR OUT [--plans | --word] [--from-01 | --from-card C] [--most N]
   reference vectors DIR [--from-01 | --from-card C]
   reference bench [--seed S]
-K is from 10 to 14, C from 2 to 7";
+K is from 10 to 14, C from 2 to 8";
 
 // ---------------------------------------------------------------- arguments
 
@@ -47,6 +48,7 @@ impl Options {
                 "--seed" => options.seed = arguments.next()?.parse().ok()?,
                 "--cases" => options.cases = arguments.next()?.parse().ok()?,
                 "--plans" => options.form = Form::Plan,
+                "--word" => options.form = Form::Word,
                 "--damage" => options.damage = true,
                 "--from-01" => options.from_01 = true,
                 "--from-card" => options.from_card = card(&arguments.next()?)?,
@@ -100,6 +102,7 @@ fn main() -> ExitCode {
     let done = match words[..] {
         ["list", folder] => print_text(Form::Steps, Path::new(folder), &options),
         ["evening", folder] => print_text(Form::Plan, Path::new(folder), &options),
+        ["word", folder] => print_text(Form::Word, Path::new(folder), &options),
         ["compare", program] => compare(Path::new(program), &options),
         ["make", file] => make(Path::new(file), &options),
         ["pack", folder, file] => pack(Path::new(folder), Path::new(file), &options),
@@ -118,7 +121,7 @@ fn usage() -> ExitCode {
     ExitCode::from(2)
 }
 
-// ---------------------------------------------------------------- list and evening
+// ---------------------------------------------------------------- list, evening and word
 
 fn print_text(form: Form, folder: &Path, options: &Options) -> io::Result<ExitCode> {
     let text = form.text(&form.case_in_folder(folder), options.highest_kind);
@@ -173,7 +176,7 @@ fn pack(folder: &Path, file: &Path, options: &Options) -> io::Result<ExitCode> {
     let mut folders = case_folders(folder)?;
     folders.retain(|(found, _)| *found == form);
     if folders.is_empty() {
-        eprintln!("no case folder with {} below {}", form.records_file(), folder.display());
+        eprintln!("no case folder with {} below {}", form.text_file(), folder.display());
         return Ok(ExitCode::from(2));
     }
     let mut left_out: BTreeMap<LeftOut, u64> = BTreeMap::new();
@@ -225,10 +228,10 @@ fn case_as_it_reads_now(
 
 // ---------------------------------------------------------------- vectors
 
-/// The folders at or below `folder` that hold a case, in order.
+/// The folders at or below `folder` that hold a case, in order, once for each of its texts.
 fn case_folders(folder: &Path) -> io::Result<Vec<(Form, PathBuf)>> {
-    let here = Form::of_folder(folder).map(|form| (form, folder.to_path_buf()));
-    let mut found = Vec::from_iter(here);
+    let forms = Form::of_folder(folder).into_iter();
+    let mut found: Vec<_> = forms.map(|form| (form, folder.to_path_buf())).collect();
     let mut below = Vec::new();
     for entry in fs::read_dir(folder)? {
         below.push(entry?.path());
@@ -264,12 +267,12 @@ fn vectors(folder: &Path, options: &Options) -> io::Result<ExitCode> {
         if agrees && (!has_store || store_agrees(&case_folder)?) {
             agree += 1;
         } else {
-            differ.push(case_folder);
+            differ.push(case_folder.join(form.text_file()));
         }
     }
     println!("{agree} agree, {} differ, {left_out} left out", differ.len());
-    for case_folder in &differ {
-        println!("{}", case_folder.strip_prefix(folder).unwrap_or(case_folder).display());
+    for text in &differ {
+        println!("{}", text.strip_prefix(folder).unwrap_or(text).display());
     }
     Ok(if differ.is_empty() { ExitCode::SUCCESS } else { ExitCode::FAILURE })
 }

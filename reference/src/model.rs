@@ -1,6 +1,7 @@
-//! The charger group of either packet version: cabinets, lines and store, the load of a group file
-//! and the thirteen kinds of step, numbered 1 to 14 without 9. Written from the scope document and the decisions
-//! alone; cabinet numbers are 1 to n here, as they are there.
+//! The charger group of either packet version: cabinets, lines and store, the load of a group file,
+//! the thirteen kinds of step, numbered 1 to 14 without 9, and the word that settled a recovery.
+//! Written from the scope document and the decisions alone; cabinet numbers are 1 to n here, as
+//! they are there.
 
 use std::collections::{BTreeSet, VecDeque};
 use std::ops::{Range, RangeInclusive};
@@ -356,17 +357,71 @@ struct Noted {
     faults_heard: BTreeSet<Number>,
 }
 
-/// Why a cabinet entered error, and which cabinet was its coordinator before.
+/// Why a cabinet entered error, and how it stood before: its coordinator and its state, and
+/// whether it brought its version along.
 #[derive(Clone, Copy)]
 struct Trouble {
     place: Place,
     coordinator_before: Number,
+    state_before: State,
+    knew: bool,
 }
 
 impl Trouble {
     fn is_the_coordinator_before(self) -> bool {
         self.place.cabinet() == Some(self.coordinator_before)
     }
+
+    /// What this cabinet's word rests on, if it is the first of its recovery.
+    fn reason(self, own: Number) -> Reason {
+        match self.state_before {
+            _ if self.knew && self.coordinator_before == own => Reason::Led,
+            State::CheckpBegin | State::Checkpointing => Reason::StillSaving,
+            State::Normal => Reason::InNormal,
+            _ => Reason::Decided,
+        }
+    }
+}
+
+/// How the first cabinet of a recovery could name the version to go back to.
+#[derive(Clone, Copy, PartialEq, Eq, PartialOrd, Ord, Debug)]
+pub enum Reason {
+    /// It was coordinator and knew, in whatever state.
+    Led,
+    /// Its pieces were not all written, so it knew.
+    StillSaving,
+    InNormal,
+    /// By the last report unsure.
+    Decided,
+}
+
+impl Reason {
+    pub const ALL: [Reason; 4] =
+        [Reason::Led, Reason::StillSaving, Reason::InNormal, Reason::Decided];
+
+    /// As it is printed.
+    pub fn number(self) -> u8 {
+        match self {
+            Reason::Led => 1,
+            Reason::StillSaving => 2,
+            Reason::InNormal => 3,
+            Reason::Decided => 4,
+        }
+    }
+}
+
+/// The first cabinet that entered recovering in a recovery.
+#[derive(Clone, Copy, PartialEq, Eq, Debug)]
+pub struct Word {
+    pub cabinet: Number,
+    pub reason: Reason,
+}
+
+/// The word of the latest recovery that has one, and whether that recovery has not ended yet.
+#[derive(Clone, Copy, Default)]
+struct Settling {
+    word: Option<Word>,
+    open: bool,
 }
 
 #[derive(Clone)]
@@ -507,6 +562,7 @@ pub struct Group {
     lines: Vec<Vec<Line>>,
     slots: Vec<[Image; 2]>,
     packet_version: PacketVersion,
+    settling: Settling,
     history: History,
 }
 
@@ -661,6 +717,7 @@ fn starting_group(
         sound_links: links,
         lines: vec![vec![Line::default(); n]; n],
         packet_version,
+        settling: Settling::default(),
         history: History::default(),
     }
 }
@@ -1104,8 +1161,12 @@ impl Group {
         if let Some(answer) = self.refusal(&step) {
             return refused(answer);
         }
+        let recovering = self.recovering_cabinets();
         match self.perform(step) {
-            Ok(event) => Outcome { answer: TAKEN, event },
+            Ok(event) => {
+                self.settle(&recovering, event);
+                Outcome { answer: TAKEN, event }
+            }
             Err(cause) => {
                 self.crash();
                 Outcome { answer: CRASHED, event: Event::Crash(cause) }
@@ -1437,7 +1498,12 @@ impl Group {
         }
         let cabinet = self.cabinet_mut(a);
         let coordinator_before = cabinet.coordinator;
-        cabinet.trouble = Some(Trouble { place, coordinator_before });
+        cabinet.trouble = Some(Trouble {
+            place,
+            coordinator_before,
+            state_before: cabinet.state,
+            knew: cabinet.version.known(),
+        });
         cabinet.strike(a, place);
         if place.cabinet() == Some(coordinator_before) {
             cabinet.coordinator = cabinet.next_in_use_after(coordinator_before);
@@ -1553,6 +1619,44 @@ impl Group {
         line.packets.remove(place);
         line.hurt = true;
         Ok(())
+    }
+}
+
+// ---------------------------------------------------------------- the word that settled it
+
+const GROUP_CRASHED: u8 = 10;
+const NO_WORD_YET: u8 = 24;
+
+impl Group {
+    /// The word of the latest recovery that has one, or the refusal.
+    pub fn word(&self) -> Result<Word, u8> {
+        if self.crashed() {
+            return Err(GROUP_CRASHED);
+        }
+        self.settling.word.ok_or(NO_WORD_YET)
+    }
+
+    pub(crate) fn recovering_cabinets(&self) -> BTreeSet<Number> {
+        self.numbers().filter(|&a| self.cabinet(a).state == State::Recovering).collect()
+    }
+
+    /// After a step, before which these were recovering. Looking at it as a whole finds the
+    /// lowest, in whatever order its cabinets went on.
+    fn settle(&mut self, recovering_before: &BTreeSet<Number>, event: Event) {
+        if !self.settling.open {
+            let now = self.recovering_cabinets();
+            if let Some(&first) = now.difference(recovering_before).next() {
+                self.settling = Settling { word: Some(self.word_of(first)), open: true };
+            }
+        }
+        if matches!(event, Event::RecoveryEnd { .. }) {
+            self.settling.open = false;
+        }
+    }
+
+    fn word_of(&self, cabinet: Number) -> Word {
+        let trouble = self.cabinet(cabinet).trouble.expect("recovering comes after error");
+        Word { cabinet, reason: trouble.reason(cabinet) }
     }
 }
 

@@ -10,7 +10,7 @@ use crate::model::{KINDS, WITHDRAWN_KIND};
 
 /// Document 01 by itself, and the one whose rules the model has.
 const NO_CARD: u8 = 1;
-pub const LAST_CARD: u8 = 7;
+pub const LAST_CARD: u8 = 8;
 
 /// Those that withdrew a kind of step, and that brought packets with their own check.
 const CARD_OF_WITHDRAWAL: u8 = 6;

@@ -11,10 +11,12 @@ use reference::model::{Crash, PacketVersion, State, KINDS};
 use reference::own_checks::{Dropped, Found, Hit, Misfit, Mixed};
 use reference::trips::Between;
 use reference::unsure::{Lost, Refusal};
+use reference::word::{word, Mark, Sort, WordCounts};
 
 const WISHES: Wishes = Wishes { damage: true, highest_kind: KINDS, cabinets: None };
 const MADE: Row = Row { form: Form::Steps, seed: 4915, cases: 200, wishes: WISHES };
 const PLANNED: Row = Row { form: Form::Plan, seed: 5323, cases: 100, wishes: WISHES };
+const WORDED: Row = Row { form: Form::Word, seed: 59, cases: 100, wishes: WISHES };
 
 const GROUP_MOST: usize = 4_096;
 const RECORDS_MOST: usize = 90_180;
@@ -190,4 +192,33 @@ fn the_two_made_files_reach_everything() {
     let mut tally = made;
     tally.add(&counted(PLANNED));
     assert_eq!(not_reached(&tally), [""; 0]);
+}
+
+/// The counts at which less than three are counted, or nothing at all.
+fn reached_too_seldom(words: &WordCounts) -> Vec<String> {
+    let few = |count: Option<&u64>| count.copied().unwrap_or_default() < 3;
+    let sorts = Sort::ALL.iter().filter(|sort| few(words.answers.get(sort)));
+    let marks = Mark::ALL.iter().filter(|mark| few(words.marks.get(mark)));
+    let stood = words.stood.iter().filter(|(_, &count)| few(Some(&count)));
+    let sorts = sorts.map(|sort| format!("{sort:?}"));
+    let marks = marks.map(|mark| format!("{mark:?}"));
+    sorts.chain(marks).chain(stood.map(|(stood, _)| format!("{stood:?}"))).collect()
+}
+
+#[test]
+fn the_made_file_of_words_reaches_each_several_times() {
+    let tally = counted(WORDED);
+    assert_eq!(reached_too_seldom(&tally.words), [""; 0]);
+    assert_eq!(tally.words.stood.len(), 8);
+    assert!(tally.loads_refused.keys().eq(&[1, 2, 3, 4, 5, 6, 7]));
+}
+
+/// Without as many in front as are too many, the records behind are read.
+#[test]
+fn the_long_case_of_words_tells_how_many_records_are_read() {
+    let mut cases = (0..WORDED.cases).map(|index| WORDED.case(index));
+    let long = cases.find(|case| has_more_records_than_are_read(Form::Word, case));
+    let Case { group, steps } = long.expect("one case is long");
+    let all_read = &steps[steps.len() - 6 * RECORDS_READ..];
+    assert_ne!(word(&group, &steps, KINDS), word(&group, all_read, KINDS));
 }

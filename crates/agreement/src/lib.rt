@@ -1,9 +1,10 @@
-// Whether the library's text, a listing or an evening, is the expected one.
+// Whether the library's text, a listing, an evening or the line of `word`, is the expected one.
 ghost use mathlib.Core.Path.{_≡_};
 ghost use lib.ListN.{take};
 ghost use Rattle.io.specs.Counts.{Counts};
 ghost use Rattle.protocol.specs.Listing.{listing};
 ghost use Rattle.protocol.specs.Evening.{evening};
+ghost use Rattle.protocol.specs.Word.{word};
 ghost use Rattle.agreement.specs.Tests.{Decides, Held};
 
 // n, or the buffer's length if that is less, with the facts that `&buffer[..n]` asks for.
@@ -40,5 +41,14 @@ pub fn evening_agrees(file: &[u8], list: &[u8], text: &[u8]) -> bool
 {
     let mut out = [0u8; 200200];
     let length = diary::write_evening(file, list, &mut out);
+    holds(&out, length, text)
+}
+
+// Whether it writes the expected line of `word`.
+pub fn word_agrees(file: &[u8], list: &[u8], text: &[u8]) -> bool
+    ensures { λ r. ⌜ Decides r (now (text .entry) ≡ word (now (file .entry)) (now (list .entry))) ⌝ }
+{
+    let mut out = [0u8; 17];
+    let length = telling::write_word(file, list, &mut out);
     holds(&out, length, text)
 }

@@ -9,10 +9,11 @@ ghost use mathlib.Core.Path.{_≡_};
 // A proved loop has to end, and nothing says that a file does.
 const CASES_MOST: u64 = 1000000;
 
-// What the library writes of a case: the listing, or the text of an evening.
+// What the library writes of a case: the listing, the text of an evening, or the line of `word`.
 enum Kind {
     Listing,
     Evening,
+    Word,
 }
 
 enum Verdict {
@@ -61,6 +62,7 @@ fn agrees(kind: Kind, file: &[u8], list: &[u8], text: &[u8]) -> bool {
     match kind {
         Kind::Listing => agreement::agrees(file, list, text),
         Kind::Evening => agreement::evening_agrees(file, list, text),
+        Kind::Word => agreement::word_agrees(file, list, text),
     }
 }
 
@@ -193,4 +195,6 @@ fn main() {
     container(Kind::Listing, b"made", b"made.cases");
     container(Kind::Evening, b"points", b"points.cases");
     container(Kind::Evening, b"planned", b"planned.cases");
+    container(Kind::Word, b"word", b"word.cases");
+    container(Kind::Word, b"worded", b"worded.cases");
 }

@@ -9,5 +9,6 @@ pub mod During
 pub mod NoClock
 pub mod Fifo
 pub mod Versions
+pub mod Word
 pub mod Examples
 pub mod Instances

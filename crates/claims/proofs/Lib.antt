@@ -4,4 +4,5 @@ pub mod Answers
 pub mod Invariant
 pub mod Moves
 pub mod Fifo
+pub mod Word
 pub mod Claims

@@ -2,6 +2,8 @@
 -- functions and sums
 pub mod Fun
 pub mod Leading
+-- octets
+pub mod Octets
 -- what every step keeps
 pub mod Every
 pub mod Fixed

@@ -5,4 +5,5 @@ pub mod Fifo
 pub mod Saves
 pub mod Points
 pub mod NoClock
+pub mod Word
 pub mod Instances

@@ -17,6 +17,9 @@ use Rattle.outgoing.specs.declared.Outgoing.{Outgoing}
 use Rattle.group.specs.declared.Slots.{Slots}
 use Rattle.group.specs.declared.Group.{Group}
 use Rattle.group.specs.declared.Outcome.{Outcome}
+use Rattle.settled.specs.declared.Reason.{Reason}
+use Rattle.settled.specs.declared.Settled.{Settled}
+use Rattle.settled.specs.Settled.{enters, ends}
 use Rattle.state.specs.State.{works, isIn, inRecovery}
 use Rattle.image.specs.Image.{blankImage}
 use Rattle.cabinet.specs.Cabinet.{absent, crashing}
@@ -25,19 +28,22 @@ use Rattle.outgoing.specs.Lines.{emptyLines, lineTo, withLineTo, laden}
 -- ---- the components, each replaced by one function
 
 abbrev pub withCabinets : Group → List Cabinet → Group
-withCabinets g cs = record { n = g .n; cabinets = cs; links = g .links; sound = g .sound; outgoing = g .outgoing; store = g .store; trips = g .trips; packets = g .packets }
+withCabinets g cs = record { n = g .n; cabinets = cs; links = g .links; sound = g .sound; outgoing = g .outgoing; store = g .store; trips = g .trips; packets = g .packets; settled = g .settled }
 
 abbrev pub withSoundRows : Group → List Row → Group
-withSoundRows g rs = record { n = g .n; cabinets = g .cabinets; links = g .links; sound = rs; outgoing = g .outgoing; store = g .store; trips = g .trips; packets = g .packets }
+withSoundRows g rs = record { n = g .n; cabinets = g .cabinets; links = g .links; sound = rs; outgoing = g .outgoing; store = g .store; trips = g .trips; packets = g .packets; settled = g .settled }
 
 abbrev pub withLines : Group → List Outgoing → Group
-withLines g os = record { n = g .n; cabinets = g .cabinets; links = g .links; sound = g .sound; outgoing = os; store = g .store; trips = g .trips; packets = g .packets }
+withLines g os = record { n = g .n; cabinets = g .cabinets; links = g .links; sound = g .sound; outgoing = os; store = g .store; trips = g .trips; packets = g .packets; settled = g .settled }
 
 abbrev pub withStore : Group → List Slots → Group
-withStore g ss = record { n = g .n; cabinets = g .cabinets; links = g .links; sound = g .sound; outgoing = g .outgoing; store = ss; trips = g .trips; packets = g .packets }
+withStore g ss = record { n = g .n; cabinets = g .cabinets; links = g .links; sound = g .sound; outgoing = g .outgoing; store = ss; trips = g .trips; packets = g .packets; settled = g .settled }
 
 abbrev pub withTrips : Group → List ℕ → Group
-withTrips g ts = record { n = g .n; cabinets = g .cabinets; links = g .links; sound = g .sound; outgoing = g .outgoing; store = g .store; trips = ts; packets = g .packets }
+withTrips g ts = record { n = g .n; cabinets = g .cabinets; links = g .links; sound = g .sound; outgoing = g .outgoing; store = g .store; trips = ts; packets = g .packets; settled = g .settled }
+
+abbrev pub withSettled : Group → Settled → Group
+withSettled g s = record { n = g .n; cabinets = g .cabinets; links = g .links; sound = g .sound; outgoing = g .outgoing; store = g .store; trips = g .trips; packets = g .packets; settled = s }
 
 -- ---- cabinets
 
@@ -100,6 +106,16 @@ noTrips = replicate 8 0
 
 unfoldable pub forgetTrips : Group → Group
 forgetTrips g = withTrips g noTrips
+
+-- ---- which word settled the latest recovery (document 02, card 8)
+
+-- cabinet i enters recovering by its own word
+unfoldable pub settle : Group → ℕ → Reason → Group
+settle g i r = withSettled g (enters (g .settled) i r)
+
+-- the recovery ends
+unfoldable pub settleOver : Group → Group
+settleOver g = withSettled g (ends (g .settled))
 
 -- ---- links: "one row of eight marks for each cabinet"
 

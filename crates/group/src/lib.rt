@@ -5,13 +5,15 @@ use image::Image;
 use line::Line;
 use outgoing::Outgoing;
 use packet::PacketVersion;
+use settled::Reason;
+use settled::Settled;
 use state::State;
 ghost use mathlib.Core.Path.{_≡_};
 ghost use mathlib.Core.Bool.{cond};
 ghost use Prim.Native.Nat.{_<_};
 ghost use lib.ListN.{getD};
 ghost use Rattle.outgoing.specs.Lines.{emptyLines};
-ghost use Rattle.group.specs.Group.{cabinet, withCabinet, stateOf, outgoing, withOutgoing, line, withLine, blankSlots, slot, withSlots, withSlot, noRow, rowsOf, rowAt, ofRows, withSound, tripsOf, withTripsOf, forgetTrips, answering, taken};
+ghost use Rattle.group.specs.Group.{cabinet, withCabinet, stateOf, outgoing, withOutgoing, line, withLine, blankSlots, slot, withSlots, withSlot, noRow, rowsOf, rowAt, ofRows, withSound, tripsOf, withTripsOf, forgetTrips, withSettled, settle, settleOver, answering, taken};
 
 // One row of eight marks for a cabinet: its links.
 pub struct Row {
@@ -25,7 +27,7 @@ pub struct Slots {
 }
 
 // links: the file's; sound: those of them not found faulty; trips: how often each cabinet tripped since the last commit;
-// packets: the packet version, the file's.
+// packets: the packet version, the file's; settled: which word settled the latest recovery.
 pub struct Group {
     pub n: u8,
     pub cabinets: [Cabinet; 8],
@@ -35,6 +37,7 @@ pub struct Group {
     pub store: [Slots; 8],
     pub trips: [u8; 8],
     pub packets: PacketVersion,
+    pub settled: Settled,
 }
 
 // An answer with the group, lines and store after it.
@@ -282,5 +285,44 @@ impl Group {
         let mut g = self;
         g.trips = [0; 8];
         g
+    }
+
+    fn with_settled(self, s: Settled) -> Group
+        ensures { λ g. ⌜ g ≡ withSettled self s ⌝ }
+    {
+        let cabinets = self.cabinets;
+        let links = self.links;
+        let sound = self.sound;
+        let outgoing = self.outgoing;
+        let store = self.store;
+        let trips = self.trips;
+        let packets = self.packets;
+        Group {
+            n: self.n,
+            cabinets: cabinets,
+            links: links,
+            sound: sound,
+            outgoing: outgoing,
+            store: store,
+            trips: trips,
+            packets: packets,
+            settled: s,
+        }
+    }
+
+    // Cabinet i enters recovering by its own word.
+    pub fn settle(self, i: u8, r: Reason) -> Group
+        ensures { λ g. ⌜ g ≡ settle self i r ⌝ }
+    {
+        let before = self.settled;
+        self.with_settled(before.enters(i, r))
+    }
+
+    // The recovery ends.
+    pub fn settle_over(self) -> Group
+        ensures { λ g. ⌜ g ≡ settleOver self ⌝ }
+    {
+        let before = self.settled;
+        self.with_settled(before.ends())
     }
 }

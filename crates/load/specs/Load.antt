@@ -11,6 +11,7 @@ use Rattle.outlet.specs.declared.Outlet.{Outlet}
 use Rattle.outlet.specs.declared.Outlet.the-variants.{A, B}
 use Rattle.packet.specs.declared.PacketVersion.{PacketVersion}
 use Rattle.packet.specs.declared.PacketVersion.the-variants.{One, Two}
+use Rattle.settled.specs.declared.Settled.the-variants.{Nobody}
 use Rattle.state.specs.declared.State.the-variants.{Normal}
 use Rattle.state.specs.declared.Version.the-variants.{Known}
 use Rattle.cabinet.specs.declared.Alarm.the-variants.{Quiet}
@@ -205,6 +206,7 @@ groupOf f rows = record {
   store = storeOf f;
   trips = noTrips;
   packets = versionOf f;
+  settled = Nobody;
 }
 
 -- a refused file leaves no group
@@ -218,6 +220,7 @@ noGroup = record {
   store = replicate 8 blankSlots;
   trips = noTrips;
   packets = One;
+  settled = Nobody;
 }
 
 abbrev pub loadWith : List ℕ → ℕ → Outcome

@@ -11,6 +11,7 @@ use image::Image;
 use outgoing::Outgoing;
 use outlet::Outlet;
 use packet::PacketVersion;
+use settled::Settled;
 use state::State;
 use state::Version;
 use table::Table;
@@ -136,6 +137,7 @@ fn group_of(file: &[u8], rows: [[bool; 8]; 8]) -> Group
         store: store_of(file),
         trips: [0; 8],
         packets: load::version_of(file),
+        settled: Settled::Nobody,
     }
 }
 
@@ -153,6 +155,7 @@ fn no_group() -> Group
         store: [Slots::blank(); 8],
         trips: [0; 8],
         packets: PacketVersion::One,
+        settled: Settled::Nobody,
     }
 }
 

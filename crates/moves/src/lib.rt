@@ -1,13 +1,15 @@
 // The moves of one cabinet that the kinds of step are made of, each promised equal to its definition in protocol.
 use cabinet::Alarm;
+use cabinet::Cabinet;
 use group::Group;
 use outgoing::Outgoing;
 use packet::Packet;
 use packet::Place;
+use settled::Reason;
 use state::State;
 use state::Version;
 ghost use mathlib.Core.Path.{_≡_};
-ghost use Rattle.protocol.specs.Moves.{broadcast, join, cutIfAll, resumeWith, commit, recoverWith, recoverIfKnown, raise, enterError, endRecovery, noteAt, noteFor, noteLost};
+ghost use Rattle.protocol.specs.Moves.{broadcast, join, cutIfAll, resumeWith, commit, recoverWith, recoverIfKnown, raise, reasonFor, enterError, endRecovery, noteAt, noteFor, noteLost};
 ghost use Rattle.protocol.specs.Receive.{serving};
 
 // In normal or in one of the three saving states.
@@ -78,11 +80,12 @@ pub fn recover_with(g: Group, i: u8, v: bool) -> Group
     )
 }
 
-fn recover_if_known(g: Group, i: u8, v: Version) -> Group
-    ensures { λ r. ⌜ r ≡ recoverIfKnown g i v ⌝ }
+// By this word of its own cabinet i may settle the recovery.
+fn recover_if_known(g: Group, i: u8, v: Version, reason: Reason) -> Group
+    ensures { λ r. ⌜ r ≡ recoverIfKnown g i v reason ⌝ }
 {
     match v {
-        Version::Known(bit) => recover_with(g, i, bit),
+        Version::Known(bit) => recover_with(g, i, bit).settle(i, reason),
         Version::Unknown(_) => g,
         Version::Lost => g,
     }
@@ -96,12 +99,22 @@ fn raise(g: Group, i: u8, p: Place) -> Group
     broadcast(h.with_outgoing(i, Outgoing::empty()), i, Packet::Fault(p))
 }
 
+// Why cabinet i could go on, as it is before it enters error.
+fn reason_for(c: Cabinet, i: u8) -> Reason
+    ensures { λ r. ⌜ r ≡ reasonFor c i ⌝ }
+{
+    let phase = c.phase;
+    let state = phase.state;
+    settled::reason_of(c.coordinator() == i, state)
+}
+
 pub fn enter_error(g: Group, i: u8, p: Place) -> Group
     ensures { λ r. ⌜ r ≡ enterError g i p ⌝ }
 {
-    let phase = g.cabinet(i).phase;
+    let c = g.cabinet(i);
+    let phase = c.phase;
     let v = phase.version;
-    recover_if_known(raise(g, i, p), i, v)
+    recover_if_known(raise(g, i, p), i, v, reason_for(c, i))
 }
 
 pub fn end_recovery(g: Group, i: u8) -> Group

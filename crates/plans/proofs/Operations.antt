@@ -11,7 +11,8 @@ use Rattle.protocol.specs.declared.Turn.{Turn}
 use Rattle.protocol.specs.History.{Operation}
 use Rattle.protocol.specs.Restored.{Octets, OctetsIn}
 use Rattle.protocol.specs.Evening.{operate, operateAll, answersTo, noOperation, operationOf, operations}
-use Rattle.replay.proofs.Moments.{an-answer-each, octets-take, octets-drop}
+use Rattle.claims.proofs.State.Octets.{octets-take, octets-drop}
+use Rattle.replay.proofs.Moments.{an-answer-each}
 
 -- what a list of records makes of a group and its points, and what they are answered
 abbrev pub allOf : Site → List (List ℕ) → Site

@@ -15,13 +15,14 @@ use Rattle.packet.specs.declared.Packet.the-variants.{Normal as NormalPacket}
 use Rattle.packet.specs.Packet.{packed, isEmpty, isNormal, patternRight, damaged}
 use Rattle.line.specs.Line.{oldest, rest, put, normals, packetAt, replaced, without}
 use Rattle.state.specs.declared.State.the-variants.{Normal, Checkpointing, Error, Recovering, Recovered}
+use Rattle.settled.specs.declared.Reason.the-variants.{Decided}
 use Rattle.cabinet.specs.declared.Cabinet.{Cabinet}
 use Rattle.group.specs.declared.Group.{Group}
 use Rattle.group.specs.declared.Outcome.{Outcome}
 use Rattle.state.specs.State.{isIn, isUnknown, inRecovery, inRestoring, inSaving, bitOf}
 use Rattle.image.specs.Image.{booking, firstNote, withOctet, withPiece}
 use Rattle.cabinet.specs.Cabinet.{inUse, coordinator, withImage, sending, hurtFrom, wrote, owing, savedFor, fetched, restoredFor, unsureFor}
-use Rattle.group.specs.Group.{cabinet, withCabinet, stateOf, line, withLine, slot, withSlot, rowsOf, some, working, recoveringOnes, tripsOf, withTripsOf, answering, taken, crashed}
+use Rattle.group.specs.Group.{cabinet, withCabinet, stateOf, line, withLine, slot, withSlot, rowsOf, some, working, recoveringOnes, tripsOf, withTripsOf, settle, settleOver, answering, taken, crashed}
 use Rattle.protocol.specs.Moves.{join, cutIfAll, commit, recoverWith, markFailed, trip, alarmTo, endRecovery, noteLost}
 use Rattle.protocol.specs.Receive.{receive}
 
@@ -165,10 +166,10 @@ unfoldable pub reportRestored : Group → ℕ → ℕ → Group
 reportRestored g a k = withCabinet g k (restoredFor (cabinet g k) a)
 
 -- "When the coordinator, in recovered, has restored reports from all in its table": the end of the recovery. A failed cabinet's image is
--- then that of the save restored
+-- then that of the save restored; who settled the recovery stays
 unfoldable pub endIfAll : Group → ℕ → Group
 endIfAll g k =
-    cond (isIn (stateOf g k) Recovered && covers (cabinet g k .noted .restored) (cabinet g k .table .cabinets)) (endRecovery (noteLost g k) k) g
+    cond (isIn (stateOf g k) Recovered && covers (cabinet g k .noted .restored) (cabinet g k .table .cabinets)) (settleOver (endRecovery (noteLost g k) k)) g
 
 unfoldable pub restoredStep : Group → ℕ → Outcome
 restoredStep g a =
@@ -275,10 +276,10 @@ unsureRefusal g a =
 unfoldable pub reportUnsure : Group → ℕ → ℕ → Group
 reportUnsure g a k = withCabinet g k (unsureFor (cabinet g k) a)
 
--- "When all in that table have reported, itself included, it sets its version to old and goes on as 01 says."
+-- "When all in that table have reported, itself included, it sets its version to old and goes on as 01 says.": a word of its own
 unfoldable pub decideIfAll : Group → ℕ → Group
 decideIfAll g k =
-    cond (covers (cabinet g k .noted .unsure) (cabinet g k .table .cabinets)) (recoverWith g k (bitOf (cabinet g k .phase .version))) g
+    cond (covers (cabinet g k .noted .unsure) (cabinet g k .table .cabinets)) (settle (recoverWith g k (bitOf (cabinet g k .phase .version))) k Decided) g
 
 unfoldable pub unsureStep : Group → ℕ → Outcome
 unsureStep g a =

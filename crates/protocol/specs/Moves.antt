@@ -2,6 +2,7 @@
 use Prim.Native.Nat.{ℕ, zero, suc}
 use mathlib.Core.Bool.{Bool, true, false, cond, _&&_}
 use lib.ListN.{set}
+use lib.Dec.{eqb}
 use Rattle.marks.specs.Marks.{marked}
 use Rattle.marks.specs.Reach.{struck, connected}
 use Rattle.packet.specs.declared.Place.{Place}
@@ -13,14 +14,17 @@ use Rattle.line.specs.Line.{emptyLine}
 use Rattle.state.specs.declared.State.the-variants.{Failed}
 use Rattle.state.specs.declared.Version.{Version}
 use Rattle.state.specs.declared.Version.the-variants.{Known, Unknown, Lost}
+use Rattle.settled.specs.declared.Reason.{Reason}
+use Rattle.settled.specs.Settled.{reasonOf}
+use Rattle.cabinet.specs.declared.Cabinet.{Cabinet}
 use Rattle.cabinet.specs.declared.Alarm.{Alarm}
 use Rattle.cabinet.specs.declared.Alarm.the-variants.{Quiet, Fault as At}
 use Rattle.group.specs.declared.Group.{Group}
 use Rattle.group.specs.declared.Outcome.{Outcome}
 use Rattle.state.specs.State.{flipped, adopted, works}
-use Rattle.cabinet.specs.Cabinet.{inUse, beginning, comparing, cutting, resuming, alarmed, blanked, hearing, recovering, withState, withVersion}
+use Rattle.cabinet.specs.Cabinet.{inUse, coordinator, beginning, comparing, cutting, resuming, alarmed, blanked, hearing, recovering, withState, withVersion}
 use Rattle.outgoing.specs.Lines.{emptyLines, putAll, putCheckps}
-use Rattle.group.specs.Group.{cabinet, withCabinet, stateOf, outgoing, withOutgoing, withLine, rowsOf, withSound, working, forgetTrips, taken, crashed}
+use Rattle.group.specs.Group.{cabinet, withCabinet, stateOf, outgoing, withOutgoing, withLine, rowsOf, withSound, working, forgetTrips, settle, taken, crashed}
 
 -- a packet on all lines in use of cabinet i
 unfoldable pub broadcast : Group → ℕ → Packet → Group
@@ -62,17 +66,22 @@ adopt g a b =
 unfoldable pub recoverWith : Group → ℕ → Bool → Group
 recoverWith g i v = broadcast (withCabinet g i (recovering (cabinet g i) v)) i (Recover v)
 
-abbrev pub recoverIfKnown : Group → ℕ → Version → Group
-recoverIfKnown g i (Known v) = recoverWith g i v
-recoverIfKnown g i (Unknown v) = g
-recoverIfKnown g i Lost = g
+-- .. "If the version is known", and by this word of its own the cabinet may settle the recovery (document 02, card 8)
+abbrev pub recoverIfKnown : Group → ℕ → Version → Reason → Group
+recoverIfKnown g i (Known v) r = settle (recoverWith g i v) i r
+recoverIfKnown g i (Unknown v) r = g
+recoverIfKnown g i Lost r = g
 
 -- enter error: strike, empty every outgoing line, forget, put fault; "If the version is known, put recover with it"
 unfoldable pub raise : Group → ℕ → Place → Group
 raise g i p = broadcast (withOutgoing (withCabinet g i (alarmed (cabinet g i) i p)) i emptyLines) i (Fault p)
 
+-- the reason of cabinet i that it could go on, as it is before it enters error: "it was coordinator before the fault and knew, .."
+abbrev pub reasonFor : Cabinet → ℕ → Reason
+reasonFor c i = reasonOf (eqb (coordinator c) i) (c .phase .state)
+
 unfoldable pub enterError : Group → ℕ → Place → Group
-enterError g i p = recoverIfKnown (raise g i p) i (cabinet g i .phase .version)
+enterError g i p = recoverIfKnown (raise g i p) i (cabinet g i .phase .version) (reasonFor (cabinet g i) i)
 
 -- hear fault: b has had a's fault packet
 unfoldable pub hear : Group → ℕ → ℕ → Group

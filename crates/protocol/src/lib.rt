@@ -4,6 +4,7 @@
 use group::Group;
 use packet::Pattern;
 use points::Points;
+use settled::First;
 
 // A step with the fields that its kind uses. Cabinets are numbered from 1, as in the record.
 pub enum Step {
@@ -33,6 +34,12 @@ pub enum Decoded {
 pub struct Noted {
     pub answer: u8,
     pub points: Points,
+}
+
+// What is told of the word that settled the latest recovery: a refusal's number, or who it was.
+pub enum Told {
+    Refused(u8),
+    Settled(First),
 }
 
 // A group and its points.

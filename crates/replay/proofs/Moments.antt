@@ -3,7 +3,7 @@ use Prim.Native.Nat.{ℕ, zero, suc, _≤_, _<_}
 use mathlib.Core.Path.{_≡_, refl, sym, ap, _∙_, subst}
 use mathlib.Core.Bool.{Bool, true, false, cond}
 use mathlib.Core.List.{List, [], _∷_, map}
-use lib.ListN.{length, getD, take, drop}
+use lib.ListN.{length, getD, take}
 use lib.Seq.{sets}
 use lib.Dec.{eqb}
 use mir.Syntax.{w8}
@@ -20,6 +20,7 @@ use Rattle.protocol.specs.Listing.{parts}
 use Rattle.protocol.specs.History.{Operation, stepping, pointing, returning, World, advance, run, opening, ends}
 use Rattle.protocol.specs.Restored.{Restored, Octets, OctetsIn, AllOctets}
 use Rattle.protocol.specs.Evening.{operate, operateAll, answersTo, noOperation}
+use Rattle.claims.proofs.State.Octets.{parts-octets}
 use Rattle.claims.proofs.Claims.Demand.{demand-three, same-state}
 use Rattle.replay.specs.Replay.{atFirst, after, replayed, answersOf, EndsWell}
 
@@ -60,30 +61,10 @@ next-moment (suc m) (x ∷ xs) w =
 typed : (l : List ℕ) → ((i : ℕ) → Fits w8 (getD l i 0)) → Octets l
 typed l h i = omega (arith, h i)
 
-pub octets-take : (n : ℕ) (l : List ℕ) → Octets l → Octets (take n l)
-octets-take zero l o i = omega arith
-octets-take (suc n) [] o i = omega arith
-octets-take (suc n) (x ∷ l) o zero = o zero
-octets-take (suc n) (x ∷ l) o (suc i) = octets-take n l (λ j. o (suc j)) i
-
-pub octets-drop : (n : ℕ) (l : List ℕ) → Octets l → Octets (drop n l)
-octets-drop zero l o = o
-octets-drop (suc n) [] o = o
-octets-drop (suc n) (x ∷ l) o = octets-drop n l (λ i. o (suc i))
-
 -- of the operations that the parts of a list stand for
 module _ (f : List ℕ → Operation) (each : (r : List ℕ) → Octets r → OctetsIn (f r)) (w : ℕ) where
-  parts-octets : (n : ℕ) (l : List ℕ) → Octets l → AllOctets (map f (parts w n l))
-  unfolding parts
-  parts-octets zero l o = tt
-  parts-octets (suc n) l o = go (eqb (length l) 0) (parts-octets n (drop w l) (octets-drop w l o))
-    where
-      go : (t : Bool) → AllOctets (map f (parts w n (drop w l))) → AllOctets (map f (cond t [] (take w l ∷ parts w n (drop w l))))
-      go true r = tt
-      go false r = (each (take w l) (octets-take w l o), r)
-
   pub all-octets : (n : ℕ) (l : List ℕ) → ((i : ℕ) → Fits w8 (getD l i 0)) → AllOctets (map f (parts w n l))
-  all-octets n l in-list = parts-octets n l (typed l in-list)
+  all-octets n l in-list = parts-octets f each w n l (typed l in-list)
 
 octets-before : (m : ℕ) (xs : List Operation) → AllOctets xs → AllOctets (take m xs)
 octets-before zero xs o = tt

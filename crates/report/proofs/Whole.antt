@@ -65,11 +65,11 @@ module _ (file list : List ℕ) {used : ℕ} (u : used ≡ min (length list) 600
   abbrev rs : List (List ℕ)
   rs = records 10000 list
 
-  run-of : o ≡ replayed file (steps rs)
+  pub run-of : o ≡ replayed file (steps rs)
   run-of = e ∙ ap (λ (r : List (List ℕ)). replayed file (steps r)) (the-parts 6 10000 list (omega arith) u)
 
   module _ (z : o .answer ≡ 0) where
-    last : o .group ≡ stepAll (load file .group) rs
+    pub last : o .group ≡ stepAll (load file .group) rs
     last = group-of file (steps rs) run-of z ∙ sym (steps-groups rs (load file .group) noPoints)
 
     told : {answers : List ℕ} (room : List ℕ) → length answers ≡ 10000 → answers ≡ sets room 0 (answersOf file (steps (recordsIn (take used list))))

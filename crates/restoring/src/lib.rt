@@ -2,6 +2,7 @@
 use cabinet::Cabinet;
 use group::Group;
 use group::Outcome;
+use settled::Reason;
 use state::State;
 ghost use mathlib.Core.Path.{_≡_};
 ghost use Rattle.protocol.specs.Kinds.{fetchRefusal, fetchPiece, fetchStep, mayReport, restoredRefusal, reportRestored, endIfAll, restoredStep, isUnsure, takesUnsure, unsureRefusal, reportUnsure, decideIfAll, unsureStep};
@@ -86,7 +87,7 @@ fn end_if_all(g: Group, k: u8) -> Group
     let cabinets = table.cabinets;
     let recovered = state::is_in(g.state_of(k), State::Recovered);
     if marks::and(recovered, marks::covers(restored, cabinets)) {
-        moves::end_recovery(moves::note_lost(g, k), k)
+        moves::end_recovery(moves::note_lost(g, k), k).settle_over()
     } else {
         g
     }
@@ -157,7 +158,7 @@ fn decide_if_all(g: Group, k: u8) -> Group
     let phase = c.phase;
     let version = phase.version;
     if marks::covers(unsure, cabinets) {
-        moves::recover_with(g, k, state::bit_of(version))
+        moves::recover_with(g, k, state::bit_of(version)).settle(k, Reason::Decided)
     } else {
         g
     }

@@ -1,6 +1,8 @@
-// The lines of the listing, each written into a buffer that the caller lends, as in `buffer`.
+// The lines of the listing, and that of the program `word`, each written into a buffer that the caller lends, as in `buffer`.
 use cabinet::Cabinet;
 use outlet::Outlet;
+use protocol::Told;
+use settled::First;
 use state::Version;
 ghost use mathlib.Core.Path.{_≡_};
 ghost use mathlib.Core.List.{[], _∷_};
@@ -13,6 +15,8 @@ ghost use Rattle.protocol.specs.Listing.{
   cabLine,
 };
 ghost use Rattle.protocol.specs.Evening.{wordOf};
+ghost use Rattle.protocol.specs.Word.{numbersOf, spaced, wordLine};
+ghost use Rattle.protocol.specs.declared.Told.the-variants.{Settled};
 ghost use Rattle.buffer.specs.Written.{Written};
 
 fn version_octet(v: Version) -> u8
@@ -92,5 +96,31 @@ pub fn cab_line(out: &mut [u8], at: usize, i: u8, c: Cabinet) -> usize
     let at = buffer::word(out, at, b"cab");
     let at = buffer::number(out, at, i as u16 + 1);
     let at = cab_rest(out, at, c);
+    end_line(out, at)
+}
+
+// Who settled a recovery, numbered from 1 as in the listing, and the reason's number.
+fn first_numbers(out: &mut [u8], at: usize, first: First) -> usize
+    ensures { λ r. ⌜ Written (spaced (numbersOf (Settled first))) at (now (out .entry)) r (now (out .exit)) ⌝ }
+{
+    let reason = first.reason;
+    let at = buffer::number(out, at, first.cabinet as u16 + 1);
+    buffer::number(out, at, settled::number_of(reason) as u16)
+}
+
+fn told_numbers(out: &mut [u8], at: usize, t: Told) -> usize
+    ensures { λ r. ⌜ Written (spaced (numbersOf t)) at (now (out .entry)) r (now (out .exit)) ⌝ }
+{
+    match t {
+        Told::Refused(k) => buffer::number(out, at, k as u16),
+        Told::Settled(first) => first_numbers(out, at, first),
+    }
+}
+
+pub fn word_line(out: &mut [u8], at: usize, t: Told) -> usize
+    ensures { λ r. ⌜ Written (wordLine (numbersOf t)) at (now (out .entry)) r (now (out .exit)) ⌝ }
+{
+    let at = buffer::word(out, at, b"word");
+    let at = told_numbers(out, at, t);
     end_line(out, at)
 }

@@ -195,7 +195,7 @@ module _ (total : ℕ) (g : Group) (h : History) (r : List ℕ) (o : Octets r) w
 
     -- who is aware of a fault stays so, or the recovery ends
     abbrev pub Fated : Runs total g′ h′ → Type 0
-    Fated u = Goes (view g) γ (view g′) (u .ghost) ⊎ Ended total g g′ h′
+    Fated u = Goes (view g) γ (view g′) (u .ghost) ⊎ Ended total g g′ h′ (u .ghost)
 
     -- .. and no report comes unless the record is one
     abbrev pub Unasked : Type 0
@@ -213,7 +213,7 @@ module _ (total : ℕ) (g : Group) (h : History) (r : List ℕ) (o : Octets r) w
         past = subst (λ (m : ℕ). Past m (view g′) (n .ghost) h′) (sym (step-n g r)) (subst (Past (g .n) (view g′) (n .ghost)) (sym e) (n .past));
         reports = n .reports;
       },
-      subst (λ (y : History). Goes (view g) γ (view g′) (n .ghost) ⊎ Ended total g g′ y) (sym e) (n .fate),
+      subst (λ (y : History). Goes (view g) γ (view g′) (n .ghost) ⊎ Ended total g g′ y (n .ghost)) (sym e) (n .fate),
       λ j v f. ⊎-elim (λ x. absurd (stays-ends x j v f)) (λ x. subst (λ (y : History). Restored (g .n) total y g′) (sym e) (x .restored)) (n .fate),
       λ f. n .silent (sym k ∙ f),
     )

@@ -43,6 +43,7 @@ use Rattle.claims.proofs.Answers.Entry.{refusal-keeps}
 use Rattle.claims.proofs.Invariant.States.{saving-works}
 use Rattle.claims.proofs.Invariant.Whole.{awareOf}
 use Rattle.claims.proofs.Invariant.Staying.{Goes}
+use Rattle.claims.proofs.Invariant.Facts.{Ghost}
 use Rattle.claims.proofs.Invariant.Past.{Ended}
 use Rattle.claims.proofs.Invariant.Words.{aware-recovers, aware-works}
 use Rattle.claims.proofs.Moves.Returning.{past-point, nobody}
@@ -234,7 +235,7 @@ module _ (f : Since) where
       abbrev h′ : History
       h′ = recordDecoded h g (step g r) (decode r)
 
-      same-places : Ended (f .total) g g′ h′ → (c k : ℕ) → f .there c ≡ true → f .there k ≡ true → f .place c ≡ f .place k
+      same-places : {δ : Ghost} → Ended (f .total) g g′ h′ δ → (c k : ℕ) → f .there c ≡ true → f .there k ≡ true → f .place c ≡ f .place k
       same-places e c k tc tk =
           let at : (j : ℕ) → f .there j ≡ true → works (stateOf g j) ≡ true = λ j t. aware-works (d .runs .ghost .big) (view g .own j) (d .on j t .0) in
           sym (d .on c tc .1) ∙ e .place c k (at c tc) (at k tk) ∙ d .on k tk .1
@@ -307,7 +308,7 @@ module _ (f : Since) where
 -- ---- to the end
 
 -- a crashed group ends no recovery
-crashed-stays : (w : World) (x : Operation) → isCrashed (w .group) ≡ true → advance w x .group ≡ w .group
+pub crashed-stays : (w : World) (x : Operation) → isCrashed (w .group) ≡ true → advance w x .group ≡ w .group
 unfolding advance returnTo
 crashed-stays w (stepping r) c = stopped (w .group) r c
 crashed-stays w (pointing name) c = refl

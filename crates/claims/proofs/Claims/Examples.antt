@@ -17,18 +17,18 @@ use Rattle.protocol.specs.Examples.{Example, Found, operationsOf, Walk, walkOn,
 use Rattle.claims.proofs.State.Fun.{and-true}
 use Rattle.claims.proofs.Claims.Demand.{run-append, demand-three}
 use Rattle.protocol.specs.Returns.{foundKept, return-first, return-first-finds, return-stays, return-stays-finds, return-between, return-between-finds}
-use Rattle.protocol.proofs.Closed.Examples.{runs-found}
+use Rattle.runs.proofs.Closed.Examples.{runs-found}
 use Rattle.protocol.specs.Outlets.{both-outlets, both-outlets-finds}
 use Rattle.protocol.specs.Losses.{silent-loss, silent-loss-finds}
 use Rattle.protocol.specs.Trips.{comes-back, comes-back-finds, trip-passed-over, trip-passed-over-finds, third-trip-fails, third-trip-fails-finds, lead-moves-on, lead-moves-on-finds, middle-trips, middle-trips-finds, trips-while-saving, trips-while-saving-finds}
-use Rattle.protocol.proofs.Closed.Returns.{returns-found}
-use Rattle.protocol.proofs.Closed.Outlets.{outlets-found}
-use Rattle.protocol.proofs.Closed.Losses.{loss-found}
-use Rattle.protocol.proofs.Closed.Trips.{trips-found}
+use Rattle.runs.proofs.Closed.Returns.{returns-found}
+use Rattle.runs.proofs.Closed.Outlets.{outlets-found}
+use Rattle.runs.proofs.Closed.Losses.{loss-found}
+use Rattle.runs.proofs.Closed.Trips.{trips-found}
 use Rattle.protocol.specs.Unsure.{decided-after-fail, decided-after-fail-finds, decided-after-trip, decided-after-trip-finds, early, early-finds}
-use Rattle.protocol.proofs.Closed.Unsure.{decisions-found}
+use Rattle.runs.proofs.Closed.Unsure.{decisions-found}
 use Rattle.protocol.specs.OwnChecks.{hurt-on-taking, hurt-on-taking-finds, check-hurt, check-hurt-finds, hurt-until-checkp, hurt-until-checkp-finds, fitting-loss, fitting-loss-finds}
-use Rattle.protocol.proofs.Closed.OwnChecks.{own-checks-found}
+use Rattle.runs.proofs.Closed.OwnChecks.{own-checks-found}
 
 -- ---- octets
 

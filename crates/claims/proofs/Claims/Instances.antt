@@ -13,7 +13,7 @@ use Rattle.packet.specs.Packet.{fits, shifted, patternRight, hurtBy}
 use Rattle.outgoing.specs.Lines.{emptyLines, lineTo, withLineTo, laden, putAll, putCheckps}
 use Rattle.image.specs.Image.{booked}
 use Rattle.points.specs.Points.{noPoints, pointAt, withPoint, imageAt, sameName, placeOf, placeFor}
-use Rattle.group.specs.Group.{cabinet, withCabinet, stateOf, outgoing, withOutgoing, line, withLine, blankSlots, slot, withSlots, withSlot, rowsOf, ofRows, withSound, forgetTrips, some, working, normalOnes, ladenOnes, quiet, recoveringOnes, tripsOf, withTripsOf, isCrashed, sum}
+use Rattle.group.specs.Group.{cabinet, withCabinet, stateOf, outgoing, withOutgoing, line, withLine, blankSlots, slot, withSlots, withSlot, rowsOf, ofRows, withSound, forgetTrips, some, working, normalOnes, ladenOnes, quiet, recoveringOnes, tripsOf, withTripsOf, isCrashed, sum, settle, settleOver}
 use Rattle.load.specs.Load.{versionOf, load}
 use Rattle.protocol.specs.Moves.{broadcast, join, cutIfAll, takeCheckp, resumeWith, commit, adopt, recoverWith, raise, enterError, hear, findLinkFault, markFailed, trip, alarmTo, endRecovery, noteLost}
 use Rattle.protocol.specs.Receive.{receiveNormal, receiveCheckp, receiveResume, receiveRecover, receiveFault}
@@ -33,14 +33,14 @@ use Rattle.claims.proofs.Claims.NoClock.{no-clock-before}
 use Rattle.claims.proofs.Claims.Examples.{octets-of, operations-of}
 
 pub wraps : Wraps
-unfolding crcBit crcBits crcOctet crcFrom fits shifted patternRight hurtBy lowest covers both nextUp struck connected emptyLines lineTo withLineTo putAll putCheckps cabinet withCabinet outgoing withOutgoing line withLine blankSlots slot withSlots withSlot rowsOf ofRows withSound forgetTrips some working recoveringOnes isCrashed sum versionOf load broadcast join cutIfAll takeCheckp resumeWith commit adopt recoverWith raise enterError hear findLinkFault markFailed alarmTo endRecovery noteLost receiveNormal receiveCheckp receiveResume receiveRecover receiveFault sent sendStep noteStep beginStep delivered deliverStep writePiece writeStep reportSaved commitIfAll savedStep fetchPiece fetchStep reportRestored endIfAll restoredStep failStep hurt damageStep step upd logged advance run
+unfolding crcBit crcBits crcOctet crcFrom fits shifted patternRight hurtBy lowest covers both nextUp struck connected emptyLines lineTo withLineTo putAll putCheckps cabinet withCabinet outgoing withOutgoing line withLine blankSlots slot withSlots withSlot rowsOf ofRows withSound forgetTrips some working recoveringOnes isCrashed sum versionOf load broadcast join cutIfAll takeCheckp resumeWith commit adopt recoverWith raise enterError hear findLinkFault markFailed alarmTo endRecovery noteLost receiveNormal receiveCheckp receiveResume receiveRecover receiveFault sent sendStep noteStep beginStep delivered deliverStep writePiece writeStep reportSaved commitIfAll savedStep fetchPiece fetchStep reportRestored endIfAll restoredStep failStep hurt damageStep step upd logged advance run settle settleOver
 wraps = (
   (refl, λ r. omega (arith, r), λ e. let z : _≡_ {A = ℕ} 0 1 = cc in omega arith),
   (refl, λ r. omega (arith, r), λ e. let z : _≡_ {A = ℕ} 0 1 = cc in omega arith),
 )
 
 pub resumes-onward : ResumesOnward
-unfolding crcBit crcBits crcOctet crcFrom fits shifted patternRight hurtBy lowest covers both nextUp struck connected emptyLines lineTo withLineTo putAll putCheckps cabinet withCabinet outgoing withOutgoing line withLine blankSlots slot withSlots withSlot rowsOf ofRows withSound forgetTrips some working recoveringOnes isCrashed sum versionOf load broadcast join cutIfAll takeCheckp resumeWith commit adopt recoverWith raise enterError hear findLinkFault markFailed alarmTo endRecovery noteLost receiveNormal receiveCheckp receiveResume receiveRecover receiveFault sent sendStep noteStep beginStep delivered deliverStep writePiece writeStep reportSaved commitIfAll savedStep fetchPiece fetchStep reportRestored endIfAll restoredStep failStep hurt damageStep step upd logged advance run content
+unfolding crcBit crcBits crcOctet crcFrom fits shifted patternRight hurtBy lowest covers both nextUp struck connected emptyLines lineTo withLineTo putAll putCheckps cabinet withCabinet outgoing withOutgoing line withLine blankSlots slot withSlots withSlot rowsOf ofRows withSound forgetTrips some working recoveringOnes isCrashed sum versionOf load broadcast join cutIfAll takeCheckp resumeWith commit adopt recoverWith raise enterError hear findLinkFault markFailed alarmTo endRecovery noteLost receiveNormal receiveCheckp receiveResume receiveRecover receiveFault sent sendStep noteStep beginStep delivered deliverStep writePiece writeStep reportSaved commitIfAll savedStep fetchPiece fetchStep reportRestored endIfAll restoredStep failStep hurt damageStep step upd logged advance run content settle settleOver
 resumes-onward = (refl, refl, refl, refl)
 
 pub loss-moves-up : LossMovesUp
@@ -49,40 +49,40 @@ loss-moves-up = (refl, refl, refl, refl)
 
 -- its cut has 75 amperes, the start 50
 pub other-slot-is-older : OtherSlotIsOlder
-unfolding crcBit crcBits crcOctet crcFrom fits shifted patternRight hurtBy lowest covers both nextUp struck connected emptyLines lineTo withLineTo putAll putCheckps cabinet withCabinet outgoing withOutgoing line withLine blankSlots slot withSlots withSlot rowsOf ofRows withSound forgetTrips some working recoveringOnes isCrashed sum versionOf load broadcast join cutIfAll takeCheckp resumeWith commit adopt recoverWith raise enterError hear findLinkFault markFailed alarmTo endRecovery noteLost receiveNormal receiveCheckp receiveResume receiveRecover receiveFault sent sendStep noteStep beginStep delivered deliverStep writePiece writeStep reportSaved commitIfAll savedStep fetchPiece fetchStep reportRestored endIfAll restoredStep failStep hurt damageStep step upd logged advance run
+unfolding crcBit crcBits crcOctet crcFrom fits shifted patternRight hurtBy lowest covers both nextUp struck connected emptyLines lineTo withLineTo putAll putCheckps cabinet withCabinet outgoing withOutgoing line withLine blankSlots slot withSlots withSlot rowsOf ofRows withSound forgetTrips some working recoveringOnes isCrashed sum versionOf load broadcast join cutIfAll takeCheckp resumeWith commit adopt recoverWith raise enterError hear findLinkFault markFailed alarmTo endRecovery noteLost receiveNormal receiveCheckp receiveResume receiveRecover receiveFault sent sendStep noteStep beginStep delivered deliverStep writePiece writeStep reportSaved commitIfAll savedStep fetchPiece fetchStep reportRestored endIfAll restoredStep failStep hurt damageStep step upd logged advance run settle settleOver
 other-slot-is-older y =
     let cut : 75 ≡ booked (y .0 .image) = ap (λ o. amperes (imageIn o)) (y .1) in
     let start : 50 ≡ booked (y .0 .image) = ap booked (y .2) in
     omega (arith, cut, start)
 
 pub lost-ones-count : LostOnesCount
-unfolding crcBit crcBits crcOctet crcFrom fits shifted patternRight hurtBy lowest covers both nextUp struck connected emptyLines lineTo withLineTo putAll putCheckps cabinet withCabinet outgoing withOutgoing line withLine blankSlots slot withSlots withSlot rowsOf ofRows withSound forgetTrips some working recoveringOnes isCrashed sum versionOf load broadcast join cutIfAll takeCheckp resumeWith commit adopt recoverWith raise enterError hear findLinkFault markFailed alarmTo endRecovery noteLost receiveNormal receiveCheckp receiveResume receiveRecover receiveFault sent sendStep noteStep beginStep delivered deliverStep writePiece writeStep reportSaved commitIfAll savedStep fetchPiece fetchStep reportRestored endIfAll restoredStep failStep hurt damageStep step upd logged advance run
+unfolding crcBit crcBits crcOctet crcFrom fits shifted patternRight hurtBy lowest covers both nextUp struck connected emptyLines lineTo withLineTo putAll putCheckps cabinet withCabinet outgoing withOutgoing line withLine blankSlots slot withSlots withSlot rowsOf ofRows withSound forgetTrips some working recoveringOnes isCrashed sum versionOf load broadcast join cutIfAll takeCheckp resumeWith commit adopt recoverWith raise enterError hear findLinkFault markFailed alarmTo endRecovery noteLost receiveNormal receiveCheckp receiveResume receiveRecover receiveFault sent sendStep noteStep beginStep delivered deliverStep writePiece writeStep reportSaved commitIfAll savedStep fetchPiece fetchStep reportRestored endIfAll restoredStep failStep hurt damageStep step upd logged advance run settle settleOver
 lost-ones-count = refl
 
 pub points-of-lost-ones : PointsOfLostOnes
-unfolding crcBit crcBits crcOctet crcFrom fits shifted patternRight hurtBy lowest covers both nextUp struck connected emptyLines lineTo withLineTo laden putAll putCheckps noPoints pointAt withPoint imageAt sameName placeOf placeFor cabinet withCabinet outgoing withOutgoing line withLine blankSlots slot withSlots withSlot rowsOf ofRows withSound forgetTrips some working normalOnes ladenOnes quiet recoveringOnes isCrashed sum versionOf load broadcast join cutIfAll takeCheckp resumeWith commit adopt recoverWith raise enterError hear findLinkFault markFailed alarmTo endRecovery noteLost receiveNormal receiveCheckp receiveResume receiveRecover receiveFault sent sendStep noteStep beginStep delivered deliverStep writePiece writeStep reportSaved commitIfAll savedStep fetchPiece fetchStep reportRestored endIfAll restoredStep failStep hurt damageStep reportUnsure decideIfAll unsureStep step imagesKept takePoint returned returnTo upd logged advance run
+unfolding crcBit crcBits crcOctet crcFrom fits shifted patternRight hurtBy lowest covers both nextUp struck connected emptyLines lineTo withLineTo laden putAll putCheckps noPoints pointAt withPoint imageAt sameName placeOf placeFor cabinet withCabinet outgoing withOutgoing line withLine blankSlots slot withSlots withSlot rowsOf ofRows withSound forgetTrips some working normalOnes ladenOnes quiet recoveringOnes isCrashed sum versionOf load broadcast join cutIfAll takeCheckp resumeWith commit adopt recoverWith raise enterError hear findLinkFault markFailed alarmTo endRecovery noteLost receiveNormal receiveCheckp receiveResume receiveRecover receiveFault sent sendStep noteStep beginStep delivered deliverStep writePiece writeStep reportSaved commitIfAll savedStep fetchPiece fetchStep reportRestored endIfAll restoredStep failStep hurt damageStep reportUnsure decideIfAll unsureStep step imagesKept takePoint returned returnTo upd logged advance run settle settleOver
 points-of-lost-ones = (
   ((λ e. absurd (true≢false (sym e))), (λ e. refl)),
   ((λ e. (_, refl, refl)), (λ e. absurd (true≢false e))),
 )
 
 pub still-the-return : StillTheReturn
-unfolding crcBit crcBits crcOctet crcFrom fits shifted patternRight hurtBy lowest covers both nextUp struck connected emptyLines lineTo withLineTo laden putAll putCheckps noPoints pointAt withPoint imageAt sameName placeOf placeFor cabinet withCabinet outgoing withOutgoing line withLine blankSlots slot withSlots withSlot rowsOf ofRows withSound forgetTrips some working normalOnes ladenOnes quiet recoveringOnes isCrashed sum versionOf load broadcast join cutIfAll takeCheckp resumeWith commit adopt recoverWith raise enterError hear findLinkFault markFailed alarmTo endRecovery noteLost receiveNormal receiveCheckp receiveResume receiveRecover receiveFault sent sendStep noteStep beginStep delivered deliverStep writePiece writeStep reportSaved commitIfAll savedStep fetchPiece fetchStep reportRestored endIfAll restoredStep failStep hurt damageStep reportUnsure decideIfAll unsureStep step imagesKept takePoint returned returnTo upd logged advance run
+unfolding crcBit crcBits crcOctet crcFrom fits shifted patternRight hurtBy lowest covers both nextUp struck connected emptyLines lineTo withLineTo laden putAll putCheckps noPoints pointAt withPoint imageAt sameName placeOf placeFor cabinet withCabinet outgoing withOutgoing line withLine blankSlots slot withSlots withSlot rowsOf ofRows withSound forgetTrips some working normalOnes ladenOnes quiet recoveringOnes isCrashed sum versionOf load broadcast join cutIfAll takeCheckp resumeWith commit adopt recoverWith raise enterError hear findLinkFault markFailed alarmTo endRecovery noteLost receiveNormal receiveCheckp receiveResume receiveRecover receiveFault sent sendStep noteStep beginStep delivered deliverStep writePiece writeStep reportSaved commitIfAll savedStep fetchPiece fetchStep reportRestored endIfAll restoredStep failStep hurt damageStep reportUnsure decideIfAll unsureStep step imagesKept takePoint returned returnTo upd logged advance run settle settleOver
 still-the-return = (refl, refl)
 
 -- ---- no clock
 
 pub wait-ends : WaitEnds
-unfolding crcBit crcBits crcOctet crcFrom fits lowest covers both nextUp struck connected emptyLines lineTo withLineTo putAll putCheckps cabinet withCabinet outgoing withOutgoing line withLine blankSlots slot withSlots withSlot rowsOf ofRows some working recoveringOnes tripsOf withTripsOf forgetTrips isCrashed sum versionOf load broadcast join cutIfAll takeCheckp resumeWith commit adopt recoverWith raise enterError hear markFailed trip alarmTo endRecovery noteLost receiveNormal receiveCheckp receiveResume receiveRecover receiveFault sent sendStep noteStep beginStep delivered deliverStep writePiece writeStep reportSaved commitIfAll savedStep fetchPiece fetchStep reportRestored endIfAll restoredStep failStep tripOnce tripStep reportUnsure decideIfAll unsureStep unsureOnes waitedOver step upd logged advance run endsBelow firstEnd
+unfolding crcBit crcBits crcOctet crcFrom fits lowest covers both nextUp struck connected emptyLines lineTo withLineTo putAll putCheckps cabinet withCabinet outgoing withOutgoing line withLine blankSlots slot withSlots withSlot rowsOf ofRows some working recoveringOnes tripsOf withTripsOf forgetTrips isCrashed sum versionOf load broadcast join cutIfAll takeCheckp resumeWith commit adopt recoverWith raise enterError hear markFailed trip alarmTo endRecovery noteLost receiveNormal receiveCheckp receiveResume receiveRecover receiveFault sent sendStep noteStep beginStep delivered deliverStep writePiece writeStep reportSaved commitIfAll savedStep fetchPiece fetchStep reportRestored endIfAll restoredStep failStep tripOnce tripStep reportUnsure decideIfAll unsureStep unsureOnes waitedOver step upd logged advance run endsBelow firstEnd settle settleOver
 wait-ends = (record { running = refl; fine = refl }, refl, refl)
 
 pub standing-report : StandingReport
-unfolding crcBit crcBits crcOctet crcFrom fits lowest covers both nextUp struck connected emptyLines lineTo withLineTo putAll putCheckps cabinet withCabinet outgoing withOutgoing line withLine blankSlots slot withSlots withSlot rowsOf ofRows some working recoveringOnes tripsOf withTripsOf forgetTrips isCrashed sum versionOf load broadcast join cutIfAll takeCheckp resumeWith commit adopt recoverWith raise enterError hear markFailed trip alarmTo endRecovery noteLost receiveNormal receiveCheckp receiveResume receiveRecover receiveFault sent sendStep noteStep beginStep delivered deliverStep writePiece writeStep reportSaved commitIfAll savedStep fetchPiece fetchStep reportRestored endIfAll restoredStep failStep tripOnce tripStep reportUnsure decideIfAll unsureStep unsureOnes waitedOver step upd logged advance run
+unfolding crcBit crcBits crcOctet crcFrom fits lowest covers both nextUp struck connected emptyLines lineTo withLineTo putAll putCheckps cabinet withCabinet outgoing withOutgoing line withLine blankSlots slot withSlots withSlot rowsOf ofRows some working recoveringOnes tripsOf withTripsOf forgetTrips isCrashed sum versionOf load broadcast join cutIfAll takeCheckp resumeWith commit adopt recoverWith raise enterError hear markFailed trip alarmTo endRecovery noteLost receiveNormal receiveCheckp receiveResume receiveRecover receiveFault sent sendStep noteStep beginStep delivered deliverStep writePiece writeStep reportSaved commitIfAll savedStep fetchPiece fetchStep reportRestored endIfAll restoredStep failStep tripOnce tripStep reportUnsure decideIfAll unsureStep unsureOnes waitedOver step upd logged advance run settle settleOver
 standing-report = (record { running = refl; fine = refl }, refl)
 
 -- who works there
 works-there : (c : ℕ) → works (stateOf (inDoubt .group) c) ≡ ltb c 3
-unfolding crcBit crcBits crcOctet crcFrom fits lowest covers both nextUp struck connected emptyLines lineTo withLineTo putAll putCheckps cabinet withCabinet outgoing withOutgoing line withLine blankSlots slot withSlots withSlot rowsOf ofRows some working recoveringOnes tripsOf withTripsOf forgetTrips isCrashed sum versionOf load broadcast join cutIfAll takeCheckp resumeWith commit adopt recoverWith raise enterError hear markFailed trip alarmTo endRecovery noteLost receiveNormal receiveCheckp receiveResume receiveRecover receiveFault sent sendStep noteStep beginStep delivered deliverStep writePiece writeStep reportSaved commitIfAll savedStep fetchPiece fetchStep reportRestored endIfAll restoredStep failStep tripOnce tripStep reportUnsure decideIfAll unsureStep unsureOnes waitedOver step upd logged advance run
+unfolding crcBit crcBits crcOctet crcFrom fits lowest covers both nextUp struck connected emptyLines lineTo withLineTo putAll putCheckps cabinet withCabinet outgoing withOutgoing line withLine blankSlots slot withSlots withSlot rowsOf ofRows some working recoveringOnes tripsOf withTripsOf forgetTrips isCrashed sum versionOf load broadcast join cutIfAll takeCheckp resumeWith commit adopt recoverWith raise enterError hear markFailed trip alarmTo endRecovery noteLost receiveNormal receiveCheckp receiveResume receiveRecover receiveFault sent sendStep noteStep beginStep delivered deliverStep writePiece writeStep reportSaved commitIfAll savedStep fetchPiece fetchStep reportRestored endIfAll restoredStep failStep tripOnce tripStep reportUnsure decideIfAll unsureStep unsureOnes waitedOver step upd logged advance run settle settleOver
 works-there zero = refl
 works-there (suc zero) = refl
 works-there (suc (suc zero)) = refl
@@ -108,7 +108,7 @@ times-there (suc (suc (suc c))) =
     )
 
 pub last-first : LastFirst
-unfolding crcBit crcBits crcOctet crcFrom fits lowest covers both nextUp struck connected emptyLines lineTo withLineTo putAll putCheckps cabinet withCabinet outgoing withOutgoing line withLine blankSlots slot withSlots withSlot rowsOf ofRows some working recoveringOnes tripsOf withTripsOf forgetTrips isCrashed sum versionOf load broadcast join cutIfAll takeCheckp resumeWith commit adopt recoverWith raise enterError hear markFailed trip alarmTo endRecovery noteLost receiveNormal receiveCheckp receiveResume receiveRecover receiveFault sent sendStep noteStep beginStep delivered deliverStep writePiece writeStep reportSaved commitIfAll savedStep fetchPiece fetchStep reportRestored endIfAll restoredStep failStep tripOnce tripStep reportUnsure decideIfAll unsureStep unsureOnes waitedOver step upd logged advance run
+unfolding crcBit crcBits crcOctet crcFrom fits lowest covers both nextUp struck connected emptyLines lineTo withLineTo putAll putCheckps cabinet withCabinet outgoing withOutgoing line withLine blankSlots slot withSlots withSlot rowsOf ofRows some working recoveringOnes tripsOf withTripsOf forgetTrips isCrashed sum versionOf load broadcast join cutIfAll takeCheckp resumeWith commit adopt recoverWith raise enterError hear markFailed trip alarmTo endRecovery noteLost receiveNormal receiveCheckp receiveResume receiveRecover receiveFault sent sendStep noteStep beginStep delivered deliverStep writePiece writeStep reportSaved commitIfAll savedStep fetchPiece fetchStep reportRestored endIfAll restoredStep failStep tripOnce tripStep reportUnsure decideIfAll unsureStep unsureOnes waitedOver step upd logged advance run settle settleOver
 last-first = ((λ c. times-there c ∙ sym (ap (λ (b : Bool). cond b 1 0) (works-there c))), refl)
 
 -- operations none of which is a report

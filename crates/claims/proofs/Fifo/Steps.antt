@@ -8,6 +8,7 @@ use Rattle.marks.specs.Marks.{marked, covers}
 use Rattle.packet.specs.declared.Packet.{Packet}
 use Rattle.state.specs.declared.State.the-variants.{Normal, Checkpointing, Checkpointed, Error, Recovering, Recovered}
 use Rattle.state.specs.declared.Version.{Version}
+use Rattle.settled.specs.declared.Reason.the-variants.{Decided}
 use Rattle.cabinet.specs.declared.Cabinet.{Cabinet}
 use Rattle.state.specs.State.{isIn, works, inRecovery, inRestoring, inSaving, bitOf}
 use Rattle.cabinet.specs.Cabinet.{inUse, coordinator}
@@ -22,7 +23,7 @@ use Rattle.claims.proofs.State.View.{View, Own, Side, used, ownOf, side
 use Rattle.claims.proofs.State.Shape.{Shaped, Lined, Pictured, shaped}
 use Rattle.claims.proofs.State.Sim.{Fit, view-cabinet}
 use Rattle.claims.proofs.State.Methods.{sOwed}
-use Rattle.claims.proofs.State.ViewMoves.{Room, view-forget, vOwe, vRestored, vUnsure, sim-join, sim-owe, sim-restored, sim-unsure, sim-note}
+use Rattle.claims.proofs.State.ViewMoves.{Room, view-forget, view-settle, view-over, vOwe, vRestored, vUnsure, sim-join, sim-owe, sim-restored, sim-unsure, sim-note}
 use Rattle.claims.proofs.Answers.Tests.{in-state}
 use Rattle.claims.proofs.Invariant.States.{saving-works, restoring-works}
 use Rattle.claims.proofs.Invariant.Facts.{Ghost}
@@ -201,9 +202,9 @@ module _ (total : ℕ) (g : Group) (γ : Ghost) (w : Fit g) (i : Inv (g .n) tota
         let lines : (c d : ℕ) → view r .lines c d ≡ v .lines c d = λ c d. ap (λ (x : View). x .lines c d) noted in
         let n = sim-note r fit chief in
         cond-elim (λ (x : Group). Puts (view x)) (isIn (stateOf r chief) Recovered && covers (cabinet r chief .noted .restored) (cabinet r chief .table .cabinets))
-        (λ _. normal-puts (noteLost r chief) (ok-noteLost Shaped Lined Pictured shaped r chief fit) chief chief-works away
+        (λ _. subst Puts (sym (view-over _)) (normal-puts (noteLost r chief) (ok-noteLost Shaped Lined Pictured shaped r chief fit) chief chief-works away
         (λ c. ap (λ (o : Own). o .state) (n .own c .1) ∙ states c) (λ d. ap used (n .sides chief d) ∙ sides d)
-        (λ c d. ap (λ (f : ℕ → ℕ → List Packet). f c d) (n .lines) ∙ lines c d) _)
+        (λ c d. ap (λ (f : ℕ → ℕ → List Packet). f c d) (n .lines) ∙ lines c d) _))
         (λ _. report-puts r fit chief chief-works away states sides lines)
 
   -- the report on a goes to the coordinator that its table names now, which is in error: with the last mark it goes on
@@ -240,6 +241,6 @@ module _ (total : ℕ) (g : Group) (γ : Ghost) (w : Fit g) (i : Inv (g .n) tota
         let sides : (d : ℕ) → used (view t .side decider d) ≡ used (v .side decider d) = λ d. ap (λ (x : View). used (x .side decider d)) reported ∙ kept-pair used (v .side) decider a _ refl decider d in
         let lines : (c d : ℕ) → view t .lines c d ≡ v .lines c d = λ c d. ap (λ (x : View). x .lines c d) reported in
         cond-elim (λ (x : Group). Puts (view x)) (covers (cabinet t decider .noted .unsure) (cabinet t decider .table .cabinets))
-        (λ _. puts-recover (v .lines) (λ c d. false) v t fits states lines decider errs-below
-        (λ d e. rw (lines decider d) (works-room total g γ w i decider errs-works d (sym (sides d) ∙ e))) _ errs)
+        (λ _. subst Puts (sym (view-settle _ decider Decided)) (puts-recover (v .lines) (λ c d. false) v t fits states lines decider errs-below
+        (λ d e. rw (lines decider d) (works-room total g γ w i decider errs-works d (sym (sides d) ∙ e))) _ errs))
         (λ _. still (v .lines) (λ c d. false) v (view t) states lines)

@@ -21,7 +21,7 @@ use Rattle.claims.proofs.State.View.{View, Own, Side, view}
 use Rattle.claims.proofs.Invariant.States.{apart}
 use Rattle.claims.proofs.Invariant.Facts.{Big, Ghost, aware, unaware}
 use Rattle.claims.proofs.Invariant.Whole.{Inv, awareOf, workOf}
-use Rattle.claims.proofs.Invariant.Staying.{Goes, Stays, Reports, Silent, reports-kept, none-comes, stays-calm, error-aware}
+use Rattle.claims.proofs.Invariant.Staying.{Faults, Goes, Stays, Reports, Silent, reports-kept, none-comes, stays-calm, error-aware}
 use Rattle.claims.proofs.Invariant.Words.{un-not-aware}
 
 -- the image of a cabinet in a save: its cut's, or for one lost before, the image that it was lost with
@@ -178,7 +178,7 @@ calm-error {v} {γ} i c un = is-false _ (λ e. un-not-aware (γ .big) (v .own c)
 -- a move of a cabinet that is not aware of a fault, and stays out of error
 pub calm-stays : {n total : ℕ} {v : View} {γ : Ghost} → Inv n total v γ → (w : View) (δ : Ghost) (c : ℕ) (o : Own) (s : ℕ → Side)
     → w .own ≡ upd (v .own) c o → w .side ≡ upd (v .side) c s → unaware (γ .big) (v .own c) ≡ true → isIn (o .state) Error ≡ false
-    → (γ .big .faulted ≡ true → δ .big .faulted ≡ true) → Stays v γ w δ
+    → Faults v γ δ → Stays v γ w δ
 calm-stays {v} {γ} i w δ c o s own side un out =
     stays-calm v γ (quiet-of i) w δ c o s own side un (λ e. absurd (never e out))
 
@@ -187,10 +187,11 @@ abbrev pub OnePlace : View → Type 0
 OnePlace v = (c d : ℕ) → workOf v c ≡ true → workOf v d ≡ true → v .own c .alarm ≡ v .own d .alarm
 
 -- what a step brings in which a recovery ends
-pub record Ended (total : ℕ) (g g′ : Group) (h′ : History) : Type 0 where
+pub record Ended (total : ℕ) (g g′ : Group) (h′ : History) (δ : Ghost) : Type 0 where
   pub restored : Restored (g .n) total h′ g′
   pub known : latest h′ .known ≡ true
   pub place : OnePlace (view g)
+  pub over : δ .big .faulted ≡ false
   pub who : (j : ℕ) × (works (stateOf g j) ≡ true) × (ends g g′ j ≡ true)
 
 -- what a step owes that may end a recovery, or be a report
@@ -200,7 +201,7 @@ pub record Next (total : ℕ) (g : Group) (γ : Ghost) (g′ : Group) (h′ : Hi
   pub past : Past (g .n) (view g′) ghost h′
   pub reports : Reports (view g′)
   pub silent : asks ≡ false → Silent (view g) → Silent (view g′)
-  pub fate : Goes (view g) γ (view g′) ghost ⊎ Ended total g g′ h′
+  pub fate : Goes (view g) γ (view g′) ghost ⊎ Ended total g g′ h′ ghost
 
 -- and one that ends none
 pub record Went (total : ℕ) (g : Group) (γ : Ghost) (g′ : Group) (h′ : History) : Type 0 where

@@ -18,8 +18,17 @@ use Rattle.claims.proofs.Invariant.Words.{un-not-aware, un-works, aware
 
 -- ---- what a step leaves
 
+-- what a step does to whether there is a fault: it stays, and one comes only where nobody is in error, recovering or recovered
+abbrev pub Faults : View → Ghost → Ghost → Type 0
+Faults v γ δ = (γ .big .faulted ≡ true → δ .big .faulted ≡ true) × (γ .big .faulted ≡ false → δ .big .faulted ≡ true → (c : ℕ) → inRecovery (v .own c .state) ≡ false)
+
+-- nothing, where what is said of it before and after is the same
+pub no-fault : {t : Bool} {A : Type 0} → (t ≡ true → t ≡ true) × (t ≡ false → t ≡ true → A)
+no-fault = (λ f. f, λ f e. absurd (never e f))
+
 -- who is aware of a fault stays so, for its place and with its lead; who has failed stays failed
 pub record Goes (v : View) (γ : Ghost) (w : View) (δ : Ghost) : Type 0 where
+  pub first : γ .big .faulted ≡ false → δ .big .faulted ≡ true → (c : ℕ) → inRecovery (v .own c .state) ≡ false
   pub on : (c : ℕ) → awareOf v γ c ≡ true
       → (awareOf w δ c ≡ true) × (w .own c .alarm ≡ v .own c .alarm) × (w .own c .lead ≡ v .own c .lead) × (w .own c .former ≡ v .own c .former)
   pub gone : (c : ℕ) → workOf v c ≡ false → workOf w c ≡ false
@@ -44,23 +53,32 @@ SamePhase o x = (o .state ≡ x .state) × (o .version ≡ x .version) × (o .al
 pub phase-same : {o x : Own} → o ≡ x → SamePhase o x
 phase-same e = (ap (λ (y : Own). y .state) e, ap (λ (y : Own). y .version) e, ap (λ (y : Own). y .alarm) e, ap (λ (y : Own). y .lead) e, ap (λ (y : Own). y .former) e)
 
-pub goes-same : (v : View) (γ : Ghost) (w : View) (δ : Ghost) → ((c : ℕ) → SamePhase (w .own c) (v .own c)) → (γ .big .faulted ≡ true → δ .big .faulted ≡ true) → Goes v γ w δ
-goes-same v γ w δ same faulted = record {
+pub goes-same : (v : View) (γ : Ghost) (w : View) (δ : Ghost) → ((c : ℕ) → SamePhase (w .own c) (v .own c)) → Faults v γ δ → Goes v γ w δ
+goes-same v γ w δ same faults = record {
+  first = faults .1;
   on = λ c a.
       let f = and-true {s = γ .big .faulted} a in
-      (and-intro (faulted (f .0)) (ap inRecovery (same c .0) ∙ f .1), same c .2, same c .3, same c .4);
+      (and-intro (faults .0 (f .0)) (ap inRecovery (same c .0) ∙ f .1), same c .2, same c .3, same c .4);
   gone = λ c e. ap works (same c .0) ∙ e;
 }
 
 -- ---- a step, and then what changes none of that
 
 module _ {v : View} {γ : Ghost} {w : View} {δ : Ghost} (h : Stays v γ w δ) where
+  first-then : (ε : Ghost) → Faults v δ ε → γ .big .faulted ≡ false → ε .big .faulted ≡ true → (c : ℕ) → inRecovery (v .own c .state) ≡ false
+  first-then ε faults e f = go (δ .big .faulted) refl
+    where
+      go : (t : Bool) → δ .big .faulted ≡ t → (c : ℕ) → inRecovery (v .own c .state) ≡ false
+      go true k = h .goes .first e k
+      go false k = faults .1 k f
+
   pub stays-marked : (u : View) (ε : Ghost) → ((c : ℕ) → SamePhase (u .own c) (w .own c)) → ((c d : ℕ) → u .side c d .unsure ≡ w .side c d .unsure)
-      → (δ .big .faulted ≡ true → ε .big .faulted ≡ true) → Stays v γ u ε
-  stays-marked u ε same reports faulted = record {
+      → Faults v δ ε → Stays v γ u ε
+  stays-marked u ε same reports faults = record {
     goes = record {
+      first = first-then ε faults;
       on = λ c a. let o = h .goes .on c a in let f = and-true {s = δ .big .faulted} (o .0) in (
-        and-intro (faulted (f .0)) (ap inRecovery (same c .0) ∙ f .1),
+        and-intro (faults .0 (f .0)) (ap inRecovery (same c .0) ∙ f .1),
         same c .2 ∙ o .1,
         same c .3 ∙ o .2,
         same c .4 ∙ o .3,
@@ -76,7 +94,7 @@ module _ {v : View} {γ : Ghost} {w : View} {δ : Ghost} (h : Stays v γ w δ) w
   -- .. and then a move of a cabinet that is not aware of a fault: it may enter error, with no report at it
   module _ (u : View) (ε : Ghost) (c : ℕ) (o : Own) (s : ℕ → Side) (own : u .own ≡ upd (w .own) c o) (side : u .side ≡ upd (w .side) c s)
       (un : unaware (δ .big) (w .own c) ≡ true) (none : isIn (o .state) Error ≡ true → (d : ℕ) → s d .unsure ≡ false)
-      (faulted : δ .big .faulted ≡ true → ε .big .faulted ≡ true) where
+      (faults : Faults v δ ε) where
     own-here : u .own c ≡ o
     own-here = ap (λ (f : ℕ → Own). f c) own ∙ upd-same (w .own) c o
 
@@ -99,8 +117,9 @@ module _ {v : View} {γ : Ghost} {w : View} {δ : Ghost} (h : Stays v γ w δ) w
     pub stays-then : Stays v γ u ε
     stays-then = record {
       goes = record {
+        first = first-then ε faults;
         on = λ d a. let k = h .goes .on d a in let e = own-there d (not-it d a) in let f = and-true {s = δ .big .faulted} (k .0) in (
-          and-intro (faulted (f .0)) (ap (λ (x : Own). inRecovery (x .state)) e ∙ f .1),
+          and-intro (faults .0 (f .0)) (ap (λ (x : Own). inRecovery (x .state)) e ∙ f .1),
           ap (λ (x : Own). x .alarm) e ∙ k .1,
           ap (λ (x : Own). x .lead) e ∙ k .2,
           ap (λ (x : Own). x .former) e ∙ k .3,
@@ -129,7 +148,7 @@ module _ (v : View) (γ : Ghost) (quiet : (c : ℕ) → γ .big .faulted ≡ fal
 
   pub stays-self : Stays v γ v γ
   stays-self = record {
-    goes = record { on = λ c a. (a, refl, refl, refl); gone = λ c e. e };
+    goes = record { first = λ e f. absurd (never f e); on = λ c a. (a, refl, refl, refl); gone = λ c e. e };
     knows = λ c a k. k;
     learns = λ c a k l. absurd (never k l);
     marks = λ c a e. (e, λ d. refl);
@@ -137,16 +156,16 @@ module _ (v : View) (γ : Ghost) (quiet : (c : ℕ) → γ .big .faulted ≡ fal
   }
 
   pub stays-same : (w : View) (δ : Ghost) → ((c : ℕ) → SamePhase (w .own c) (v .own c)) → ((c d : ℕ) → w .side c d .unsure ≡ v .side c d .unsure)
-      → (γ .big .faulted ≡ true → δ .big .faulted ≡ true) → Stays v γ w δ
+      → Faults v γ δ → Stays v γ w δ
   stays-same = stays-marked stays-self
 
   pub stays-calm : (w : View) (δ : Ghost) (c : ℕ) (o : Own) (s : ℕ → Side) → w .own ≡ upd (v .own) c o → w .side ≡ upd (v .side) c s
       → unaware (γ .big) (v .own c) ≡ true → (isIn (o .state) Error ≡ true → (d : ℕ) → s d .unsure ≡ false)
-      → (γ .big .faulted ≡ true → δ .big .faulted ≡ true) → Stays v γ w δ
+      → Faults v γ δ → Stays v γ w δ
   stays-calm = stays-then stays-self
 
   -- a cabinet that is aware of a fault goes on
-  module _ (w : View) (δ : Ghost) (c : ℕ) (o : Own) (own : w .own ≡ upd (v .own) c o) (faulted : γ .big .faulted ≡ true → δ .big .faulted ≡ true)
+  module _ (w : View) (δ : Ghost) (c : ℕ) (o : Own) (own : w .own ≡ upd (v .own) c o) (faults : Faults v γ δ)
       (aw : awareOf v γ c ≡ true) (restores : inRecovery (o .state) ≡ true)
       (same : (o .alarm ≡ v .own c .alarm) × (o .lead ≡ v .own c .lead) × (o .former ≡ v .own c .former)) where
     here : w .own c ≡ o
@@ -157,15 +176,16 @@ module _ (v : View) (γ : Ghost) (quiet : (c : ℕ) → γ .big .faulted ≡ fal
 
     pub goes-on : Goes v γ w δ
     goes-on = record {
+      first = faults .1;
       on = λ d a. let f = and-true {s = γ .big .faulted} a in elim (ℕ-discrete d c) [
         | yes e ↦ rw e (
-          and-intro (faulted (f .0)) (ap (λ (x : Own). inRecovery (x .state)) here ∙ restores),
+          and-intro (faults .0 (f .0)) (ap (λ (x : Own). inRecovery (x .state)) here ∙ restores),
           ap (λ (x : Own). x .alarm) here ∙ same .0,
           ap (λ (x : Own). x .lead) here ∙ same .1,
           ap (λ (x : Own). x .former) here ∙ same .2,
         )
         | no n ↦ let e = there d n in (
-          and-intro (faulted (f .0)) (ap (λ (x : Own). inRecovery (x .state)) e ∙ f .1),
+          and-intro (faults .0 (f .0)) (ap (λ (x : Own). inRecovery (x .state)) e ∙ f .1),
           ap (λ (x : Own). x .alarm) e,
           ap (λ (x : Own). x .lead) e,
           ap (λ (x : Own). x .former) e,
@@ -204,7 +224,7 @@ module _ (v : View) (γ : Ghost) (quiet : (c : ℕ) → γ .big .faulted ≡ fal
 pub stays-none : (v : View) (γ : Ghost) (w : View) (δ : Ghost) → ((c : ℕ) → inRecovery (v .own c .state) ≡ false) → ((c : ℕ) → workOf v c ≡ false → workOf w c ≡ false)
     → ((c : ℕ) → isIn (w .own c .state) Error ≡ true → (d : ℕ) → w .side c d .unsure ≡ false) → Stays v γ w δ
 stays-none v γ w δ nobody gone none = record {
-  goes = record { on = λ c a. absurd (not-aware c a); gone = gone };
+  goes = record { first = λ _ _. nobody; on = λ c a. absurd (not-aware c a); gone = gone };
   knows = λ c a. absurd (not-aware c a);
   learns = λ c a. absurd (not-aware c a);
   marks = λ c a. absurd (not-aware c a);

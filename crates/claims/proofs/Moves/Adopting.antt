@@ -36,6 +36,7 @@ use Rattle.claims.proofs.State.ViewMoves.{Room, view-resumed, sim-off, 
 use Rattle.claims.proofs.Answers.Tests.{in-state}
 use Rattle.claims.proofs.Invariant.Facts.{Ghost, unaware, linked, behind}
 use Rattle.claims.proofs.Invariant.Whole.{Inv}
+use Rattle.claims.proofs.Invariant.Staying.{no-fault}
 use Rattle.claims.proofs.Invariant.Past.{Past, Kept, past-turn, calm-stays}
 use Rattle.claims.proofs.Invariant.Logs.{resumedBy}
 use Rattle.claims.proofs.Invariant.Words.{un-of, un-not-aware, room-calm, used-linked}
@@ -206,5 +207,5 @@ module _ (total : ℕ) (g : Group) (h : History) (γ : Ghost) (w : Fit g) (i : I
     inv = subst (λ (u : View). Inv (g .n) total u (gAdopted γ)) (sym seen)
         (woken-off (g .n) total v γ i a b k is-first waiting fresh not-chief r (λ d e. and-true {s = used (v .side b d)} e .0) reached);
     past = past-turn g g′ b _ (λ c. ap (λ (u : View). u .own c .state) seen) (sym (ap works saved)) refl (past-adopted (g .n) v γ h past);
-    stays = calm-stays i (view g′) (gAdopted γ) b _ _ (ap (λ (u : View). u .own) seen) (ap (λ (u : View). u .side) seen) calm refl (λ f. f);
+    stays = calm-stays i (view g′) (gAdopted γ) b _ _ (ap (λ (u : View). u .own) seen) (ap (λ (u : View). u .side) seen) calm refl no-fault;
   }

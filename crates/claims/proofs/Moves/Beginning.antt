@@ -41,7 +41,7 @@ use Rattle.claims.proofs.Invariant.Facts.{Mind, Wire, Ghost, unaware}
 use Rattle.claims.proofs.Invariant.Whole.{Inv}
 use Rattle.claims.proofs.Invariant.Past.{Past, Kept, after, no-cuts, past-one, past-same, quiet-of, calm-stays}
 use Rattle.claims.proofs.Invariant.Words.{un-of, un-works, chief-of, room-calm}
-use Rattle.claims.proofs.Invariant.Staying.{Stays, phase-same, stays-marked, stays-then, stays-self}
+use Rattle.claims.proofs.Invariant.Staying.{Stays, phase-same, stays-marked, stays-then, stays-self, no-fault}
 use Rattle.claims.proofs.Moves.Joining.{Joins, mJoined, gJoin, join-inv}
 use Rattle.claims.proofs.Moves.Comparing.{wCovered, gCompare, checkp-joined, checkp-other, between, compare-inv}
 use Rattle.claims.proofs.Moves.Cutting.{mCut, gCut, cut-inv}
@@ -173,7 +173,7 @@ module _ (total : ℕ) (g₀ : Group) (γ₀ : Ghost) (h : History) (g : Group) 
     inv = subst (λ (x : View). Inv (g₀ .n) total x γ) (sym same-view) i;
     past = rw (no-cuts h g₀ (Cutting false) (λ d e. before d (ap (λ (s : State). isIn s Checkpointing) (sym (same-state d)) ∙ e)))
         (subst (λ (x : View). Past (g₀ .n) x γ h) (sym same-view) past);
-    stays = stays-marked stays (view (Cutting false)) γ (λ d. phase-same (ap (λ (x : View). x .own d) same-view)) (λ d j. ap (λ (x : View). x .side d j .unsure) same-view) (λ f. f);
+    stays = stays-marked stays (view (Cutting false)) γ (λ d. phase-same (ap (λ (x : View). x .own d) same-view)) (λ d j. ap (λ (x : View). x .side d j .unsure) same-view) no-fault;
   }
 
   -- all have come
@@ -244,7 +244,7 @@ module _ (total : ℕ) (g₀ : Group) (γ₀ : Ghost) (h : History) (g : Group) 
       ghost = γ′;
       inv = subst (λ (x : View). Inv (g₀ .n) total x γ′) (sym seen) (cut-inv (g₀ .n) total (view g) γ i c un begins (w .cabs c .image) come-all);
       past = past-one c _ (λ d. ap (λ (x : View). x .own d .state) seen) (sym (ap works begins)) refl past-cut;
-      stays = stays-then stays (view g′) γ′ c _ _ (ap (λ (u : View). u .own) seen) (ap (λ (u : View). u .side) seen) un (λ e. absurd (never e refl)) (λ f. f);
+      stays = stays-then stays (view g′) γ′ c _ _ (ap (λ (u : View). u .own) seen) (ap (λ (u : View). u .side) seen) un (λ e. absurd (never e refl)) no-fault;
     }
 
   pub keeps-cut : Kept total g₀ γ₀ (cutIfAll g c) (noteCuts h g₀ (cutIfAll g c))
@@ -290,7 +290,7 @@ module _ (total : ℕ) (g : Group) (h : History) (γ : Ghost) (w : Fit g) (i : I
       (subst (λ (x : View). Inv (g .n) total x (gJoin γ a)) (sym begin-seen) (join-inv (g .n) total (view g) γ i a calm normal (inl (chief, fresh))))
       (past-one a _ (λ d. ap (λ (x : View). x .own d .state) begin-seen) (sym (ap works normal)) refl
       (past-begin (g .n) total (view g) γ h a i fresh past g (cutIfAll (join g a) a)))
-      (calm-stays i (view (join g a)) (gJoin γ a) a _ _ (ap (λ (u : View). u .own) begin-seen) (ap (λ (u : View). u .side) begin-seen) calm refl (λ f. f)) a la begin-state
+      (calm-stays i (view (join g a)) (gJoin γ a) a _ _ (ap (λ (u : View). u .own) begin-seen) (ap (λ (u : View). u .side) begin-seen) calm refl no-fault) a la begin-state
       (λ d e. elim (ℕ-discrete d a) [
         | yes q ↦ absurd (never e (rw (ap (λ (x : ℕ). stateOf (join g a) x) q, begin-state)))
         | no n ↦ ap (λ (s : State). isIn s Checkpointing) (sym (begin-other d n)) ∙ e
@@ -360,7 +360,7 @@ module _ (total : ℕ) (g₀ : Group) (γ₀ : Ghost) (h : History) (g : Group) 
       (past-same compared-state (past-compare (g₀ .n) u γ h a b past))
       (stays-marked went (view compared) (gCompare γ a b)
       (λ d. phase-same (ap (λ (y : View). y .own d) compared-seen ∙ kept-at (λ (o : Own). o) (u .own) b (u .own b) refl d))
-      (λ d j. ap (λ (y : View). y .side d j .unsure) compared-seen ∙ kept-pair (λ (s : Side). s .unsure) (u .side) b a _ refl d j) (λ f. f))
+      (λ d j. ap (λ (y : View). y .side d j .unsure) compared-seen ∙ kept-pair (λ (s : Side). s .unsure) (u .side) b a _ refl d j) no-fault)
       b lb (compared-state b ∙ begins)
       (λ d e. elim (ℕ-discrete d b) [
         | yes q ↦ absurd (never e (rw (ap (λ (y : ℕ). stateOf compared y) q, compared-state b, begins)))
@@ -424,7 +424,7 @@ module _ (total : ℕ) (g : Group) (h : History) (γ : Ghost) (w : Fit g) (i : I
         keeps-taken total g γ h (join g₁ b) (ok-join Shaped Lined Pictured shaped g₁ b off-fit) (gJoin γ b) (vJoin (view g) b)
         (join-inv (g .n) total (view g) γ i b calm-b normal joins)
         (past-one b _ (λ d. refl) (sym (ap works normal)) refl (past-join (g .n) (view g) γ h b has-begun past))
-        (calm-stays i (vJoin (view g) b) (gJoin γ b) b _ _ refl refl calm-b refl (λ f. f))
+        (calm-stays i (vJoin (view g) b) (gJoin γ b) b _ _ refl refl calm-b refl no-fault)
         a b la lb x left (ap (λ (f : ℕ → List Packet). f b) (upd-other (view g .lines) b _ a (λ e. other (sym e))) ∙ in-line) joined-seen
         (ap (λ (o : Own). o .state) (upd-same (view g .own) b _))
         (equal ∙ sym (ap (λ (f : ℕ → Side). f a .took) (upd-same (view g .side) b _)))

@@ -26,7 +26,7 @@ use Rattle.claims.proofs.Invariant.Facts.{Big, Mind, Wire, Ghost, Pair,
 use Rattle.claims.proofs.Invariant.Whole.{Inv, PairAt}
 use Rattle.claims.proofs.Invariant.Past.{Past, Kept, past-still, quiet-of}
 use Rattle.claims.proofs.Invariant.Logs.{head-eq, tail-eq, alarms-rest, amounts-rest, amount-rest, small-rest, count-rest}
-use Rattle.claims.proofs.Invariant.Staying.{stays-same, phase-same}
+use Rattle.claims.proofs.Invariant.Staying.{stays-same, phase-same, no-fault}
 
 -- ---- the pair of sender and receiver
 
@@ -151,5 +151,5 @@ module _ (total : ℕ) (g : Group) (h : History) (γ : Ghost) (w : Fit g) (i : I
     inv = subst (λ (x : View). Inv (g .n) total x γ) (sym seen)
         (drop-inv (g .n) total (view g) γ i a b (oldest (line g a b)) left (sim-off g a b full) plain waits hears);
     past = past-still g g′ state-kept past;
-    stays = stays-same (view g) γ (quiet-of i) (view g′) γ (λ c. phase-same (ap (λ (x : View). x .own c) seen)) (λ c d. ap (λ (x : View). x .side c d .unsure) seen) (λ f. f);
+    stays = stays-same (view g) γ (quiet-of i) (view g′) γ (λ c. phase-same (ap (λ (x : View). x .own c) seen)) (λ c d. ap (λ (x : View). x .side c d .unsure) seen) no-fault;
   }

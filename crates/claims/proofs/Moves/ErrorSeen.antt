@@ -18,14 +18,14 @@ use Rattle.state.specs.State.{isIn, works, inRecovery, isUnknown, inSaving}
 use Rattle.group.specs.declared.Group.{Group}
 use Rattle.group.specs.Group.{cabinet}
 use Rattle.protocol.specs.History.{upd}
-use Rattle.protocol.specs.Moves.{recoverWith, recoverIfKnown, raise, enterError}
+use Rattle.protocol.specs.Moves.{recoverWith, recoverIfKnown, raise, reasonFor, enterError}
 use Rattle.claims.proofs.State.Fun.{and-true, upd-same, upd-other, upd-id, kept-at, upd-twice}
 use Rattle.claims.proofs.State.Every.{ok-raise}
 use Rattle.claims.proofs.State.View.{View, Own, Side, used, view}
 use Rattle.claims.proofs.State.Shape.{Shaped, Lined, Pictured, shaped}
 use Rattle.claims.proofs.State.Sim.{Fit}
 use Rattle.claims.proofs.State.Methods.{sAlarmed, hitsCabinet, hitsLink}
-use Rattle.claims.proofs.State.ViewMoves.{Room, vBroadcast, vAlarmed, vSilenced, vRecovering, oPhase, oAlarmed, leadAfter, sim-raise, sim-recover}
+use Rattle.claims.proofs.State.ViewMoves.{Room, vBroadcast, vAlarmed, vSilenced, vRecovering, oPhase, oAlarmed, leadAfter, view-settle, sim-raise, sim-recover}
 use Rattle.claims.proofs.Invariant.Facts.{Ghost, Alarms, aware, amountsIn, isInvalid, count}
 use Rattle.claims.proofs.Invariant.Whole.{Core, workOf}
 use Rattle.claims.proofs.Invariant.Words.{room-aware}
@@ -248,8 +248,8 @@ sim-error g w c q l = go (cabinet g c .phase .version)
         subst (λ (u : View). Room (vRecovering u c x) c) (sym seen)
         (λ b e. rw (upd-same (view g .lines) c (λ d. cond (used (sErred (view g) c q d)) (Fault q ∷ []) [])) (short (used (sErred (view g) c q b))))
 
-    go : (x : Version) → view (recoverIfKnown (raise g c q) c x) ≡ vKnown (vRaise (view g) c q) c x
-    go (Known x) = sim-recover (raise g c q) fit c x l (room x) ∙ ap (λ (u : View). vRecover u c x) (sim-raise g w c q l)
+    go : (x : Version) → view (recoverIfKnown (raise g c q) c x (reasonFor (cabinet g c) c)) ≡ vKnown (vRaise (view g) c q) c x
+    go (Known x) = view-settle _ c _ ∙ sim-recover (raise g c q) fit c x l (room x) ∙ ap (λ (u : View). vRecover u c x) (sim-raise g w c q l)
     go (Unknown x) = sim-raise g w c q l
     go Lost = sim-raise g w c q l
 

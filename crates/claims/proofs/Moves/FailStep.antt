@@ -176,7 +176,7 @@ module _ (total : ℕ) (g : Group) (h : History) (γ : Ghost) (fit : Fit g) (i :
   checks : (cabinet g a .store ≡ false) × (some (recoveringOnes g) ≡ false) × (connected (rowsOf (g .sound)) (set (working g) a false) ≡ true)
   checks = split-or (cabinet g a .store) (some (recoveringOnes g)) (connected (rowsOf (g .sound)) (set (working g) a false)) fine
 
-  nobody : (c : ℕ) → inRecovery (v .own c .state) ≡ false
+  pub nobody : (c : ℕ) → inRecovery (v .own c .state) ≡ false
   nobody = openly.nobody total g γ fit i (checks .1)
 
   unfaulted : γ .big .faulted ≡ false
@@ -197,7 +197,7 @@ module _ (total : ℕ) (g : Group) (h : History) (γ : Ghost) (fit : Fit g) (i :
   reaches : Reach (workOf (vFailed v a)) (v .sound)
   reaches = fail-reach g a la (i .core .ground .soundBoth) (below-eight (g .n) total a v γ i unfaulted up another nobody) (checks .2)
 
-  seen : view (markFailed g a) ≡ vFailed v a
+  pub seen : view (markFailed g a) ≡ vFailed v a
   seen = sim-failed g fit a la
 
   -- what is left once the ghost after the fail is settled

@@ -32,7 +32,7 @@ use Rattle.claims.proofs.Invariant.Facts.{Ghost, aware, unaware}
 use Rattle.claims.proofs.Invariant.Whole.{Core, Inv, Place-of, failed, tripped, faulty, PlacesOf, MeetsOf, workOf, alarmOf, awareOf, tabOf, lkOf}
 use Rattle.claims.proofs.Invariant.Past.{Past, Kept, past-turn, quiet-of}
 use Rattle.claims.proofs.Invariant.Words.{un-of, un-works, un-not-aware, aware-faulted}
-use Rattle.claims.proofs.Invariant.Staying.{phase-same, stays-calm, stays-marked}
+use Rattle.claims.proofs.Invariant.Staying.{phase-same, stays-calm, stays-marked, no-fault}
 use Rattle.claims.proofs.Moves.FirstFault.{gError}
 use Rattle.claims.proofs.Moves.ErrorSeen.{vError, oErred, sErred, erredLine, erred, error-seen, strike-used, sim-error, erred-recovers, erred-works, erred-not-normal, erred-not-saving}
 use Rattle.claims.proofs.Moves.Erring.{error-core, error-meets, place-map}
@@ -187,7 +187,7 @@ module _ (total : ℕ) (g : Group) (h : History) (γ : Ghost) (w : Fit g) (i : I
     inv = subst (λ (x : View). Inv (g .n) total x δ′) (sym seen) heard-inv;
     past = past-turn g g′ b o2 state-at (erred-works (cabinet g b .phase .version) ∙ sym (un-works (γ .big) (view g .own b) calm))
         (erred-not-saving (cabinet g b .phase .version)) (frozen-past (g .n) (view g) γ h _ past);
-    stays = stays-marked (stays-calm (view g) γ (quiet-of i) v2 δ′ b _ _ refl refl calm (λ e d. refl) (λ f. f)) (view g′) δ′
+    stays = stays-marked (stays-calm (view g) γ (quiet-of i) v2 δ′ b _ _ refl refl calm (λ e d. refl) no-fault) (view g′) δ′
         (λ c. phase-same (ap (λ (x : View). x .own c) seen ∙ kept-at (λ (x : Own). x) (v2 .own) b _ refl c))
-        (λ c d. ap (λ (x : View). x .side c d .unsure) seen ∙ kept-pair (λ (s : Side). s .unsure) (v2 .side) b a _ refl c d) (λ f. f);
+        (λ c d. ap (λ (x : View). x .side c d .unsure) seen ∙ kept-pair (λ (s : Side). s .unsure) (v2 .side) b a _ refl c d) no-fault;
   }

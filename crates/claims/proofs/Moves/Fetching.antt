@@ -34,7 +34,7 @@ use Rattle.claims.proofs.Invariant.Whole.{Inv, PairAt}
 use Rattle.claims.proofs.Invariant.Past.{Past, Kept, past-turn, quiet-of}
 use Rattle.claims.proofs.Invariant.Words.{un-not-aware, aware-works, aware-not-un, lead-same}
 use Rattle.claims.proofs.Invariant.Frame.{same-ghost, minded, move-pairs, move-nodes, move-books, move-leads, move-ground, move-places, move-meets, move-chain, move-sums, quiet-inv}
-use Rattle.claims.proofs.Invariant.Staying.{Stays, stays-on}
+use Rattle.claims.proofs.Invariant.Staying.{Stays, stays-on, Faults, no-fault}
 use Rattle.claims.proofs.Moves.Waking.{gAdopted, adopted-pair, adopted-node, adopted-books, adopted-lead}
 use Rattle.claims.proofs.Moves.Pieces.{piece-more, all-pieces}
 use Rattle.claims.proofs.Moves.Adopting.{past-adopted}
@@ -423,7 +423,7 @@ module _ (total : ℕ) (g : Group) (h : History) (γ : Ghost) (w : Fit g) (i : I
         past-turn g g′ a o (λ c. ap (λ (y : ℕ → Own). y c .state) seen)
         (restoring-works (o .state) restores .4 ∙ sym (aware-works (γ .big) (v .own a) aw)) (restoring-works (o .state) restores .2)
 
-    stays-so : (δ : Ghost) → (γ .big .faulted ≡ true → δ .big .faulted ≡ true)
+    stays-so : (δ : Ghost) → Faults v γ δ
         → (o .version ≡ v .own a .version) × (o .alarm ≡ v .own a .alarm) × (o .lead ≡ v .own a .lead) × (o .former ≡ v .own a .former)
         → ((d j : ℕ) → view g′ .side d j .unsure ≡ v .side d j .unsure) → Stays v γ (view g′) δ
     stays-so δ f same sides =
@@ -452,7 +452,7 @@ module _ (total : ℕ) (g : Group) (h : History) (γ : Ghost) (w : Fit g) (i : I
             (pieced-inv (g .n) total v γ i a aw state (k + 1) x (omega (arith, ltb-true k 3 e)) more);
         past = subst (λ (t : Bool). Past (g .n) (view g′) γ (noteCuts (noteKnown t h) g g′)) (sym none)
             (past-kept o still own past);
-        stays = stays-so o still own γ (λ f. f) (refl, refl, refl, refl)
+        stays = stays-so o still own γ no-fault (refl, refl, refl, refl)
             (λ d j. ap (λ (u : View). u .side d j .unsure) seen ∙ ap (λ (s : ℕ → Side). s j .unsure) (kept-at (λ (s : ℕ → Side). s) (v .side) a (v .side a) refl d));
       }
 
@@ -471,7 +471,7 @@ module _ (total : ℕ) (g : Group) (h : History) (γ : Ghost) (w : Fit g) (i : I
             (lasted-inv (g .n) total v (gAdopted γ) (adopted-inv (g .n) total v γ faulted i) a aw state refl x whole);
         past = subst (λ (t : Bool). Past (g .n) (view g′) (gAdopted γ) (noteCuts (noteKnown t h) g g′)) (sym (goes-is o refl own))
             (past-kept o refl own (past-adopted (g .n) v γ h past));
-        stays = stays-so o refl own (gAdopted γ) (λ f. f) (refl, refl, refl, refl)
+        stays = stays-so o refl own (gAdopted γ) no-fault (refl, refl, refl, refl)
             (λ d j. ap (λ (u : View). u .side d j .unsure) seen ∙ kept-at (λ (s : ℕ → Side). s j .unsure) (v .side) a (λ c. sFresh (v .side a c)) refl d);
       }
 

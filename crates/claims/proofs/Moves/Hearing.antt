@@ -34,7 +34,7 @@ use Rattle.claims.proofs.Invariant.Whole.{Inv}
 use Rattle.claims.proofs.Invariant.Past.{Past, Kept, past-still, quiet-of}
 use Rattle.claims.proofs.Invariant.Words.{un-not-aware, un-or-aware, aware-faulted, live-line}
 use Rattle.claims.proofs.Invariant.Frame.{same-ghost, minded, move-pairs, move-nodes, move-books, quiet-inv}
-use Rattle.claims.proofs.Invariant.Staying.{stays-same, phase-same}
+use Rattle.claims.proofs.Invariant.Staying.{stays-same, phase-same, no-fault}
 
 -- ---- a fault packet at the head of a line
 
@@ -252,5 +252,5 @@ module _ (total : ℕ) (g : Group) (h : History) (γ : Ghost) (w : Fit g) (i : I
     inv = subst (λ (x : View). Inv (g .n) total x γ) (sym seen)
         (hear-inv (g .n) total (view g) γ i a b other q k is-line heard-aware (fault-for (cabinet g b .phase .alarm) q .0 for-it));
     past = past-still g g′ state-kept past;
-    stays = stays-same (view g) γ (quiet-of i) (view g′) γ (λ c. phase-same (own-kept c)) unsure-kept (λ f. f);
+    stays = stays-same (view g) γ (quiet-of i) (view g′) γ (λ c. phase-same (own-kept c)) unsure-kept no-fault;
   }

@@ -313,7 +313,8 @@ module _ (total : ℕ) (g : Group) (h : History) (γ : Ghost) (w : Fit g) (i : I
       stays = stays-calm (view g) γ (quiet-of i) (view g′) (gError (gFaulted γ) (view g .own b)) b _ _
           (ap (λ (u : View). u .own) seen ∙ ap (λ (u : View). u .own) (error-seen (view g) b (linkPlace a b)))
           (ap (λ (u : View). u .side) seen ∙ ap (λ (u : View). u .side) (error-seen (view g) b (linkPlace a b)))
-          (un-of (γ .big) (view g .own b) (calm .0) (calm .1)) (λ e d. refl) (λ f. refl);
+          (un-of (γ .big) (view g .own b) (calm .0) (calm .1)) (λ e d. refl)
+          (λ f. refl, λ e _. upset-first (g .n) total (view g) γ (i .core) upset e);
     }
 
   pub fault-state : isIn (stateOf g′ b) Normal ≡ false

@@ -24,6 +24,7 @@ use Rattle.claims.proofs.State.ViewMoves.{oImage}
 use Rattle.claims.proofs.Answers.Tests.{in-state}
 use Rattle.claims.proofs.Invariant.Facts.{Big, Mind, Wire, Ghost, Pair, Node, Books, SameTo, aware, unaware}
 use Rattle.claims.proofs.Invariant.Whole.{Inv, PairAt, BooksAt}
+use Rattle.claims.proofs.Invariant.Staying.{no-fault}
 use Rattle.claims.proofs.Invariant.Past.{Past, Kept, past-still, calm-stays}
 use Rattle.claims.proofs.Invariant.Words.{un-of}
 use Rattle.claims.proofs.Invariant.Frame.{same-ghost, moved, minded, move-pairs, move-nodes, move-books, quiet-inv}
@@ -119,5 +120,5 @@ module _ (total : ℕ) (g : Group) (h : History) (γ : Ghost) (w : Fit g) (i : I
         (subst (λ (δ : Ghost). Inv (g .n) total (noted (view g) a (withOctet (cabinet g a .image) p q)) δ) (same-ghost γ a)
         (noted-inv (g .n) total (view g) γ a (withOctet (cabinet g a .image) p q) i calm normal (booked-noted (cabinet g a .image) p q beyond)));
     past = past-still g g′ state-kept past;
-    stays = calm-stays i (view g′) γ a _ _ (ap (λ (u : View). u .own) seen) (ap (λ (u : View). u .side) seen) calm (rw normal) (λ f. f);
+    stays = calm-stays i (view g′) γ a _ _ (ap (λ (u : View). u .own) seen) (ap (λ (u : View). u .side) seen) calm (rw normal) no-fault;
   }

@@ -29,7 +29,7 @@ use Rattle.claims.proofs.Invariant.Past.{Past, Kept, past-still, past-t
 use Rattle.claims.proofs.Invariant.Logs.{alarm-first}
 use Rattle.claims.proofs.Invariant.Words.{aware-works}
 use Rattle.claims.proofs.Invariant.Frame.{same-ghost, move-places, move-meets}
-use Rattle.claims.proofs.Invariant.Staying.{Goes, SomeKnows, phase-same, stays-same, goes-on, stays-on}
+use Rattle.claims.proofs.Invariant.Staying.{Goes, SomeKnows, phase-same, stays-same, goes-on, stays-on, Faults, no-fault}
 use Rattle.claims.proofs.Moves.Dropping.{head-pair, line-inv, drop-pair}
 use Rattle.claims.proofs.Moves.FirstFault.{gBig, bFrozen}
 use Rattle.claims.proofs.Moves.ErrorSeen.{vRecover, sim-recover′}
@@ -68,7 +68,7 @@ module _ (total : ℕ) (g : Group) (h : History) (γ : Ghost) (w : Fit g) (i : I
     inv = subst (λ (y : View). Inv (g .n) total y γ) (sym (view-off g w a b la lb)) off-inv;
     past = past-still g g1 state-kept past;
     stays = stays-same (view g) γ (quiet-of i) (view g1) γ (λ c. phase-same (ap (λ (y : View). y .own c) (view-off g w a b la lb)))
-        (λ c d. ap (λ (y : View). y .side c d .unsure) (view-off g w a b la lb)) (λ f. f);
+        (λ c d. ap (λ (y : View). y .side c d .unsure) (view-off g w a b la lb)) no-fault;
   }
 
 -- ---- a cabinet in error goes on with the version of the save that the rule gives
@@ -101,7 +101,7 @@ frozen-past n v γ h t p = search
 
 -- such a step; the view before it has the cabinets of g, but for marks
 module _ (total : ℕ) (g : Group) (h : History) (γ δ : Ghost) (g′ : Group) (v : View) (c : ℕ) (x : Bool) (same : v .own ≡ view g .own)
-    (faulted : γ .big .faulted ≡ true → δ .big .faulted ≡ true) (aw : aware (γ .big) (view g .own c) ≡ true) (seen : view g′ ≡ vRecover v c x) where
+    (faults : Faults (view g) γ δ) (aw : aware (γ .big) (view g .own c) ≡ true) (seen : view g′ ≡ vRecover v c x) where
   abbrev goes : ℕ → Own
   goes = upd (view g .own) c (oPhase (view g .own c) Recovering (Known x) (view g .own c .alarm))
 
@@ -118,7 +118,7 @@ module _ (total : ℕ) (g : Group) (h : History) (γ δ : Ghost) (g′ : Group) 
   past-going past = past-turn g g′ c _ state-at (sym (aware-works (γ .big) (view g .own c) aw)) refl past
 
   pub goes-going : (i : Inv (g .n) total (view g) γ) → Goes (view g) γ (view g′) δ
-  goes-going i = goes-on (view g) γ (quiet-of i) (view g′) δ c _ own-at faulted aw refl (refl, refl, refl)
+  goes-going i = goes-on (view g) γ (quiet-of i) (view g′) δ c _ own-at faults aw refl (refl, refl, refl)
 
   -- where the version is one that another knows
   keeps-going : (i : Inv (g .n) total (view g) γ) → Past (g .n) (view g) δ h → Inv (g .n) total (vRecover v c x) δ → v .side ≡ view g .side → SomeKnows (view g) γ
@@ -127,7 +127,7 @@ module _ (total : ℕ) (g : Group) (h : History) (γ δ : Ghost) (g′ : Group) 
     ghost = δ;
     inv = subst (λ (y : View). Inv (g .n) total y δ) (sym seen) inv;
     past = past-going past;
-    stays = stays-on (view g) γ (quiet-of i) (view g′) δ c _ own-at faulted aw refl (refl, refl, refl) unsure-kept refl refl (λ _. known);
+    stays = stays-on (view g) γ (quiet-of i) (view g′) δ c _ own-at faults aw refl (refl, refl, refl) unsure-kept refl refl (λ _. known);
   }
     where
       unsure-kept : (d j : ℕ) → view g′ .side d j .unsure ≡ view g .side d j .unsure
@@ -157,11 +157,11 @@ module _ (total : ℕ) (g : Group) (h : History) (γ : Ghost) (w : Fit g) (i : I
   pub error-aware : aware (γ .big) (view g .own b) ≡ true
   error-aware = and-intro (is-true (γ .big .faulted) (λ e. never error (i .core .nodes b .quiet e .0))) (rw in-error)
 
-  a-aware : aware (γ .big) (view g .own a) ≡ true
+  pub a-aware : aware (γ .big) (view g .own a) ≡ true
   a-aware = i .core .pairs a b .heardOf (and-intro error-aware heard) .0
 
   -- the sender knows its version
-  a-knows : cabinet g a .phase .version ≡ Known x
+  pub a-knows : cabinet g a .phase .version ≡ Known x
   a-knows =
       let q = i .core .nodes a .placeKnown a-aware in
       recover-head (cabinet g a .phase .version) (q .0) x (left-of g a b)
@@ -179,7 +179,7 @@ module _ (total : ℕ) (g : Group) (h : History) (γ : Ghost) (w : Fit g) (i : I
   abbrev sees : view (off g a b) ≡ v1
   sees = view-off g w a b la lb
 
-  going : view g2 ≡ vRecover v1 b x
+  pub going : view g2 ≡ vRecover v1 b x
   going =
       sim-recover′ (g .n) total (off g a b) γ (off-fit g a b w) (subst (λ (y : View). Core (g .n) total y γ) (sym sees) (inv-off .core)) b x lb
       (subst (λ (y : View). aware (γ .big) (y .own b) ≡ true) (sym sees) error-aware)
@@ -187,6 +187,6 @@ module _ (total : ℕ) (g : Group) (h : History) (γ : Ghost) (w : Fit g) (i : I
 
   pub keeps-recover : Kept total g γ g2 (noteCuts h g g2)
   keeps-recover =
-      keeps-going total g h γ γ g2 v1 b x refl (λ f. f) error-aware going i past
+      keeps-going total g h γ γ g2 v1 b x refl no-fault error-aware going i past
       (subst (λ (y : Bool). Inv (g .n) total (vRecover v1 b y) γ) (sym is-top) (recover-inv (g .n) total v1 γ inv-off b error-aware in-error is-frozen))
       refl (a, a-aware, ap isUnknown a-knows)

@@ -20,7 +20,7 @@ use Rattle.state.specs.State.{isIn, works, inRestoring, bitOf}
 use Rattle.image.specs.Image.{booked}
 use Rattle.cabinet.specs.Cabinet.{inUse, coordinator}
 use Rattle.group.specs.declared.Group.{Group}
-use Rattle.group.specs.Group.{cabinet, withCabinet, stateOf}
+use Rattle.group.specs.Group.{cabinet, withCabinet, stateOf, settleOver}
 use Rattle.protocol.specs.Moves.{endRecovery, noteLost}
 use Rattle.protocol.specs.Kinds.{mayReport, restoredRefusal, reportRestored, endIfAll}
 use Rattle.protocol.specs.History.{Cut, History, latest, imageIn, lostNow, noteEnd, noteCuts, ends, goes}
@@ -32,7 +32,7 @@ use Rattle.claims.proofs.State.Leading.{nextOver}
 use Rattle.claims.proofs.State.Shape.{Shaped, Lined, Pictured, shaped}
 use Rattle.claims.proofs.State.Sim.{Fit, in-use}
 use Rattle.claims.proofs.State.Methods.{sCleared, hitsCabinet}
-use Rattle.claims.proofs.State.ViewMoves.{Room, vResumed, vRestored, sim-restored, sim-resume, Versions, sim-note}
+use Rattle.claims.proofs.State.ViewMoves.{Room, view-over, vResumed, vRestored, sim-restored, sim-resume, Versions, sim-note}
 use Rattle.claims.proofs.Answers.Tests.{in-state}
 use Rattle.claims.proofs.Invariant.States.{restoring-one, restoring-works, known-is-known}
 use Rattle.claims.proofs.Invariant.Facts.{Mind, Ghost, unaware}
@@ -40,7 +40,7 @@ use Rattle.claims.proofs.Invariant.Whole.{Inv, workOf, awareOf}
 use Rattle.claims.proofs.Invariant.Past.{Past, HeldIn, Kept, Next, OnePlace, kept-next, no-cuts, quiet-of, past-same, cut-held, tops-add}
 use Rattle.claims.proofs.Invariant.Words.{un-not-aware, un-or-aware, aware-works, aware-faulted, chief-of, room-aware}
 use Rattle.claims.proofs.Invariant.Marking.{past-mind}
-use Rattle.claims.proofs.Invariant.Staying.{Reports, reports-none, phase-same, stays-same}
+use Rattle.claims.proofs.Invariant.Staying.{Reports, reports-none, phase-same, stays-same, no-fault}
 use Rattle.claims.proofs.Moves.Rousing.{oResumed, roused, seen-roused}
 use Rattle.claims.proofs.Moves.Restoring.{gReady, ready-inv, marked-inv, mReady}
 use Rattle.claims.proofs.Moves.EndPairs.{bEnd, mEnd, wEnd}
@@ -136,7 +136,7 @@ module _ (total : ℕ) (g : Group) (h : History) (γ : Ghost) (w : Fit g) (i : I
     inv = inv1;
     past = rw (no-cuts h g g1 (λ c e. ap (λ (s : State). isIn s Checkpointing) (sym (state1 c)) ∙ e)) past1;
     stays = stays-same (view g) γ (quiet-of i) (view g1) γ1 (λ c. phase-same (own1 c))
-        (λ c d. ap (λ (x : View). x .side c d .unsure) seen1 ∙ kept-pair (λ (s : Side). s .unsure) (view g .side) k a _ refl c d) (λ f. f);
+        (λ c d. ap (λ (x : View). x .side c d .unsure) seen1 ∙ kept-pair (λ (s : Side). s .unsure) (view g .side) k a _ refl c d) no-fault;
   }
 
   -- ---- where it was
@@ -226,7 +226,7 @@ module _ (total : ℕ) (g : Group) (h : History) (γ : Ghost) (w : Fit g) (i : I
     x = cabinet gN k .phase .version
 
     abbrev g2 : Group
-    g2 = endRecovery gN k
+    g2 = settleOver (endRecovery gN k)
 
     roomN : Room (vResumed (view gN) k x) k
     roomN d u =
@@ -235,7 +235,7 @@ module _ (total : ℕ) (g : Group) (h : History) (γ : Ghost) (w : Fit g) (i : I
 
     seen2 : view g2 ≡ roused (view gN) k x
     unfolding endRecovery
-    seen2 = sim-resume gN fitN k x lk roomN ∙ seen-roused (view gN) k x
+    seen2 = view-over _ ∙ sim-resume gN fitN k x lk roomN ∙ seen-roused (view gN) k x
 
     abbrev γ2 : Ghost
     γ2 = record { big = bEnd (γ .big) k (nextOver (workOf (view gN)) k); mind = λ c. mEnd (γ1 .mind c) (workOf (view gN) c); wire = λ c d. wEnd (view gN .sound c d) }
@@ -245,10 +245,10 @@ module _ (total : ℕ) (g : Group) (h : History) (γ : Ghost) (w : Fit g) (i : I
         subst (λ (y : View). Inv (g .n) total y γ2) (sym seen2)
         (ended-inv (g .n) total (view gN) γ1 invN k awareN all-reported led note)
 
-    state2 : (c : ℕ) → c ≢ k → stateOf g2 c ≡ stateOf g c
+    pub state2 : (c : ℕ) → c ≢ k → stateOf g2 c ≡ stateOf g c
     state2 c d = ap (λ (y : View). y .own c .state) seen2 ∙ ap (λ (o : Own). o .state) (upd-other (view gN .own) k (oResumed (view gN .own k) x) c d) ∙ stateN c
 
-    normal-k : stateOf g2 k ≡ Normal
+    pub normal-k : stateOf g2 k ≡ Normal
     normal-k = ap (λ (y : View). y .own k .state) seen2 ∙ ap (λ (o : Own). o .state) (upd-same (view gN .own) k (oResumed (view gN .own k) x))
 
     work2 : (c : ℕ) → works (stateOf g2 c) ≡ workOf (view gN) c
@@ -257,7 +257,7 @@ module _ (total : ℕ) (g : Group) (h : History) (γ : Ghost) (w : Fit g) (i : I
       | no d ↦ ap works (state2 c d ∙ sym (stateN c))
     ]
 
-    ending : ends g g2 a ≡ true
+    pub ending : ends g g2 a ≡ true
     ending = and-intro (ap (λ (s : State). isIn s Recovered) (sym (stateN k) ∙ recovered-k)) (ap (λ (s : State). isIn s Normal) normal-k)
 
     abbrev h2 : History
@@ -379,10 +379,10 @@ module _ (total : ℕ) (g : Group) (h : History) (γ : Ghost) (w : Fit g) (i : I
       past = subst (Past (g .n) (view g2) γ2) (sym history2) past2;
       reports = reports-none (view g2) (λ c f. absurd (never f (quiet-of inv2 c refl)));
       silent = λ _ _ c f. absurd (never f (quiet-of inv2 c refl));
-      fate = inr (record { restored = subst (λ (y : History). Restored (g .n) total y g2) (sym history2) demand-three; known = subst (λ (y : History). latest y .known ≡ true) (sym history2) (past2 .known); place = one-alarm; who = (a, works-a, ending) });
+      fate = inr (record { restored = subst (λ (y : History). Restored (g .n) total y g2) (sym history2) demand-three; known = subst (λ (y : History). latest y .known ≡ true) (sym history2) (past2 .known); place = one-alarm; over = refl; who = (a, works-a, ending) });
     }
 
-  not-yet : ends g g1 a ≡ false
+  pub not-yet : ends g g1 a ≡ false
   not-yet = is-false (ends g g1 a) went
     where
       went : goes g g1 k Recovered Normal ≡ true → ⊥

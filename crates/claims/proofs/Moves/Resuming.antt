@@ -33,6 +33,7 @@ use Rattle.claims.proofs.Answers.Tests.{in-state}
 use Rattle.claims.proofs.Invariant.States.{known-is-known}
 use Rattle.claims.proofs.Invariant.Facts.{Ghost, aware, unaware, linked, behind, isFault}
 use Rattle.claims.proofs.Invariant.Whole.{Inv}
+use Rattle.claims.proofs.Invariant.Staying.{no-fault}
 use Rattle.claims.proofs.Invariant.Past.{Past, Kept, past-turn, calm-stays}
 use Rattle.claims.proofs.Invariant.Logs.{resumedBy}
 use Rattle.claims.proofs.Invariant.Words.{un-or-aware, un-not-aware, chief-of, room-calm, used-linked}
@@ -153,7 +154,7 @@ module _ (total : ℕ) (g : Group) (h : History) (γ : Ghost) (w : Fit g) (i : I
           (subst (λ (δ : Ghost). Inv (g .n) total (setLine (woken v b (Known (γ .big .topv)) r) a b k) δ) same-ghost
           (woken-off (g .n) total v γ i a b k is-first waiting fresh not-chief r (λ d e. e) (λ d j e. used-linked (i .core .pairs b d) calm j)));
       past = past-turn g g′ b _ (λ c. ap (λ (u : View). u .own c .state) seen) (sym working) refl past;
-      stays = calm-stays i (view g′) γ b _ _ (ap (λ (u : View). u .own) seen) (ap (λ (u : View). u .side) seen) calm refl (λ f. f);
+      stays = calm-stays i (view g′) γ b _ _ (ap (λ (u : View). u .own) seen) (ap (λ (u : View). u .side) seen) calm refl no-fault;
     }
 
   -- ---- it is dropped

@@ -34,7 +34,7 @@ use Rattle.claims.proofs.Invariant.Whole.{Inv, NodeAt, workOf}
 use Rattle.claims.proofs.Invariant.Past.{Past, HeldIn, Kept, no-cuts, past-same, quiet-of}
 use Rattle.claims.proofs.Invariant.Words.{chief-lives, un-of, un-works, chief-of, room-calm}
 use Rattle.claims.proofs.Invariant.Marking.{past-mind}
-use Rattle.claims.proofs.Invariant.Staying.{Stays, phase-same, stays-same, stays-then}
+use Rattle.claims.proofs.Invariant.Staying.{Stays, phase-same, stays-same, stays-then, no-fault}
 use Rattle.claims.proofs.Moves.Reporting.{gTold, mTold, vReported, report-inv, sim-report}
 use Rattle.claims.proofs.Moves.CommitPairs.{gCommit, mCommit}
 use Rattle.claims.proofs.Moves.CommitNodes.{wrote-state}
@@ -202,7 +202,7 @@ module _ (total : ℕ) (g : Group) (h : History) (γ : Ghost) (w : Fit g) (i : I
       ∙ kept-pair (λ (x : Side). x .unsure) (vOwe v home a false .side) K a _ refl c d ∙ kept-pair (λ (x : Side). x .unsure) (v .side) home a _ refl c d
 
   stays1 : Stays v γ (view g1) γ1
-  stays1 = stays-same v γ (quiet-of i) (view g1) γ1 (λ c. phase-same (own1 c)) unsure1 (λ f. f)
+  stays1 = stays-same v γ (quiet-of i) (view g1) γ1 (λ c. phase-same (own1 c)) unsure1 no-fault
 
   keeps-report : Kept total g γ g1 (noteCuts h g g1)
   keeps-report = record {
@@ -269,7 +269,7 @@ module _ (total : ℕ) (g : Group) (h : History) (γ : Ghost) (w : Fit g) (i : I
       inv = subst (λ (x : View). Inv (g .n) total x (gCommit γ1)) (sym seen2) (commit-inv (g .n) total (view g1) γ1 inv1 calm1 all);
       past = rw (no-cuts (noteCommit true h K) g g2 no-new-cut)
           (subst (λ (x : View). Past (g .n) x (gCommit γ1) (noteCommit true h K)) (sym seen2) (past-commit (g .n) total (view g1) γ1 h inv1 calm1 all past1));
-      stays = stays-then stays1 (view g2) (gCommit γ1) K _ _ (ap (λ (u : View). u .own) seen2) (ap (λ (u : View). u .side) seen2) calm1 (λ e. absurd (never e refl)) (λ f. f);
+      stays = stays-then stays1 (view g2) (gCommit γ1) K _ _ (ap (λ (u : View). u .own) seen2) (ap (λ (u : View). u .side) seen2) calm1 (λ e. absurd (never e refl)) no-fault;
     }
 
   -- ---- together

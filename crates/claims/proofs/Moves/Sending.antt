@@ -40,6 +40,7 @@ use Rattle.claims.proofs.State.ViewMoves.{oImage, vSent, sim-sent}
 use Rattle.claims.proofs.Answers.Tests.{in-state}
 use Rattle.claims.proofs.Invariant.Facts.{Big, Mind, Wire, Ghost, Pair, Books, Stream, aware, unaware, linked, behind, closed, amountsIn, count, isFault, isCheckp, isSafe, isInvalid, amount}
 use Rattle.claims.proofs.Invariant.Whole.{Inv, PairAt, BooksAt, outOf, gotOf}
+use Rattle.claims.proofs.Invariant.Staying.{no-fault}
 use Rattle.claims.proofs.Invariant.Past.{Past, Kept, no-cuts, calm-stays}
 use Rattle.claims.proofs.Invariant.Logs.{amounts-snoc, count-snoc, resume-more, differ-more, check-snoc, no-checkp-end, amount-snoc, small-snoc, fitting-snoc, checkp-last}
 use Rattle.claims.proofs.Invariant.Words.{un-of, un-works, linked-used, all-counted}
@@ -369,5 +370,5 @@ module _ (total : ℕ) (g : Group) (h : History) (γ : Ghost) (w : Fit g) (i : I
     inv = subst (λ (x : View). Inv (g .n) total x δ) (sym seen)
         (sent-inv (g .n) total v γ i a b lb normal us p lq (put-fits (g .packets) (endsOf s .to) q) paidImage paid);
     past = rw (no-cuts h′ g g′ (λ c e. ap (λ (s : State). isIn s Checkpointing) (sym (state-kept c)) ∙ e)) past′;
-    stays = calm-stays i (view g′) δ a _ _ (ap (λ (u : View). u .own) seen) (ap (λ (u : View). u .side) seen) (un-of (γ .big) (v .own a) (rw normal) (rw normal)) (rw normal) (λ f. f);
+    stays = calm-stays i (view g′) δ a _ _ (ap (λ (u : View). u .own) seen) (ap (λ (u : View). u .side) seen) (un-of (γ .big) (v .own a) (rw normal) (rw normal)) (rw normal) no-fault;
   }

@@ -37,6 +37,7 @@ use Rattle.claims.proofs.State.Methods.{sRegisters}
 use Rattle.claims.proofs.State.ViewMoves.{oImage, vTake, sim-take, sim-off, view-off}
 use Rattle.claims.proofs.Invariant.Facts.{Big, Mind, Wire, Ghost, Pair, Node, Books, Stream, SameTo, aware, unaware, linked, behind, closed, amountsIn, count, isInvalid, checkpLast, resumeFirst, Amounts, Fitting, Differ, amount}
 use Rattle.claims.proofs.Invariant.Whole.{Inv, PairAt, BooksAt, outOf, gotOf}
+use Rattle.claims.proofs.Invariant.Staying.{no-fault}
 use Rattle.claims.proofs.Invariant.Past.{Past, Kept, no-cuts, calm-stays, calm-error}
 use Rattle.claims.proofs.Invariant.Logs.{check-snoc, count-rest, small-snoc, fitting-snoc, fitting-at, fitting-drop, differ-none, only-alarms}
 use Rattle.claims.proofs.Invariant.Words.{un-of, un-works, un-not-aware, un-or-aware, linked-used, live-line}
@@ -432,5 +433,5 @@ module _ (total : ℕ) (g : Group) (γ : Ghost) (i : Inv (g .n) total (view g) �
       inv = subst (λ (x : View). Inv (g .n) total x δ) (sym seen)
           (taken-inv (g .n) total v γ i a b la q left lined calm fit image′ added);
       past = rw (no-cuts h′ g g′ (λ c e. ap (λ (s : State). isIn s Checkpointing) (sym (state-kept c)) ∙ e)) past′;
-      stays = calm-stays i (view g′) δ b _ _ (ap (λ (u : View). u .own) seen) (ap (λ (u : View). u .side) seen) calm (calm-error i b calm) (λ f. f);
+      stays = calm-stays i (view g′) δ b _ _ (ap (λ (u : View). u .own) seen) (ap (λ (u : View). u .side) seen) calm (calm-error i b calm) no-fault;
     }

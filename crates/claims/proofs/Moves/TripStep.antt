@@ -13,6 +13,7 @@ use Rattle.packet.specs.declared.Place.{Place}
 use Rattle.packet.specs.declared.Place.the-variants.{Tripped as AtTripped}
 use Rattle.state.specs.declared.State.{State}
 use Rattle.state.specs.declared.State.the-variants.{Checkpointing, Checkpointed, Error}
+use Rattle.state.specs.declared.Version.the-variants.{Lost}
 use Rattle.cabinet.specs.declared.Alarm.the-variants.{Fault as At}
 use Rattle.state.specs.State.{isIn, inRecovery, inSaving}
 use Rattle.table.specs.Table.{isAt}
@@ -76,7 +77,7 @@ module _ (total : ℕ) (g : Group) (h : History) (γ : Ghost) (fit : Fit g) (i :
   checks =
       split-or (cabinet g a .store) (some (recoveringOnes g)) (eqb (coordinator (cabinet g a)) a) (connected (rowsOf (g .sound)) (set (working g) a false)) fine
 
-  nobody : (c : ℕ) → inRecovery (v .own c .state) ≡ false
+  pub nobody : (c : ℕ) → inRecovery (v .own c .state) ≡ false
   nobody = openly.nobody total g γ fit i (checks .1)
 
   unfaulted : γ .big .faulted ≡ false
@@ -94,7 +95,7 @@ module _ (total : ℕ) (g : Group) (h : History) (γ : Ghost) (fit : Fit g) (i :
   flipped : Core (g .n) total v (gFaulted γ)
   flipped = openly.flipped total g γ fit i (checks .1)
 
-  seen : view g1 ≡ vDown v a
+  pub seen : view g1 ≡ vDown v a
   seen =
       sim-tripped (withTripsOf g a k) (fit-counted g a k fit) a la ∙ ap (λ (u : View). vTripped u a) (view-counted g a k) ∙ tripped-seen v a
 
@@ -106,8 +107,14 @@ module _ (total : ℕ) (g : Group) (h : History) (γ : Ghost) (fit : Fit g) (i :
   works-down : (c : ℕ) → workOf (vDown v a) c ≡ workOf v c
   works-down = trip-works (g .n) total v (gFaulted γ) flipped nobody refl a up (λ d. i .meets a d up)
 
-  own-down : (c : ℕ) → c ≢ a → vDown v a .own c ≡ v .own c
+  pub own-down : (c : ℕ) → c ≢ a → vDown v a .own c ≡ v .own c
   own-down = other-own (g .n) total v (gFaulted γ) flipped nobody refl a up (λ d. i .meets a d up)
+
+  -- it is in error and has no version
+  pub down-own : (view g1 .own a .state ≡ Error) × (view g1 .own a .version ≡ Lost)
+  down-own =
+      let e = ap (λ (u : View). u .own a) seen ∙ trip-own (g .n) total v (gFaulted γ) flipped nobody refl a up (λ d. i .meets a d up) in
+      (ap (λ (o : Own). o .state) e, ap (λ (o : Own). o .version) e)
 
   used-down : (c d : ℕ) → used (vDown v a .side c d) ≡ true → used (v .side c d) ≡ true
   used-down c d =
@@ -115,7 +122,7 @@ module _ (total : ℕ) (g : Group) (h : History) (γ : Ghost) (fit : Fit g) (i :
       (λ e u. ap (λ (j : ℕ). used (v .side j d)) e ∙ strike-used q a d (v .side a d) u) (λ n u. u)
 
   -- a neighbour is another cabinet: it was not in error
-  near-other : (c : ℕ) → near (vDown v a) a c ≡ true → c ≢ a
+  pub near-other : (c : ℕ) → near (vDown v a) a c ≡ true → c ≢ a
   near-other c e f =
       never (subst (λ (j : ℕ). used (vDown v a .side j a) ≡ true) f (and-true {s = workOf (vDown v a) c} e .1))
       (trip-unused (g .n) total v (gFaulted γ) flipped nobody refl a up (λ d. i .meets a d up))

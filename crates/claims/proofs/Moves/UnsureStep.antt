@@ -14,9 +14,10 @@ use Rattle.state.specs.declared.State.{State}
 use Rattle.state.specs.declared.State.the-variants.{Error, Recovering}
 use Rattle.state.specs.declared.Version.the-variants.{Unknown}
 use Rattle.state.specs.State.{isIn, inRecovery, isUnknown, bitOf}
+use Rattle.settled.specs.declared.Reason.the-variants.{Decided}
 use Rattle.cabinet.specs.Cabinet.{coordinator}
 use Rattle.group.specs.declared.Group.{Group}
-use Rattle.group.specs.Group.{cabinet, stateOf}
+use Rattle.group.specs.Group.{cabinet, stateOf, settle}
 use Rattle.protocol.specs.Moves.{recoverWith}
 use Rattle.protocol.specs.Kinds.{need, isUnsure, takesUnsure, unsureRefusal, reportUnsure, decideIfAll}
 use Rattle.protocol.specs.History.{History, noteCuts}
@@ -26,12 +27,12 @@ use Rattle.claims.proofs.State.View.{View, Own, Side, view}
 use Rattle.claims.proofs.State.Shape.{Shaped, Lined, Pictured, shaped}
 use Rattle.claims.proofs.State.Sim.{Fit}
 use Rattle.claims.proofs.State.Methods.{sMarks}
-use Rattle.claims.proofs.State.ViewMoves.{vUnsure, sim-unsure}
+use Rattle.claims.proofs.State.ViewMoves.{vUnsure, view-settle, sim-unsure}
 use Rattle.claims.proofs.Answers.Tests.{in-state}
 use Rattle.claims.proofs.Invariant.States.{error-recovers}
 use Rattle.claims.proofs.Invariant.Facts.{Big, Mind, Wire, Ghost, Pair, aware}
 use Rattle.claims.proofs.Invariant.Whole.{Inv, workOf, awareOf}
-use Rattle.claims.proofs.Invariant.Staying.{Goes, Reports, phase-same, goes-same, error-aware}
+use Rattle.claims.proofs.Invariant.Staying.{Goes, Reports, phase-same, goes-same, error-aware, no-fault}
 use Rattle.claims.proofs.Invariant.Past.{Past, Went, past-still, quiet-of}
 use Rattle.claims.proofs.Invariant.Words.{aware-works}
 use Rattle.claims.proofs.Invariant.Marking.{mark-inv}
@@ -90,7 +91,7 @@ module _ (total : ℕ) (g : Group) (h : History) (γ : Ghost) (w : Fit g) (i : I
   k-heir : k ≡ γ .big .heir
   k-heir = led-on (g .n) total v γ i a a-aware (checks .1)
 
-  k-below : k < 8
+  pub k-below : k < 8
   k-below = rw k-heir (heir-below (g .n) total v γ i lost)
 
   k-other : k ≢ γ .big .chief
@@ -162,7 +163,7 @@ module _ (total : ℕ) (g : Group) (h : History) (γ : Ghost) (w : Fit g) (i : I
     inv = inv1;
     past = past-still g g1 state1 past;
     reports = reports1;
-    goes = goes-same v γ (view g1) γ (λ c. phase-same (own1 c)) (λ f. f);
+    goes = goes-same v γ (view g1) γ (λ c. phase-same (own1 c)) no-fault;
   }
 
   -- ---- the decision
@@ -194,7 +195,7 @@ module _ (total : ℕ) (g : Group) (h : History) (γ : Ghost) (w : Fit g) (i : I
     k-works : workOf v k ≡ true
     k-works = aware-works (γ .big) (v .own k) k-aware
 
-    k-error : stateOf g k ≡ Error
+    pub k-error : stateOf g k ≡ Error
     k-error = in-state (stateOf g k) Error .0 (checks .3)
 
     pub old : (x : Bool) × (cabinet g k .phase .version ≡ Unknown x) × (x ≡ γ .big .topv)
@@ -207,18 +208,19 @@ module _ (total : ℕ) (g : Group) (h : History) (γ : Ghost) (w : Fit g) (i : I
     aware1 = ap (λ (o : Own). aware (γ .big) o) (own1 k) ∙ k-aware
 
     abbrev g2 : Group
-    g2 = recoverWith g1 k (bitOf (cabinet g1 k .phase .version))
+    g2 = settle (recoverWith g1 k (bitOf (cabinet g1 k .phase .version))) k Decided
 
     seen2 : view g2 ≡ vRecover (view g1) k (γ .big .topv)
     seen2 =
-        sim-recover′ (g .n) total g1 γ fit1 (inv1 .core) k (bitOf (cabinet g1 k .phase .version)) k-below aware1
+        view-settle _ k Decided
+        ∙ sim-recover′ (g .n) total g1 γ fit1 (inv1 .core) k (bitOf (cabinet g1 k .phase .version)) k-below aware1
         ∙ ap (vRecover (view g1) k) bit
 
     own-same : view g1 .own ≡ v .own
     own-same = fun-ext own1
 
     goes2 : Goes v γ (view g2) (gFrozen γ)
-    goes2 = goes-going total g h γ (gFrozen γ) g2 (view g1) k (γ .big .topv) own-same (λ f. f) k-aware seen2 i
+    goes2 = goes-going total g h γ (gFrozen γ) g2 (view g1) k (γ .big .topv) own-same no-fault k-aware seen2 i
 
     -- k is its own coordinator, so it has no mark at another in error
     left-error : (c : ℕ) → isIn (view g2 .own c .state) Error ≡ true → c ≢ k
@@ -226,7 +228,7 @@ module _ (total : ℕ) (g : Group) (h : History) (γ : Ghost) (w : Fit g) (i : I
         never e (ap (λ (j : ℕ). isIn (view g2 .own j .state) Error) q ∙ ap (λ (x : View). isIn (x .own k .state) Error) seen2
         ∙ ap (λ (o : Own). isIn (o .state) Error) (upd-same (view g1 .own) k _))
 
-    other2 : (c : ℕ) → c ≢ k → view g2 .own c ≡ v .own c
+    pub other2 : (c : ℕ) → c ≢ k → view g2 .own c ≡ v .own c
     other2 c n = ap (λ (x : View). x .own c) seen2 ∙ upd-other (view g1 .own) k _ c n ∙ own1 c
 
     known2 : isUnknown (view g2 .own k .version) ≡ false
@@ -254,7 +256,7 @@ module _ (total : ℕ) (g : Group) (h : History) (γ : Ghost) (w : Fit g) (i : I
           );
     }
 
-    goes-recovering : stateOf g2 k ≡ Recovering
+    pub goes-recovering : stateOf g2 k ≡ Recovering
     goes-recovering = ap (λ (x : View). x .own k .state) seen2 ∙ ap (λ (o : Own). o .state) (upd-same (view g1 .own) k _)
 
     decided : Went total g γ g2 (noteCuts h g g2)
@@ -262,7 +264,7 @@ module _ (total : ℕ) (g : Group) (h : History) (γ : Ghost) (w : Fit g) (i : I
       ghost = gFrozen γ;
       inv = subst (λ (x : View). Inv (g .n) total x (gFrozen γ)) (sym seen2)
           (decided-inv (g .n) total (view g1) γ inv1 lost k aware1 (state1 k ∙ k-error));
-      past = past-going total g h γ (gFrozen γ) g2 (view g1) k (γ .big .topv) own-same (λ f. f) k-aware seen2 (frozen-past (g .n) v γ h true past);
+      past = past-going total g h γ (gFrozen γ) g2 (view g1) k (γ .big .topv) own-same no-fault k-aware seen2 (frozen-past (g .n) v γ h true past);
       reports = reports2;
       goes = goes2;
     }

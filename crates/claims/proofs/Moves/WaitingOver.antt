@@ -31,7 +31,7 @@ use Rattle.claims.proofs.State.Sim.{Fit}
 use Rattle.claims.proofs.Answers.Tests.{in-state, those-marked}
 use Rattle.claims.proofs.Invariant.Facts.{Ghost}
 use Rattle.claims.proofs.Invariant.Whole.{Inv, workOf, awareOf}
-use Rattle.claims.proofs.Invariant.Staying.{Goes, Silent, error-aware}
+use Rattle.claims.proofs.Invariant.Staying.{Goes, Silent, error-aware, no-fault}
 use Rattle.claims.proofs.Invariant.Past.{Past, no-cuts, quiet-of}
 use Rattle.claims.proofs.Invariant.Words.{aware-works}
 use Rattle.claims.proofs.Moves.FirstFault.{gFrozen}
@@ -127,7 +127,7 @@ module _ (total : ℕ) (g : Group) (h : History) (γ : Ghost) (w : Fit g) (i : I
       (decided-inv (g .n) total (view g) γ i (wait-lost total g γ i a fine) a aw (in-state (stateOf g a) Error .0 (is-error total g γ i a fine)))
 
   pub waited-goes : Goes (view g) γ (view g′) (gFrozen γ)
-  waited-goes = goes-going total g h γ (gFrozen γ) g′ (view g) a (γ .big .topv) refl (λ f. f) aw seen i
+  waited-goes = goes-going total g h γ (gFrozen γ) g′ (view g) a (γ .big .topv) refl no-fault aw seen i
 
   other : (c : ℕ) → c ≢ a → view g′ .own c ≡ view g .own c
   other c n = ap (λ (x : View). x .own c) seen ∙ upd-other (view g .own) a _ c n
@@ -144,7 +144,7 @@ module _ (total : ℕ) (g : Group) (h : History) (γ : Ghost) (w : Fit g) (i : I
             ∙ ap (λ (o : Own). isIn (o .state) Checkpointing) (upd-same (view g .own) a _)))
         | no n ↦ ap (λ (o : Own). isIn (o .state) Checkpointing) (sym (other c n)) ∙ e
       ]))
-      (past-going total g h γ (gFrozen γ) g′ (view g) a (γ .big .topv) refl (λ f. f) aw seen (frozen-past (g .n) (view g) γ h true past))
+      (past-going total g h γ (gFrozen γ) g′ (view g) a (γ .big .topv) refl no-fault aw seen (frozen-past (g .n) (view g) γ h true past))
 
   pub waited-silent : Silent (view g) → Silent (view g′)
   waited-silent none c e d = elim (ℕ-discrete c a) [

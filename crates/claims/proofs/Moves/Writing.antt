@@ -38,7 +38,7 @@ use Rattle.claims.proofs.Invariant.Past.{Past, Kept, no-cuts, past-view
 use Rattle.claims.proofs.Invariant.Words.{un-works, un-not-aware, un-of, chief-of, lead-same}
 use Rattle.claims.proofs.Invariant.Frame.{same-ghost, moved, minded, move-pairs, move-nodes, move-books, move-leads, move-ground, move-places, move-meets, move-sums, quiet-inv}
 use Rattle.claims.proofs.Invariant.Marking.{mark-inv, past-mind}
-use Rattle.claims.proofs.Invariant.Staying.{Stays, phase-same, stays-marked}
+use Rattle.claims.proofs.Invariant.Staying.{Stays, phase-same, stays-marked, no-fault}
 use Rattle.claims.proofs.Moves.Pieces.{piece-more, all-pieces}
 
 -- in a saving state no fault is known
@@ -540,7 +540,7 @@ module _ (total : ℕ) (g : Group) (h : History) (γ : Ghost) (w : Fit g) (i : I
       (subst (λ (x : View). Inv (g .n) total x γ) (sym seen)
       (part-inv (g .n) total v γ a i calm cutting-now new (ltb-true (v .own a .pieces) 3 few) more)) past
       (λ c. subst (λ (x : View). (x .own c .state ≡ v .own c .state) ⊎ ((c ≡ a) × (x .own c .state ≡ Checkpointed))) (sym seen) (state-at o z c (inl refl))) refl
-      (calm-stays i (view (writePiece g a)) γ a _ _ (ap (λ (u : View). u .own) seen) (ap (λ (u : View). u .side) seen) calm (rw cutting-now) (λ f. f))
+      (calm-stays i (view (writePiece g a)) γ a _ _ (ap (λ (u : View). u .own) seen) (ap (λ (u : View). u .side) seen) calm (rw cutting-now) no-fault)
 
   -- ---- the last piece
 
@@ -615,9 +615,9 @@ module _ (total : ℕ) (g : Group) (h : History) (γ : Ghost) (w : Fit g) (i : I
         (past-mind (g .n) v γ h past a (mWrote (γ .mind a)) refl refl refl refl refl refl)
         (λ c. subst (λ (x : View). (x .own c .state ≡ v .own c .state) ⊎ ((c ≡ a) × (x .own c .state ≡ Checkpointed))) (sym seen-owed) (states-owed c))
         (kept-at (λ (x : Mind). x .joined) (γ .mind) a (mWrote (γ .mind a)) refl a)
-        (stays-marked (calm-stays i v1 γ1 a _ _ refl refl calm refl (λ f. f)) (view g2) γ1
+        (stays-marked (calm-stays i v1 γ1 a _ _ refl refl calm refl no-fault) (view g2) γ1
         (λ c. phase-same (ap (λ (x : View). x .own c) seen-owed ∙ kept-at (λ (x : Own). x) (v1 .own) home (v1 .own home) refl c))
-        (λ c d. ap (λ (x : View). x .side c d .unsure) seen-owed ∙ kept-pair (λ (x : Side). x .unsure) (v1 .side) home a _ refl c d) (λ f. f))
+        (λ c d. ap (λ (x : View). x .side c d .unsure) seen-owed ∙ kept-pair (λ (x : Side). x .unsure) (v1 .side) home a _ refl c d) no-fault)
 
   abbrev gw : Group
   gw = oweIf (not (ltb (cabinet g a .noted .pieces) 3)) (writePiece g a) (cabinet g a .home) a

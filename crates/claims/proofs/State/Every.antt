@@ -35,12 +35,15 @@ use Rattle.cabinet.specs.Alarm.{isFor}
 use Rattle.state.specs.State.{isIn, works, inRecovery, bitOf}
 use Rattle.image.specs.Image.{booking, firstNote, withOctet, withPiece}
 use Rattle.cabinet.specs.Cabinet.{absent, inUse, withImage, withState, withVersion, sending, taking, hurtFrom, beginning, comparing, cutting, wrote, owing, savedFor, resuming, alarmed, blanked, hearing, recovering, fetched, restoredFor, unsureFor, crashing}
+use Rattle.settled.specs.declared.Reason.{Reason}
+use Rattle.settled.specs.declared.Reason.the-variants.{Decided}
+use Rattle.settled.specs.declared.Settled.{Settled}
 use Rattle.outgoing.specs.declared.Outgoing.{Outgoing}
 use Rattle.group.specs.declared.Slots.{Slots}
 use Rattle.group.specs.declared.Group.{Group}
 use Rattle.group.specs.declared.Outcome.{Outcome}
 use Rattle.outgoing.specs.Lines.{emptyLines, lineTo, withLineTo, putIf, putRowTo, putAll, checkps, putCheckps}
-use Rattle.group.specs.Group.{cabinet, withCabinet, stateOf, outgoing, withOutgoing, line, withLine, blankSlots, slot, withSlot, rowsOf, withSound, working, some, recoveringOnes, tripsOf, withTripsOf, forgetTrips, taken, crashAll, crashed, withSlots}
+use Rattle.group.specs.Group.{cabinet, withCabinet, stateOf, outgoing, withOutgoing, line, withLine, blankSlots, slot, withSlot, rowsOf, withSound, working, some, recoveringOnes, tripsOf, withTripsOf, forgetTrips, withSettled, settle, settleOver, taken, crashAll, crashed, withSlots}
 use Rattle.protocol.specs.declared.Step.{Step}
 use Rattle.protocol.specs.declared.Step.the-variants.{Send, Note, Begin, Deliver, Write, Saved, Fetch, Restored, Fail, Damage, Lose, Trip, Unsure}
 use Rattle.protocol.specs.declared.Decoded.{Decoded}
@@ -372,10 +375,28 @@ module _ (C : Cabinet → Type 0) (L : Line → Type 0) (I : Image → Type 0) (
   unfolding recoverWith
   ok-recoverWith g i v h = ok-broadcast _ i (Recover v) refl (with-cabinet g i _ (k .recovering _ v (h .cabs i)) h)
 
-  pub ok-recoverIfKnown : (g : Group) (i : ℕ) (v : Version) → Ok g → Ok (recoverIfKnown g i v)
-  ok-recoverIfKnown g i (Known v) h = ok-recoverWith g i v h
-  ok-recoverIfKnown g i (Unknown v) h = h
-  ok-recoverIfKnown g i Lost h = h
+  -- who settled the recovery is told of no cabinet, line or slot
+  pub with-settled : (g : Group) (s : Settled) → Ok g → Ok (withSettled g s)
+  unfolding cabinet outgoing line slot
+  with-settled g s h = record {
+    frame = record { cabinets = h .frame .cabinets; outs = h .frame .outs; lines = h .frame .lines; store = h .frame .store };
+    cabs = h .cabs;
+    lines = h .lines;
+    slots = h .slots;
+  }
+
+  pub ok-settle : (g : Group) (i : ℕ) (r : Reason) → Ok g → Ok (settle g i r)
+  unfolding settle
+  ok-settle g i r h = with-settled g _ h
+
+  pub ok-settleOver : (g : Group) → Ok g → Ok (settleOver g)
+  unfolding settleOver
+  ok-settleOver g h = with-settled g _ h
+
+  pub ok-recoverIfKnown : (g : Group) (i : ℕ) (v : Version) (r : Reason) → Ok g → Ok (recoverIfKnown g i v r)
+  ok-recoverIfKnown g i (Known v) r h = ok-settle _ i r (ok-recoverWith g i v h)
+  ok-recoverIfKnown g i (Unknown v) r h = h
+  ok-recoverIfKnown g i Lost r h = h
 
   pub no-packets : Out emptyLines
   unfolding emptyLines lineTo
@@ -387,7 +408,7 @@ module _ (C : Cabinet → Type 0) (L : Line → Type 0) (I : Image → Type 0) (
 
   pub ok-enterError : (g : Group) (i : ℕ) (p : Place) → Ok g → Ok (enterError g i p)
   unfolding enterError
-  ok-enterError g i p h = ok-recoverIfKnown _ i (cabinet g i .phase .version) (ok-raise g i p h)
+  ok-enterError g i p h = ok-recoverIfKnown _ i (cabinet g i .phase .version) _ (ok-raise g i p h)
 
   pub ok-hear : (g : Group) (a b : ℕ) → Ok g → Ok (hear g a b)
   unfolding hear
@@ -599,12 +620,12 @@ module _ (C : Cabinet → Type 0) (L : Line → Type 0) (I : Image → Type 0) (
   unfolding endIfAll
   ok-endIfAll g i h =
       cond-elim Ok (isIn (stateOf g i) Recovered && covers (cabinet g i .noted .restored) (cabinet g i .table .cabinets))
-      (λ _. ok-endRecovery (noteLost g i) i (ok-noteLost g i h)) (λ _. h)
+      (λ _. ok-settleOver _ (ok-endRecovery (noteLost g i) i (ok-noteLost g i h))) (λ _. h)
 
   pub ok-decideIfAll : (g : Group) (i : ℕ) → Ok g → Ok (decideIfAll g i)
   unfolding decideIfAll
   ok-decideIfAll g i h =
-      cond-elim Ok (covers (cabinet g i .noted .unsure) (cabinet g i .table .cabinets)) (λ _. ok-recoverWith g i _ h) (λ _. h)
+      cond-elim Ok (covers (cabinet g i .noted .unsure) (cabinet g i .table .cabinets)) (λ _. ok-settle _ i Decided (ok-recoverWith g i _ h)) (λ _. h)
 
   pub ok-hurtIf : (t : Bool) (g : Group) (a b : ℕ) → Ok g → Ok (hurtIf t g a b)
   ok-hurtIf true g a b h = with-cabinet g b _ (k .hurtFrom _ a (h .cabs b)) h

@@ -18,6 +18,7 @@ use Rattle.line.specs.Line.{oldest, rest, packetAt, replaced}
 use Rattle.state.specs.declared.State.the-variants.{Normal, CheckpBegin, Checkpointed, Error, Recovered}
 use Rattle.state.specs.declared.Version.{Version}
 use Rattle.state.specs.declared.Version.the-variants.{Known, Unknown, Lost}
+use Rattle.settled.specs.declared.Reason.{Reason}
 use Rattle.cabinet.specs.declared.Alarm.{Alarm}
 use Rattle.cabinet.specs.declared.Alarm.the-variants.{Quiet, Fault as At}
 use Rattle.cabinet.specs.Alarm.{isFor}
@@ -25,12 +26,12 @@ use Rattle.state.specs.State.{isIn, inRecovery}
 use Rattle.cabinet.specs.Cabinet.{inUse}
 use Rattle.group.specs.declared.Group.{Group}
 use Rattle.group.specs.declared.Outcome.{Outcome}
-use Rattle.group.specs.Group.{cabinet, withCabinet, stateOf, withOutgoing, line, withLine, withSlot, withSlots, rowsOf, withSound, working, some, recoveringOnes, tripsOf, withTripsOf, forgetTrips, crashAll}
+use Rattle.group.specs.Group.{cabinet, withCabinet, stateOf, withOutgoing, line, withLine, withSlot, withSlots, rowsOf, withSound, working, some, recoveringOnes, tripsOf, withTripsOf, forgetTrips, settle, settleOver, crashAll}
 use Rattle.protocol.specs.declared.Step.{Step}
 use Rattle.protocol.specs.declared.Step.the-variants.{Send, Note, Begin, Deliver, Write, Saved, Fetch, Restored, Fail, Damage, Lose, Trip, Unsure}
 use Rattle.protocol.specs.declared.Decoded.{Decoded}
 use Rattle.protocol.specs.declared.Decoded.the-variants.{Malformed, Unused, Taken}
-use Rattle.protocol.specs.Moves.{broadcast, join, cutIfAll, takeCheckp, resumeWith, commit, adopt, recoverWith, recoverIfKnown, raise, enterError, hear, findLinkFault, emptiedTo, markFailed, trip, neighbours, enterErrorIf, alarmTo, endRecovery, noteAt, noteFor, noteLost}
+use Rattle.protocol.specs.Moves.{broadcast, join, cutIfAll, takeCheckp, resumeWith, commit, adopt, recoverWith, recoverIfKnown, raise, reasonFor, enterError, hear, findLinkFault, emptiedTo, markFailed, trip, neighbours, enterErrorIf, alarmTo, endRecovery, noteAt, noteFor, noteLost}
 use Rattle.protocol.specs.Receive.{serving, takes, joinIf, resumesFrom, receiveNormal, receiveCheckp, receiveResume, receiveRecover, receiveFault, receiveInvalid, receive}
 use Rattle.protocol.specs.Kinds.{orRefuse, sendStep, sendRefusal, sent, noteStep, noteRefusal, beginStep, beginRefusal, deliverStep, deliverRefusal, delivered, writeStep, writeRefusal, writePiece, oweIf, savedStep, savedRefusal, reportSaved, commitIfAll, fetchStep, fetchRefusal, fetchPiece, restoredStep, restoredRefusal, reportRestored, endIfAll, failStep, failCrashes, hurtIf, hurt, damageStep, damageRefusal, lost, loseStep, loseRefusal, tripStep, tripOnce, tripCrashes, unsureStep, unsureRefusal, reportUnsure, decideIfAll}
 use Rattle.protocol.specs.Entry.{step, stepDecoded, perform, entryRefusal, decode}
@@ -70,6 +71,14 @@ recover-fixed g i v = refl
 pub recover-n : (g : Group) (i : ℕ) (v : Bool) → recoverWith g i v .n ≡ g .n
 recover-n g i v = ap (λ (x : ℕ × PacketVersion). x .0) (recover-fixed g i v)
 
+settle-fixed : (g : Group) (i : ℕ) (r : Reason) → fixed (settle g i r) ≡ fixed g
+unfolding settle
+settle-fixed g i r = refl
+
+over-fixed : (g : Group) → fixed (settleOver g) ≡ fixed g
+unfolding settleOver
+over-fixed g = refl
+
 raise-fixed : (g : Group) (i : ℕ) (p : Place) → fixed (raise g i p) ≡ fixed g
 unfolding raise broadcast withOutgoing withCabinet
 raise-fixed g i p = refl
@@ -78,8 +87,8 @@ error-fixed : (g : Group) (i : ℕ) (p : Place) → fixed (enterError g i p) ≡
 unfolding enterError
 error-fixed g i p = go (cabinet g i .phase .version)
   where
-    go : (v : Version) → fixed (recoverIfKnown (raise g i p) i v) ≡ fixed g
-    go (Known v) = recover-fixed (raise g i p) i v ∙ raise-fixed g i p
+    go : (v : Version) → fixed (recoverIfKnown (raise g i p) i v (reasonFor (cabinet g i) i)) ≡ fixed g
+    go (Known v) = settle-fixed _ i _ ∙ recover-fixed (raise g i p) i v ∙ raise-fixed g i p
     go (Unknown v) = raise-fixed g i p
     go Lost = raise-fixed g i p
 
@@ -184,13 +193,13 @@ module _ (g : Group) where
   unfolding restoredStep reportRestored endIfAll endRecovery withCabinet
   restored-fixed a =
       refused (restoredRefusal g a) _
-      (cond-elim (λ (x : Group). fixed x ≡ fixed g) (isIn (stateOf _ _) Recovered && covers (cabinet _ _ .noted .restored) (cabinet _ _ .table .cabinets)) (λ _. resume-fixed _ _ _ ∙ note-fixed _ _) (λ _. refl))
+      (cond-elim (λ (x : Group). fixed x ≡ fixed g) (isIn (stateOf _ _) Recovered && covers (cabinet _ _ .noted .restored) (cabinet _ _ .table .cabinets)) (λ _. over-fixed _ ∙ resume-fixed _ _ _ ∙ note-fixed _ _) (λ _. refl))
 
   unsure-fixed : (a : ℕ) → Kept (unsureStep g a)
   unfolding unsureStep reportUnsure decideIfAll withCabinet
   unsure-fixed a =
       refused (unsureRefusal g a) _
-      (cond-elim (λ (x : Group). fixed x ≡ fixed g) (covers (cabinet _ _ .noted .unsure) (cabinet _ _ .table .cabinets)) (λ _. recover-fixed _ _ _) (λ _. refl))
+      (cond-elim (λ (x : Group). fixed x ≡ fixed g) (covers (cabinet _ _ .noted .unsure) (cabinet _ _ .table .cabinets)) (λ _. settle-fixed _ _ _ ∙ recover-fixed _ _ _) (λ _. refl))
 
   damage-fixed : (a b p : ℕ) (w : Pattern) → Kept (damageStep g a b p w)
   unfolding damageStep hurt withLine withOutgoing withCabinet

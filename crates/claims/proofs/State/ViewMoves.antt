@@ -29,6 +29,7 @@ use Rattle.state.specs.declared.State.{State}
 use Rattle.state.specs.declared.State.the-variants.{Failed, Normal, CheckpBegin, Checkpointing, Error, Recovering}
 use Rattle.cabinet.specs.declared.Alarm.{Alarm}
 use Rattle.cabinet.specs.declared.Alarm.the-variants.{Quiet, Fault as At}
+use Rattle.settled.specs.declared.Reason.{Reason}
 use Rattle.image.specs.declared.Image.{Image}
 use Rattle.cabinet.specs.declared.Cabinet.{Cabinet}
 use Rattle.image.specs.Image.{blankImage, charged, credited}
@@ -36,9 +37,9 @@ use Rattle.table.specs.Table.{isAt}
 use Rattle.cabinet.specs.Cabinet.{inUse, sending, taking, hurtFrom, beginning, comparing, owing, savedFor, resuming, alarmed, blanked, recovering, restoredFor, unsureFor, withState, withVersion}
 use Rattle.group.specs.declared.Group.{Group}
 use Rattle.outgoing.specs.Lines.{putAll, putCheckps, checkps, emptyLines, lineTo}
-use Rattle.group.specs.Group.{cabinet, withCabinets, withCabinet, outgoing, withOutgoing, line, withLine, slot, rowsOf, withTripsOf, forgetTrips}
+use Rattle.group.specs.Group.{cabinet, withCabinets, withCabinet, outgoing, withOutgoing, line, withLine, slot, rowsOf, withTripsOf, forgetTrips, settle, settleOver}
 use Rattle.protocol.specs.History.{upd}
-use Rattle.protocol.specs.Moves.{broadcast, join, resumeWith, recoverWith, recoverIfKnown, raise, enterError, hear, emptiedTo, markFailed, trip, noteAt, noteFor, noteLost}
+use Rattle.protocol.specs.Moves.{broadcast, join, resumeWith, recoverWith, recoverIfKnown, raise, reasonFor, enterError, hear, emptiedTo, markFailed, trip, noteAt, noteFor, noteLost}
 use Rattle.protocol.specs.Kinds.{carried, sent}
 use Rattle.claims.proofs.State.Fun.{upd-elim, upd-same, and-false}
 use Rattle.claims.proofs.State.Every.{getD-repeated, with-cabinet, with-outgoing, put-checkps, with-trips, out-of, no-packets, ok-emptied, ok-raise}
@@ -61,6 +62,16 @@ view-counted g a k = refl
 
 pub fit-counted : (g : Group) (a k : ℕ) → Fit g → Fit (withTripsOf g a k)
 fit-counted g a k w = with-trips Shaped Lined Pictured shaped g a k w
+
+-- ---- nor is who settled the recovery
+
+pub view-settle : (g : Group) (i : ℕ) (r : Reason) → view (settle g i r) ≡ view g
+unfolding cabinet outgoing line slot rowsOf settle
+view-settle g i r = refl
+
+pub view-over : (g : Group) → view (settleOver g) ≡ view g
+unfolding cabinet outgoing line slot rowsOf settleOver
+view-over g = refl
 
 -- ---- a packet on all lines in use of cabinet i
 
@@ -435,7 +446,7 @@ unfolding trip enterError
 sim-tripped g w a la =
     let one = with-cabinet Shaped Lined Pictured shaped g a (blanked (cabinet g a)) (shaped .blanked (cabinet g a) (w .cabs a)) w in
     let two = ok-raise Shaped Lined Pictured shaped (withCabinet g a (blanked (cabinet g a))) a (AtTripped a) one in
-    ap (λ (c : Cabinet). view (emptiedTo 8 (recoverIfKnown (raise (withCabinet g a (blanked (cabinet g a))) a (AtTripped a)) a (c .phase .version)) a))
+    ap (λ (c : Cabinet). view (emptiedTo 8 (recoverIfKnown (raise (withCabinet g a (blanked (cabinet g a))) a (AtTripped a)) a (c .phase .version) (reasonFor c a)) a))
     (cabinet-same g (w .frame) a (blanked (cabinet g a)) la)
     ∙ sim-emptied 8 _ a two (omega arith) la
     ∙ ap (λ (x : View). vEmptied 8 x a)

@@ -6,7 +6,7 @@ use Rattle.restoring.proofs.end_if_all.Tie as tie
 
 returns : tie.Need-returns
 unfolding endIfAll
-returns c = rw (c .end-recovery .ensures, c .before .note-lost .ensures, ← c .before .before .before .before .before .before .before .before .before .before .before .cabinet .ensures, ← c .before .before .before .before .before .before .state-of .ensures, ← c .before .before .before .before .before .is-in .ensures, ← c .before .before .before .before .covers .ensures, ← c .before .before .before .and .ensures, c .before .before .if1 .taken)
+returns c = rw (c .settle-over .ensures, c .before .end-recovery .ensures, c .before .before .note-lost .ensures, ← c .before .before .before .before .before .before .before .before .before .before .before .before .cabinet .ensures, ← c .before .before .before .before .before .before .before .state-of .ensures, ← c .before .before .before .before .before .before .is-in .ensures, ← c .before .before .before .before .before .covers .ensures, ← c .before .before .before .before .and .ensures, c .before .before .before .if1 .taken)
 
 returns-2 : tie.Need-returns-2
 unfolding endIfAll
@@ -14,6 +14,7 @@ returns-2 c = rw (← c .before .before .before .before .before .before .before 
 
 pub end-if-all-spec : {M : Type 1} → statement M
 end-if-all-spec = tie.close (tie.spec
+    (λ c κs. search needs)
     (λ c κs. search needs)
     (λ c κs. search needs)
     (λ c κs. search needs)

@@ -1,0 +1,3 @@
+-- What the line is, how long it is, and what it needs of its files.
+pub mod Prefix
+pub mod Whole
