@@ -3,17 +3,20 @@
 
 mod hurts;
 pub mod losses;
+pub mod pairs;
 pub mod plans;
 mod trips;
 mod unsure;
 pub mod words;
+mod workshop;
 
 use crate::model::{
-    self, Crash, Ends, Event, Group, Number, Outcome, Packet, PacketVersion, State, CRASHED, KINDS,
-    TAKEN, WITHDRAWN_KIND,
+    self, Crash, Ends, Event, Group, Number, Outcome, Packet, PacketVersion, State, CRASHED,
+    FIRST_NOTE, KINDS, TAKEN, WITHDRAWN_KIND, WORKSHOP_P,
 };
 use hurts::damage_at;
 use std::collections::VecDeque;
+use std::ops::Range;
 use unsure::Doubt;
 
 pub type Record = [u8; 6];
@@ -100,7 +103,7 @@ pub fn case_seed(seed: u64, index: u64) -> u64 {
 pub fn make_case(seed: u64, wishes: Wishes) -> Case {
     let mut dice = Dice::new(seed);
     let draft = draft_that_may_lose_its_lead(&mut dice, wishes.cabinets);
-    let damaged = wishes.cabinets.is_none() && dice.per_thousand(110);
+    let damaged = wishes.cabinets.is_none() && dice.per_thousand(130);
     let (group, length) = if damaged {
         (damaged_group_file(&mut dice, draft), dice.below(5))
     } else {
@@ -146,8 +149,8 @@ fn steps_length(dice: &mut Dice, wishes: Wishes) -> usize {
 struct CabinetDraft {
     home: u8,
     mark: u8,
-    /// A's and B's.
-    bookings: [u16; 2],
+    /// A's, B's and the workshop's.
+    bookings: [u16; 3],
 }
 
 #[derive(Clone)]
@@ -177,8 +180,8 @@ impl GroupDraft {
     fn header(&self) -> Vec<u16> {
         let (n, links) = (self.cabinets.len() as u16, self.links.len() as u16);
         match self.version {
-            PacketVersion::One => vec![n, links, 10, 10 + 6 * n, 10 + 6 * n + 2 * links],
-            PacketVersion::Two => vec![n, links, 12, 12 + 6 * n, 12 + 6 * n + 2 * links, 2],
+            PacketVersion::One => vec![n, links, 10, 10 + 8 * n, 10 + 8 * n + 2 * links],
+            PacketVersion::Two => vec![n, links, 12, 12 + 8 * n, 12 + 8 * n + 2 * links, 2],
         }
     }
 
@@ -210,9 +213,19 @@ fn store_marks(dice: &mut Dice, n: usize) -> Vec<bool> {
     marks
 }
 
+/// Now and then each party has booked all that it may.
+fn bookings(dice: &mut Dice, n: usize) -> Vec<[u16; 3]> {
+    let (buses, workshop) = if dice.per_thousand(30) {
+        (pairs(&shares(dice, 65_535, 2 * n)), shares(dice, 65_535, n))
+    } else {
+        (bookings_of_buses(dice, n), workshop::bookings(dice, n))
+    };
+    buses.into_iter().zip(workshop).map(|([a, b], workshop)| [a, b, workshop]).collect()
+}
+
 /// Mostly at both outlets; now and then one of them has nothing anywhere, or one outlet of one
 /// cabinet has nearly all: it can send any amount.
-fn bookings(dice: &mut Dice, n: usize) -> Vec<[u16; 2]> {
+fn bookings_of_buses(dice: &mut Dice, n: usize) -> Vec<[u16; 2]> {
     let total = match dice.below(8) {
         0 => 65_535,
         1 => 65_534,
@@ -223,14 +236,17 @@ fn bookings(dice: &mut Dice, n: usize) -> Vec<[u16; 2]> {
         0 => shares(dice, total, n).into_iter().map(|share| [share, 0]).collect(),
         1 => shares(dice, total, n).into_iter().map(|share| [0, share]).collect(),
         2 | 3 => nearly_all_at_one(dice, n),
-        _ => shares(dice, total, 2 * n).chunks(2).map(|pair| [pair[0], pair[1]]).collect(),
+        _ => pairs(&shares(dice, total, 2 * n)),
     }
+}
+
+fn pairs(shares: &[u16]) -> Vec<[u16; 2]> {
+    shares.chunks(2).map(|pair| [pair[0], pair[1]]).collect()
 }
 
 fn nearly_all_at_one(dice: &mut Dice, n: usize) -> Vec<[u16; 2]> {
     let rest = dice.below(10_000);
-    let mut booked: Vec<[u16; 2]> =
-        shares(dice, rest, 2 * n).chunks(2).map(|pair| [pair[0], pair[1]]).collect();
+    let mut booked = pairs(&shares(dice, rest, 2 * n));
     let more = dice.between(30_000, 65_535 - rest) as u16;
     booked[dice.below(n)][dice.below(2)] += more;
     booked
@@ -293,14 +309,15 @@ fn ring(n: u8) -> Vec<(u8, u8)> {
 /// Aims at one of the refusals 1 to 7, now and then at two, changes any octet, or mixes the
 /// packet versions.
 fn damaged_group_file(dice: &mut Dice, mut draft: GroupDraft) -> Vec<u8> {
-    let aims = [dice.between(1, 14), dice.between(1, 14)];
+    let aims = [dice.between(1, 18), dice.between(1, 18)];
     let aims = &aims[..1 + usize::from(dice.per_thousand(250))];
     for &aim in aims {
         match aim {
             4 => damage_cabinet_entry(dice, &mut draft),
             5 => damage_link_entry(dice, &mut draft),
             6 => disconnect(dice, &mut draft),
-            7 => overbook(dice, &mut draft),
+            7 | 9 => overbook(dice, &mut draft, 0..2),
+            10..=12 => overbook(dice, &mut draft, 2..3),
             _ => {}
         }
     }
@@ -311,7 +328,7 @@ fn damaged_group_file(dice: &mut Dice, mut draft: GroupDraft) -> Vec<u8> {
             2 => damage_n(dice, &mut file),
             3 => damage_layout(dice, &mut file),
             8 => damage_any_octet(dice, &mut file),
-            9.. => mix_versions(dice, &mut file, draft.version),
+            13.. => mix_versions(dice, &mut file, draft.version),
             _ => {}
         }
     }
@@ -352,20 +369,22 @@ fn disconnect(dice: &mut Dice, draft: &mut GroupDraft) {
     draft.links.retain(|&(low, high)| low != lonely && high != lonely);
 }
 
-/// One ampere too many, or far too many at one outlet or both.
-fn overbook(dice: &mut Dice, draft: &mut GroupDraft) {
-    let booked = draft.cabinets.iter().flat_map(|cabinet| cabinet.bookings);
-    let total: u32 = booked.map(u32::from).sum();
+/// By a party that has these bookings of a cabinet: one ampere too many, or far too many at one
+/// of them or all.
+fn overbook(dice: &mut Dice, draft: &mut GroupDraft, of_party: Range<usize>) {
+    let booked = draft.cabinets.iter().flat_map(|cabinet| &cabinet.bookings[of_party.clone()]);
+    let total: u32 = booked.copied().map(u32::from).sum();
     let index = dice.below(draft.cabinets.len());
-    let booking = &mut draft.cabinets[index].bookings[dice.below(2)];
+    let any = of_party.start + dice.below(of_party.len());
+    let booking = &mut draft.cabinets[index].bookings[any];
     let others = total - u32::from(*booking);
     if dice.per_thousand(500) && (1..=65_536).contains(&others) {
         *booking = (65_536 - others) as u16;
         return;
     }
-    let (first, last) = dice.pick(&[(0, 0), (1, 1), (0, 1)]);
+    let overbooked = if dice.per_thousand(333) { of_party } else { any..any + 1 };
     for cabinet in &mut draft.cabinets {
-        cabinet.bookings[first..=last].fill(50_000);
+        cabinet.bookings[overbooked.clone()].fill(50_000);
     }
 }
 
@@ -492,6 +511,8 @@ struct Temper {
     stumbler: Option<Number>,
     /// Chance of a trip where others are about to find a link fault or to commit.
     sly: usize,
+    /// Chance that a send is one of the workshop.
+    workshop: usize,
 }
 
 fn some_cabinet(dice: &mut Dice, group: &Group, chance: usize) -> Option<Number> {
@@ -535,6 +556,7 @@ impl Temper {
             talker: some_cabinet(dice, group, 300),
             stumbler: some_stumbler(dice, group),
             sly: if wishes.trips() { dice.pick(&[0, 50, 300]) } else { 0 },
+            workshop: dice.pick(&[50, 300, 300, 500, 900]),
         }
     }
 
@@ -850,6 +872,9 @@ impl Run<'_> {
     }
 
     fn sensible_send(&mut self) -> Option<Record> {
+        if self.dice.per_thousand(15) {
+            return self.sends_that_fill_a_line();
+        }
         let (from, to) = self.line_to_send_on()?;
         let p = self.p_to_send_with(from);
         let amount = self.amount_to_send(from, p);
@@ -860,36 +885,41 @@ impl Run<'_> {
         (self.taken(&record) || self.dice.per_thousand(100)).then_some(record)
     }
 
-    /// Any outlets, but seldom from one that has nothing.
+    /// Any bookings of either party, but seldom from one that has nothing.
     fn p_to_send_with(&mut self, from: Number) -> u8 {
-        let p = self.dice.below(4) as u8;
-        let other_sender = p ^ 2;
+        let of_buses = self.dice.below(4) as u8;
+        let workshop = self.temper.workshop;
+        let (p, another) = if self.dice.per_thousand(workshop) {
+            (WORKSHOP_P, of_buses)
+        } else {
+            (of_buses, of_buses ^ 2)
+        };
         if self.booking_behind(from, p) == 0 && self.dice.per_thousand(900) {
-            other_sender
+            another
         } else {
             p
         }
     }
 
     fn p_that_names_nothing(&mut self) -> u8 {
-        let any = self.dice.between(4, 255) as u8;
-        self.dice.pick(&[4, 5, 6, 7, 128, 255, any, any])
+        let any = self.dice.between(5, 255) as u8;
+        self.dice.pick(&[5, 5, 6, 7, 128, 255, any, any])
     }
 
-    /// The booking of the outlet that p sends from.
+    /// The booking that p sends from.
     fn booking_behind(&self, from: Number, p: u8) -> u16 {
-        let ends = Ends::of(p).expect("p is drawn from 0 to 3");
+        let ends = Ends::of(p).expect("p is drawn from 0 to 4");
         self.group.cabinet(from).booking(ends.sending())
     }
 
-    /// About the booking now and then; above it also what the other outlet would have covered.
+    /// About the booking now and then; above it also what the others would have covered.
     fn amount_to_send(&mut self, from: Number, p: u8) -> u16 {
         let booking = usize::from(self.booking_behind(from, p));
-        let both: usize = self.group.cabinet(from).bookings().map(usize::from).iter().sum();
+        let all: usize = self.group.cabinet(from).bookings().map(usize::from).iter().sum();
         let amount = match self.dice.below(30) {
             0 => booking,
             1 => booking + 1,
-            2 => self.dice.between(booking + 1, both + 1),
+            2 => self.dice.between(booking + 1, all + 1),
             3..=10 => self.dice.between(0, booking),
             _ => self.dice.between(1, 1 + booking / 8),
         };
@@ -910,11 +940,12 @@ impl Run<'_> {
 
     fn sensible_note(&mut self) -> Option<Record> {
         let value = u16::from(self.dice.octet());
-        if self.dice.per_thousand(50) {
-            let octet_of_b = self.dice.between(2, 3) as u8;
-            return Some(record(2, self.any_cabinet(), 0, octet_of_b, value));
+        if self.dice.per_thousand(70) {
+            let octet_of_a_booking = self.dice.between(2, 5) as u8;
+            return Some(record(2, self.any_cabinet(), 0, octet_of_a_booking, value));
         }
-        let octet = self.dice.between(4, 31) as u8;
+        let first = self.dice.per_thousand(100);
+        let octet = if first { FIRST_NOTE } else { self.dice.between(6, 31) as u8 };
         let record = record(2, self.any_cabinet(), 0, octet, value);
         self.taken(&record).then_some(record)
     }
@@ -1066,14 +1097,14 @@ impl Run<'_> {
         }
     }
 
-    /// The outlets of a send, the octet of a note or the place of a damage or loss.
+    /// The bookings of a send, the octet of a note or the place of a damage or loss.
     fn strange_p(&mut self, kind: u8) -> u8 {
         if kind == 1 && self.dice.per_thousand(700) {
-            return self.dice.below(4) as u8;
+            return self.dice.below(5) as u8;
         }
         let any = self.dice.octet();
         let small = self.dice.below(12) as u8;
-        self.dice.pick(&[0, 1, 2, 3, 4, 31, 32, 255, small, small, any])
+        self.dice.pick(&[0, 1, 2, 3, 4, 5, 6, 31, 32, 255, small, small, any])
     }
 
     fn strange_value(&mut self) -> u16 {
@@ -1118,11 +1149,13 @@ mod tests {
     use super::*;
     use crate::listing::{counted_listing, Tally};
     use crate::losses::{Finding, Refused};
-    use crate::model::Outlet;
+    use crate::model::{Account, Party};
     use crate::outlets::Cover;
     use crate::own_checks::{Dropped, Found, Hit, Misfit, Mixed};
     use crate::trips::Between;
     use crate::unsure::{Lost, Refusal};
+    use crate::workshop::{self, Overbooked, Totals};
+    use std::collections::BTreeMap;
 
     fn wishes(damage: bool) -> Wishes {
         Wishes { damage, highest_kind: KINDS, cabinets: None }
@@ -1178,7 +1211,7 @@ mod tests {
     fn the_cases_reach_what_packets_own_checks_bring() {
         let counts = tally_of(1000, wishes(true)).own_checks;
         let versions = [PacketVersion::One, PacketVersion::Two];
-        assert!(counts.groups.keys().eq(&versions) && counts.groups.values().all(|&n| n > 400));
+        assert!(counts.groups.keys().eq(&versions) && counts.groups.values().all(|&n| n > 380));
         assert!(counts.loads_refused.keys().eq(&Mixed::ALL));
         let two = |hit: Hit| (PacketVersion::Two, hit);
         let hits = [(PacketVersion::One, Hit::Amount), two(Hit::Amount), two(Hit::OwnCheck)];
@@ -1263,15 +1296,34 @@ mod tests {
     }
 
     #[test]
+    fn the_cases_reach_what_the_workshop_brings() {
+        let counts = tally_of(1000, wishes(true)).workshop;
+        let of_each = |counts: &BTreeMap<Party, u64>| counts.keys().eq(&Party::ALL);
+        assert!(counts.totals.keys().eq(&Totals::ALL));
+        let refused = &counts.loads_refused;
+        assert!(Overbooked::BY_ONE_PARTY.iter().all(|by| refused.contains_key(by)));
+        assert!(of_each(&counts.sends_taken) && of_each(&counts.sends_beyond_four));
+        assert!(counts.lines_filled > 50 && counts.lines_full.len() == 4);
+        assert!(counts.lines_full.values().all(|&full| full > 20));
+        assert!(of_each(&counts.otherwise_covered) && of_each(&counts.refused_after_the_other));
+        assert!(counts.notes.keys().eq(&[(4, 15), (5, 15), (6, 0)]));
+        assert!(counts.hurt.len() == 4 && counts.wraps > 0);
+        assert!(counts.found.keys().eq(&workshop::Found::ALL));
+        assert!(counts.recoveries_after_find.keys().eq(&workshop::Found::ALL));
+        assert!(counts.trips > 100 && counts.recoveries_changing > 100);
+        assert!(counts.commits_changing > 100);
+    }
+
+    #[test]
     fn the_cases_reach_what_two_outlets_bring() {
         let counts = tally_of(600, wishes(true)).outlets;
-        assert!(counts.sends_taken.keys().eq(&[Ends::AA, Ends::AB, Ends::BA, Ends::BB]));
-        assert!(counts.packets_taken.keys().eq(&[Outlet::A, Outlet::B]));
+        assert!(counts.sends_taken.keys().eq(&Ends::ALL));
+        assert!(counts.packets_taken.keys().eq(&Account::ALL));
         let covers = [Cover::OtherOutlet, Cover::BothTogether];
         assert!(counts.sends_otherwise_covered.keys().eq(&covers));
         assert!(counts.notes_refused_at.keys().eq(&[2, 3]));
         assert!(counts.sends_refused_for_p > 0 && counts.recoveries_changing_b > 0);
-        assert!(counts.faults_by_comparison.keys().eq(&[Outlet::A, Outlet::B]));
+        assert!(counts.faults_by_comparison.keys().eq(&Account::ALL));
         assert!(counts.loads_refused_for_b > 0);
     }
 }

@@ -2,6 +2,7 @@
 
 use crate::listing::Tally;
 use crate::own_checks::OwnCheckCounts;
+use crate::workshop::WorkshopCounts;
 use std::collections::{BTreeMap, BTreeSet};
 use std::fmt::Debug;
 
@@ -91,6 +92,7 @@ fn marks(tally: &Tally) -> BTreeSet<String> {
     add_keys(&mut marks, "decision", &unsure.decisions);
     add_keys(&mut marks, "recovery decided", &unsure.recoveries_ended);
     add_own_check_marks(&mut marks, &tally.own_checks);
+    add_workshop_marks(&mut marks, &tally.workshop);
     add_keys(&mut marks, "point", &tally.point_answers);
     add_keys(&mut marks, "return", &tally.return_answers);
     add_keys(&mut marks, "sight", &tally.sights);
@@ -111,6 +113,29 @@ fn add_own_check_marks(marks: &mut BTreeSet<String>, counts: &OwnCheckCounts) {
     add_keys(marks, "hurt dropped", &counts.dropped);
     add_keys(marks, "recovery after a hurt", &counts.recoveries_ended);
     add_keys(marks, "commit after a hurt", &counts.commits_after_recovery);
+}
+
+fn add_workshop_marks(marks: &mut BTreeSet<String>, counts: &WorkshopCounts) {
+    let numbers = [
+        ("line filled", counts.lines_filled),
+        ("workshop's wrap", counts.wraps),
+        ("workshop's trip", counts.trips),
+        ("recovery changing the workshop's", counts.recoveries_changing),
+        ("commit changing the workshop's", counts.commits_changing),
+    ];
+    let reached = numbers.iter().filter(|(_, count)| *count > 0);
+    marks.extend(reached.map(|(name, _)| name.to_string()));
+    add_keys(marks, "totals", &counts.totals);
+    add_keys(marks, "overbooked", &counts.loads_refused);
+    add_keys(marks, "send of", &counts.sends_taken);
+    add_keys(marks, "beyond four", &counts.sends_beyond_four);
+    add_keys(marks, "line full for", &counts.lines_full);
+    add_keys(marks, "covered by the other's", &counts.otherwise_covered);
+    add_keys(marks, "note at", &counts.notes);
+    add_keys(marks, "workshop's hurt", &counts.hurt);
+    add_keys(marks, "hurt after the other's", &counts.refused_after_the_other);
+    add_keys(marks, "workshop's hurt found", &counts.found);
+    add_keys(marks, "recovery after the workshop's", &counts.recoveries_after_find);
 }
 
 fn add_keys<K: Debug>(marks: &mut BTreeSet<String>, name: &str, counts: &BTreeMap<K, u64>) {

@@ -8,7 +8,6 @@ use crate::shrink::shrink;
 use std::path::{Path, PathBuf};
 use std::process::{Command, Stdio};
 use std::sync::atomic::{AtomicU64, Ordering};
-use std::sync::Mutex;
 use std::{fs, io};
 
 const WORKERS: usize = 2;
@@ -24,13 +23,6 @@ pub struct Difference {
 pub struct Comparison {
     pub difference: Option<Difference>,
     pub tally: Tally,
-}
-
-/// What the workers share.
-struct Board {
-    next: AtomicU64,
-    lowest_difference: AtomicU64,
-    result: Mutex<io::Result<Comparison>>,
 }
 
 /// Which cases are made: their form, their seed and what is wished of them.
@@ -54,61 +46,50 @@ impl Row {
 
 pub fn compare(program: &Path, row: Row) -> io::Result<Comparison> {
     let program = whole_path(program);
-    let empty = Comparison { difference: None, tally: Tally::default() };
-    let board = Board {
-        next: AtomicU64::new(0),
-        lowest_difference: AtomicU64::new(row.cases),
-        result: Mutex::new(Ok(empty)),
-    };
-    std::thread::scope(|scope| {
-        for _ in 0..WORKERS {
-            scope.spawn(|| board.note(work(&board, &program, row)));
-        }
-    });
-    board.result.into_inner().expect("no worker panicked")
-}
-
-/// The program is started from another folder, so its path must not hang on this one.
-fn whole_path(program: &Path) -> PathBuf {
-    program.canonicalize().unwrap_or_else(|_| program.to_path_buf())
-}
-
-/// Compares cases until none is left below the lowest difference found.
-fn work(board: &Board, program: &Path, row: Row) -> io::Result<Comparison> {
-    let mut tally = Tally::default();
-    loop {
-        let index = board.next.fetch_add(1, Ordering::SeqCst);
-        if index >= board.lowest_difference.load(Ordering::SeqCst) {
-            return Ok(Comparison { difference: None, tally });
-        }
+    let look = |index: u64, tally: &mut Tally| {
         let case = row.case(index);
         let (expected, counts) = row.counted_text(&case);
         tally.add(&counts);
-        if run_program(program, row.form, &case, index % 2 == 1)? != expected.as_bytes() {
-            board.lowest_difference.fetch_min(index, Ordering::SeqCst);
-            let difference = Some(Difference { index, case });
-            return Ok(Comparison { difference, tally });
-        }
-    }
+        let printed = run_program(&program, row.form, &case, index % 2 == 1)?;
+        Ok((printed != expected.as_bytes()).then_some(Difference { index, case }))
+    };
+    let (difference, tallies) = search(row.cases, look)?;
+    let mut tally = Tally::default();
+    tallies.iter().for_each(|part| tally.add(part));
+    Ok(Comparison { difference: difference.map(|(_, found)| found), tally })
 }
 
-impl Board {
-    fn note(&self, part: io::Result<Comparison>) {
-        let mut result = self.result.lock().expect("no worker panicked");
-        match (result.as_mut(), part) {
-            (Ok(whole), Ok(part)) => whole.join(part),
-            (Ok(_), Err(error)) => *result = Err(error),
-            (Err(_), _) => {}
-        }
-    }
+/// The program is started from another folder, so its path must not hang on this one.
+pub(crate) fn whole_path(program: &Path) -> PathBuf {
+    program.canonicalize().unwrap_or_else(|_| program.to_path_buf())
 }
 
-impl Comparison {
-    fn join(&mut self, other: Comparison) {
-        self.tally.add(&other.tally);
-        let first = [self.difference.take(), other.difference].into_iter().flatten();
-        self.difference = first.min_by_key(|difference| difference.index);
-    }
+/// Looks at each index of a row, with some workers, until none is left below the lowest at which
+/// something is found. Answers that, and what each worker has counted.
+pub(crate) fn search<Found: Send, Counts: Default + Send>(
+    length: u64,
+    look: impl Fn(u64, &mut Counts) -> io::Result<Option<Found>> + Sync,
+) -> io::Result<(Option<(u64, Found)>, Vec<Counts>)> {
+    let (next, lowest) = (AtomicU64::new(0), AtomicU64::new(length));
+    let work = || -> io::Result<(Option<(u64, Found)>, Counts)> {
+        let mut counts = Counts::default();
+        loop {
+            let index = next.fetch_add(1, Ordering::SeqCst);
+            if index >= lowest.load(Ordering::SeqCst) {
+                return Ok((None, counts));
+            }
+            if let Some(found) = look(index, &mut counts)? {
+                lowest.fetch_min(index, Ordering::SeqCst);
+                return Ok((Some((index, found)), counts));
+            }
+        }
+    };
+    let parts: io::Result<Vec<_>> = std::thread::scope(|scope| {
+        let workers: Vec<_> = (0..WORKERS).map(|_| scope.spawn(work)).collect();
+        workers.into_iter().map(|worker| worker.join().expect("no worker panics")).collect()
+    });
+    let (found, counts): (Vec<_>, Vec<_>) = parts?.into_iter().unzip();
+    Ok((found.into_iter().flatten().min_by_key(|(index, _)| *index), counts))
 }
 
 /// What the program prints for a case. An empty file may be left out of the folder.
@@ -155,7 +136,7 @@ pub fn shrunk_report(program: &Path, difference: &Difference, row: Row) -> io::R
     ))
 }
 
-fn hex(octets: &[u8]) -> String {
+pub(crate) fn hex(octets: &[u8]) -> String {
     octets.iter().map(|octet| format!("{octet:02x}")).collect()
 }
 

@@ -2,7 +2,7 @@
 //! steps, points taken and returns, and counts of what happened on the way.
 
 use crate::listing::{count, list_cabinets, Counter, Tally, RECORDS_READ};
-use crate::model::{self, booking_in, Event, Group, Number, Outlet, TAKEN};
+use crate::model::{self, booking_in, Account, Event, Group, Number, TAKEN};
 use crate::points::{Name, Points};
 use std::collections::{BTreeMap, BTreeSet};
 use std::fmt::Write;
@@ -58,6 +58,11 @@ impl Evening {
         Evening { group, points, highest_kind, watch, counter }
     }
 
+    /// What is counted so far.
+    pub fn tally(&self) -> &Tally {
+        &self.counter.tally
+    }
+
     /// The answer to one record of the plan.
     pub fn take_record(&mut self, record: &[u8]) -> u8 {
         match operation(record) {
@@ -100,7 +105,10 @@ impl Evening {
         if answer == TAKEN {
             let sights = self.watch.after_point(&self.group, name, replaces);
             self.count_sights(sights);
-            self.count_sights(seen(&[(Sight::PointWithB, self.keeps_b(name))]));
+            self.count_sights(seen(&[
+                (Sight::PointWithB, self.keeps(name, Account::B)),
+                (Sight::PointWithWorkshop, self.keeps(name, Account::Workshop)),
+            ]));
         }
         answer
     }
@@ -113,19 +121,23 @@ impl Evening {
             let after = bookings(&self.group);
             let sights = self.watch.after_return(&self.group, name, after != before);
             self.count_sights(sights);
-            let changes_b = before.iter().zip(&after).any(|(old, new)| old[1] != new[1]);
+            let mut both = before.iter().zip(&after);
+            let changes_b = both.clone().any(|(old, new)| old[1] != new[1]);
+            let changes_workshop = both.any(|(old, new)| old[2] != new[2]);
             self.count_sights(seen(&[
-                (Sight::ReturnWithB, self.keeps_b(name)),
+                (Sight::ReturnWithB, self.keeps(name, Account::B)),
                 (Sight::ReturnChangesB, changes_b),
+                (Sight::ReturnWithWorkshop, self.keeps(name, Account::Workshop)),
+                (Sight::ReturnChangesWorkshop, changes_workshop),
             ]));
         }
         answer
     }
 
-    /// Whether the point of this name has something booked at B.
-    fn keeps_b(&self, name: Name) -> bool {
+    /// Whether the point of this name has something booked there.
+    fn keeps(&self, name: Name, account: Account) -> bool {
         let images = self.points.images(name).unwrap_or_default();
-        images.iter().any(|image| booking_in(image, Outlet::B) != 0)
+        images.iter().any(|image| booking_in(image, account) != 0)
     }
 
     fn count_sights(&mut self, sights: Vec<Sight>) {
@@ -133,7 +145,7 @@ impl Evening {
     }
 }
 
-fn bookings(group: &Group) -> Vec<[u16; 2]> {
+fn bookings(group: &Group) -> Vec<[u16; 3]> {
     group.numbers().map(|number| group.cabinet(number).bookings()).collect()
 }
 
@@ -176,6 +188,10 @@ pub enum Sight {
     PointWithB,
     ReturnWithB,
     ReturnChangesB,
+    /// The workshop has something booked in an image of the point.
+    PointWithWorkshop,
+    ReturnWithWorkshop,
+    ReturnChangesWorkshop,
     ReturnChangesBookings,
     ReturnWithFailed,
     /// A cabinet failed between the point and the return.
@@ -186,6 +202,8 @@ pub enum Sight {
     RecoveryToReturn,
     /// The same, and the recovery changed a booking.
     RecoveryToReturnChangesBookings,
+    /// The same, a booking of the workshop.
+    RecoveryToReturnChangesWorkshop,
     /// The only commit since the last return was passed over.
     PassedOverToReturn,
     /// A return set a failed cabinet's image, a commit came, and then a recovery ended.
@@ -197,7 +215,7 @@ pub enum Sight {
 }
 
 impl Sight {
-    pub const ALL: [Sight; 18] = [
+    pub const ALL: [Sight; 22] = [
         Sight::MalformedRecord,
         Sight::PointReplaced,
         Sight::PointOfTheStart,
@@ -206,12 +224,16 @@ impl Sight {
         Sight::PointWithB,
         Sight::ReturnWithB,
         Sight::ReturnChangesB,
+        Sight::PointWithWorkshop,
+        Sight::ReturnWithWorkshop,
+        Sight::ReturnChangesWorkshop,
         Sight::ReturnChangesBookings,
         Sight::ReturnWithFailed,
         Sight::ReturnOverFail,
         Sight::ReturnWithHurtLine,
         Sight::RecoveryToReturn,
         Sight::RecoveryToReturnChangesBookings,
+        Sight::RecoveryToReturnChangesWorkshop,
         Sight::PassedOverToReturn,
         Sight::RecoveryWithSetImageAfterCommit,
         Sight::RecoveryFromTripToReturn,
@@ -233,7 +255,7 @@ struct Watch {
     /// The failed cabinets when each point was taken.
     failed_at_point: BTreeMap<Name, BTreeSet<Number>>,
     /// The bookings of working cabinets before the recovery under way.
-    bookings_in_operation: Vec<[u16; 2]>,
+    bookings_in_operation: Vec<[u16; 3]>,
 }
 
 fn failed_cabinets(group: &Group) -> BTreeSet<Number> {
@@ -280,17 +302,27 @@ impl Watch {
     fn after_recovery(&mut self, group: &Group, save_passed_over: bool) -> Vec<Sight> {
         self.commits -= u64::from(save_passed_over);
         let to_return = self.commits_at_return == Some(self.commits);
-        let moved = |number: Number| {
-            let cabinet = group.cabinet(number);
-            cabinet.working() && cabinet.bookings() != self.bookings_in_operation[number - 1]
-        };
-        let changes = group.numbers().any(moved);
+        let (changes, changes_workshop) = self.changes_since_operation(group);
         seen(&[
             (Sight::RecoveryToReturn, to_return && !save_passed_over),
             (Sight::RecoveryToReturnChangesBookings, to_return && changes),
+            (Sight::RecoveryToReturnChangesWorkshop, to_return && changes_workshop),
             (Sight::PassedOverToReturn, to_return && save_passed_over),
             (Sight::RecoveryWithSetImageAfterCommit, self.set_image_after_commit()),
         ])
+    }
+
+    /// Whether a working cabinet has another booking than before the recovery, and whether it is
+    /// one of the workshop.
+    fn changes_since_operation(&self, group: &Group) -> (bool, bool) {
+        let (mut any, mut of_workshop) = (false, false);
+        for number in group.working_cabinets() {
+            let (now, before) =
+                (group.cabinet(number).bookings(), self.bookings_in_operation[number - 1]);
+            any |= now != before;
+            of_workshop |= now[2] != before[2];
+        }
+        (any, of_workshop)
     }
 
     fn after_point(&mut self, group: &Group, name: Name, replaced: bool) -> Vec<Sight> {
@@ -331,9 +363,10 @@ mod tests {
     use super::*;
     use crate::model::KINDS;
 
-    const GROUP: [u8; 24] =
-        [0, 2, 0, 1, 0, 10, 0, 22, 0, 24, 1, 1, 0, 100, 0, 10, 1, 0, 0, 50, 0, 5, 1, 2];
-    const CABINETS: &str = "cab 1 normal 0 100 10\ncab 2 normal 0 50 5\n";
+    const GROUP: [u8; 28] = [
+        0, 2, 0, 1, 0, 10, 0, 26, 0, 28, 1, 1, 0, 100, 0, 10, 0, 20, 1, 0, 0, 50, 0, 5, 0, 2, 1, 2,
+    ];
+    const CABINETS: &str = "cab 1 normal 0 100 10 20\ncab 2 normal 0 50 5 2\n";
 
     fn step(record: [u8; 6]) -> Vec<u8> {
         [&[0], &record[..], &[0, 0]].concat()
@@ -357,12 +390,12 @@ mod tests {
     }
 
     #[test]
-    fn a_return_brings_both_outlets_back() {
-        let sends = [0, 1, 2, 3].map(|p| step([1, 1, 2, p, 0, 3]));
-        let delivers = vec![step([4, 1, 2, 0, 0, 0]); 4];
+    fn a_return_brings_all_bookings_back() {
+        let sends = [0, 1, 2, 3, 4].map(|p| step([1, 1, 2, p, 0, 3]));
+        let delivers = vec![step([4, 1, 2, 0, 0, 0]); 5];
         let traded = [&[named(1, 7)], &sends[..], &delivers].concat();
         let traded_text = printed(&traded);
-        assert!(traded_text.ends_with("cab 1 normal 0 94 4\ncab 2 normal 0 56 11\n"));
+        assert!(traded_text.ends_with("cab 1 normal 0 94 4 17\ncab 2 normal 0 56 11 5\n"));
         let returned_text = printed(&[&traded[..], &[named(2, 7)]].concat());
         assert!(returned_text.ends_with(CABINETS));
     }

@@ -43,13 +43,35 @@ impl Form {
         }
     }
 
+    /// The operation of a record, if it is one.
+    pub fn operation(self, record: &[u8]) -> Option<Operation> {
+        match self {
+            Form::Steps | Form::Word => record.try_into().ok().map(Operation::Step),
+            Form::Plan => operation(record),
+        }
+    }
+
+    /// The record of a step.
+    pub fn record_of_step(self, step: Record) -> Vec<u8> {
+        match self {
+            Form::Steps | Form::Word => step.to_vec(),
+            Form::Plan => [&[0], &step[..], &[0, 0]].concat(),
+        }
+    }
+
+    /// For each record that is read its operation, or none if it is none.
+    pub fn operations(self, case: &Case) -> Vec<Option<Operation>> {
+        let records = case.steps.chunks(self.record_length()).take(RECORDS_READ);
+        records.map(|record| self.operation(record)).collect()
+    }
+
     /// For each record that is read its step, or none if it is no step.
     pub fn steps(self, case: &Case) -> Vec<Option<Record>> {
-        let step = match self {
-            Form::Steps | Form::Word => |record: &[u8]| record.try_into().ok(),
-            Form::Plan => step_of_plan_record,
+        let step = |operation: Option<Operation>| match operation {
+            Some(Operation::Step(step)) => Some(step),
+            _ => None,
         };
-        case.steps.chunks(self.record_length()).take(RECORDS_READ).map(step).collect()
+        self.operations(case).into_iter().map(step).collect()
     }
 
     pub fn make_case(self, seed: u64, wishes: Wishes) -> Case {
@@ -100,12 +122,5 @@ impl Form {
         let mut forms = vec![Form::Steps, Form::Word];
         forms.retain(|form| holds(form.text_file()));
         forms
-    }
-}
-
-fn step_of_plan_record(record: &[u8]) -> Option<Record> {
-    match operation(record)? {
-        Operation::Step(step) => Some(step),
-        Operation::Point(_) | Operation::Return(_) => None,
     }
 }

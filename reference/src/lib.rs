@@ -12,6 +12,7 @@ pub mod model;
 pub mod ops;
 pub mod outlets;
 pub mod own_checks;
+pub mod pairs;
 pub mod points;
 pub mod shrink;
 #[cfg(test)]
@@ -20,3 +21,4 @@ pub mod trips;
 pub mod unsure;
 pub mod widened;
 pub mod word;
+pub mod workshop;

@@ -10,6 +10,7 @@ use crate::own_checks::{HurtWatch, OwnCheckCounts};
 use crate::trips::{Stand, TripCounts, TripWatch};
 use crate::unsure::{UnsureCounts, UnsureWatch};
 use crate::word::WordCounts;
+use crate::workshop::{WorkshopCounts, WorkshopWatch};
 use std::collections::BTreeMap;
 use std::fmt::{Debug, Write};
 
@@ -33,6 +34,7 @@ pub struct Tally {
     pub trips: TripCounts,
     pub unsure: UnsureCounts,
     pub own_checks: OwnCheckCounts,
+    pub workshop: WorkshopCounts,
     pub point_answers: BTreeMap<u8, u64>,
     pub return_answers: BTreeMap<u8, u64>,
     pub sights: BTreeMap<Sight, u64>,
@@ -49,6 +51,7 @@ impl Tally {
         tally.loads_refused.insert(refusal, 1);
         tally.outlets.count_refused_load(group_file, refusal);
         tally.own_checks.count_refused_load(group_file, refusal);
+        tally.workshop.count_refused_load(group_file, refusal);
         tally
     }
 
@@ -92,6 +95,7 @@ impl Tally {
         self.trips.add(&other.trips);
         self.unsure.add(&other.unsure);
         self.own_checks.add(&other.own_checks);
+        self.workshop.add(&other.workshop);
         add_counts(&mut self.point_answers, &other.point_answers);
         add_counts(&mut self.return_answers, &other.return_answers);
         add_counts(&mut self.sights, &other.sights);
@@ -113,7 +117,8 @@ impl Tally {
         text += &self.losses.report();
         text += &self.trips.report();
         text += &self.unsure.report();
-        text + &self.own_checks.report()
+        text += &self.own_checks.report();
+        text + &self.workshop.report()
     }
 
     /// What points and returns add to the report.
@@ -136,12 +141,14 @@ pub(crate) struct Counter {
     pub(crate) trip_watch: TripWatch,
     unsure_watch: UnsureWatch,
     hurt_watch: HurtWatch,
+    workshop_watch: WorkshopWatch,
 }
 
 impl Counter {
     pub(crate) fn new(group: &Group) -> Counter {
         let mut tally = Tally::of_one_case();
         tally.own_checks.count_group(group);
+        tally.workshop.count_group(group);
         Counter {
             tally,
             watch: Watch::default(),
@@ -149,12 +156,14 @@ impl Counter {
             trip_watch: TripWatch::default(),
             unsure_watch: UnsureWatch::default(),
             hurt_watch: HurtWatch::default(),
+            workshop_watch: WorkshopWatch::new(group),
         }
     }
 
     pub(crate) fn step(&mut self, group: &mut Group, record: &[u8], highest_kind: u8) -> Outcome {
         let (aim, stand) = (Aim::of(group, record), Stand::of(group, record));
         self.watch.before_step(group);
+        self.workshop_watch.before_step(group);
         let outcome = group.step(record, highest_kind);
         self.watch.after_step(aim, record, outcome);
         self.tally.count_step(record, outcome);
@@ -164,6 +173,7 @@ impl Counter {
         self.tally.unsure.count_step(&mut self.unsure_watch, group, record, outcome);
         let version = group.packet_version();
         self.tally.own_checks.count_step(&mut self.hurt_watch, aim, version, record, outcome);
+        self.tally.workshop.count_step(&mut self.workshop_watch, aim, group, record, outcome);
         outcome
     }
 }
@@ -215,8 +225,8 @@ pub(crate) fn list_cabinets(text: &mut String, group: &Group) {
         } else {
             let state = cabinet.state.name();
             let version = version_text(cabinet.version);
-            let [a, b] = cabinet.bookings();
-            writeln!(text, "cab {number} {state} {version} {a} {b}")
+            let [a, b, workshop] = cabinet.bookings();
+            writeln!(text, "cab {number} {state} {version} {a} {b} {workshop}")
         };
     }
 }
@@ -233,8 +243,8 @@ mod tests {
     use super::*;
     use crate::model::KINDS;
 
-    const GROUP: [u8; 24] =
-        [0, 2, 0, 1, 0, 10, 0, 22, 0, 24, 1, 1, 0, 100, 0, 0, 1, 0, 0, 50, 0, 0, 1, 2];
+    const GROUP: [u8; 28] =
+        [0, 2, 0, 1, 0, 10, 0, 26, 0, 28, 1, 1, 0, 100, 0, 0, 0, 0, 1, 0, 0, 50, 0, 0, 0, 0, 1, 2];
 
     #[test]
     fn the_worked_example() {
@@ -249,7 +259,7 @@ mod tests {
             [8, 1, 0, 0, 0, 0],
         ];
         let expected = "step 1 0\nstep 2 0\nstep 3 0\nstep 4 0\nstep 5 0\nstep 6 0\n\
-                        step 7 0\nstep 8 0\ncab 1 normal 0 100 0\ncab 2 failed\n";
+                        step 7 0\nstep 8 0\ncab 1 normal 0 100 0 0\ncab 2 failed\n";
         let (text, tally) = counted_listing(&GROUP, &steps.concat(), KINDS);
         assert_eq!(text, expected);
         assert_eq!(tally.recoveries_ended, 1);
@@ -258,19 +268,22 @@ mod tests {
     #[test]
     fn empty_files_and_short_records() {
         assert_eq!(listing(&[], &[], KINDS), "load 1\n");
-        let cabinets = "cab 1 normal 0 100 0\ncab 2 normal 0 50 0\n";
+        let cabinets = "cab 1 normal 0 100 0 0\ncab 2 normal 0 50 0 0\n";
         assert_eq!(listing(&GROUP, &[], KINDS), cabinets);
         assert_eq!(listing(&GROUP, &[4, 1, 2], KINDS), format!("step 1 8\n{cabinets}"));
     }
 
     #[test]
-    fn a_then_b_is_listed() {
+    fn a_then_b_then_the_workshop_is_listed() {
         let mut group = GROUP;
         group[15] = 7;
-        group[20] = 1;
-        let steps = [[1, 1, 2, 1, 0, 30], [4, 1, 2, 0, 0, 0]];
-        let cabinets = "cab 1 normal 0 70 7\ncab 2 normal 0 50 286\n";
-        let expected = format!("step 1 0\nstep 2 0\n{cabinets}");
+        group[22] = 1;
+        group[17] = 9;
+        group[24] = 2;
+        let deliver = [4, 1, 2, 0, 0, 0];
+        let steps = [[1, 1, 2, 1, 0, 30], [1, 1, 2, 4, 0, 3], deliver, deliver];
+        let cabinets = "cab 1 normal 0 70 7 6\ncab 2 normal 0 50 286 515\n";
+        let expected = format!("step 1 0\nstep 2 0\nstep 3 0\nstep 4 0\n{cabinets}");
         assert_eq!(listing(&group, &steps.concat(), KINDS), expected);
     }
 

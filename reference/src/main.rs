@@ -7,7 +7,8 @@ use reference::form::Form;
 use reference::listing::{listing, Tally};
 use reference::model::KINDS;
 use reference::ops;
-use reference::widened::{stands, with_two_outlets, LeftOut, LAST_CARD};
+use reference::pairs::{self, PairDifference};
+use reference::widened::{as_it_reads_now, widened_store, LeftOut, LAST_CARD, NO_CARD};
 use std::collections::BTreeMap;
 use std::io::{self, Write};
 use std::path::{Path, PathBuf};
@@ -20,11 +21,12 @@ const USAGE: &str = "usage:
   reference evening DIR [--kinds K]
   reference word DIR [--kinds K]
   reference compare PROGRAM [--plans | --word] [--seed S] [--cases N] [--damage] [--kinds K]
+  reference compare PROGRAM --pairs [--plans | --word] [--seed S] [--cases N] [--damage]
   reference make OUT [--plans | --word] [--seed S] [--cases N] [--damage] [--kinds K]
   reference pack DIR OUT [--plans | --word] [--from-01 | --from-card C] [--most N]
   reference vectors DIR [--from-01 | --from-card C]
   reference bench [--seed S]
-K is from 10 to 14, C from 2 to 8";
+K is from 10 to 14, C from 2 to 9";
 
 // ---------------------------------------------------------------- arguments
 
@@ -34,7 +36,7 @@ struct Options {
     cases: u64,
     form: Form,
     damage: bool,
-    from_01: bool,
+    pairs: bool,
     from_card: u8,
     most: usize,
     highest_kind: u8,
@@ -50,7 +52,8 @@ impl Options {
                 "--plans" => options.form = Form::Plan,
                 "--word" => options.form = Form::Word,
                 "--damage" => options.damage = true,
-                "--from-01" => options.from_01 = true,
+                "--pairs" => options.pairs = true,
+                "--from-01" => options.from_card = NO_CARD,
                 "--from-card" => options.from_card = card(&arguments.next()?)?,
                 "--most" => options.most = arguments.next()?.parse().ok()?,
                 "--kinds" => options.highest_kind = kinds(&arguments.next()?)?,
@@ -76,7 +79,7 @@ impl Default for Options {
             cases: 1000,
             form: Form::Steps,
             damage: false,
-            from_01: false,
+            pairs: false,
             from_card: LAST_CARD,
             most: usize::MAX,
             highest_kind: KINDS,
@@ -103,6 +106,7 @@ fn main() -> ExitCode {
         ["list", folder] => print_text(Form::Steps, Path::new(folder), &options),
         ["evening", folder] => print_text(Form::Plan, Path::new(folder), &options),
         ["word", folder] => print_text(Form::Word, Path::new(folder), &options),
+        ["compare", program] if options.pairs => compare_pairs(Path::new(program), &options),
         ["compare", program] => compare(Path::new(program), &options),
         ["make", file] => make(Path::new(file), &options),
         ["pack", folder, file] => pack(Path::new(folder), Path::new(file), &options),
@@ -139,6 +143,24 @@ fn compare(program: &Path, options: &Options) -> io::Result<ExitCode> {
         return Ok(ExitCode::FAILURE);
     }
     print!("{}", options.form.report(&compared.tally));
+    println!("no difference, {:.1} seconds", start.elapsed().as_secs_f64());
+    Ok(ExitCode::SUCCESS)
+}
+
+fn compare_pairs(program: &Path, options: &Options) -> io::Result<ExitCode> {
+    let start = Instant::now();
+    let row = options.row();
+    let compared = pairs::compare_pairs(program, row)?;
+    if let Some((index, difference)) = &compared.difference {
+        let told = match difference {
+            PairDifference::Run(difference) => compare::shrunk_report(program, difference, row)?,
+            PairDifference::Claim(pair, breach) => pairs::claim_report(row.form, pair, *breach),
+            PairDifference::Printed(pair) => pairs::told(row.form, pair, "as printed"),
+        };
+        println!("pair {index}\n{told}");
+        return Ok(ExitCode::FAILURE);
+    }
+    print!("{}", compared.counts.report());
     println!("no difference, {:.1} seconds", start.elapsed().as_secs_f64());
     Ok(ExitCode::SUCCESS)
 }
@@ -219,11 +241,7 @@ fn case_as_it_reads_now(
 ) -> io::Result<Result<(Case, String), LeftOut>> {
     let case = form.case_in_folder(folder);
     let text = String::from_utf8_lossy(&form.expected_text(folder)?).into_owned();
-    Ok(if options.from_01 {
-        with_two_outlets(form, &case, &text)
-    } else {
-        stands(form, &case, &text, options.from_card).map(|()| (case, text))
-    })
+    Ok(as_it_reads_now(form, &case, &text, options.from_card))
 }
 
 // ---------------------------------------------------------------- vectors
@@ -244,14 +262,16 @@ fn case_folders(folder: &Path) -> io::Result<Vec<(Form, PathBuf)>> {
 }
 
 /// Where a plan case has its operations as text: answers, images and slots, as expected there.
-fn store_agrees(folder: &Path) -> io::Result<bool> {
+fn store_agrees(folder: &Path, case: &Case, card: u8) -> bool {
     let (Ok(ops), Ok(expected)) =
         (fs::read_to_string(folder.join("ops")), fs::read_to_string(folder.join("expected")))
     else {
-        return Ok(true);
+        return true;
     };
-    let group = fs::read(folder.join("group.dat"))?;
-    Ok(ops::answers_and_store(&group, &ops, KINDS) == Some(expected))
+    ops::operations(&ops).is_some_and(|operations| {
+        let expected = widened_store(&operations, &expected, card);
+        ops::answers_and_store(&case.group, &operations, KINDS) == expected
+    })
 }
 
 fn vectors(folder: &Path, options: &Options) -> io::Result<ExitCode> {
@@ -262,9 +282,9 @@ fn vectors(folder: &Path, options: &Options) -> io::Result<ExitCode> {
             left_out += 1;
             continue;
         };
-        let has_store = form == Form::Plan && !options.from_01;
         let agrees = form.text(&case, KINDS) == text;
-        if agrees && (!has_store || store_agrees(&case_folder)?) {
+        let has_store = form == Form::Plan;
+        if agrees && (!has_store || store_agrees(&case_folder, &case, options.from_card)) {
             agree += 1;
         } else {
             differ.push(case_folder.join(form.text_file()));

@@ -12,7 +12,9 @@ pub type Image = [u8; 32];
 pub const TAKEN: u8 = 0;
 pub const CRASHED: u8 = 50;
 pub const RECORD_LENGTH: usize = 6;
-pub const NORMAL_PLACES: usize = 8;
+
+/// Of the places of a line for normal packets: as many for the buses, as many for the workshop.
+pub const PLACES_OF_A_PARTY: usize = 4;
 const LINE_PLACES: usize = 12;
 const PIECES: usize = 4;
 const PIECE_LENGTH: usize = 8;
@@ -65,77 +67,108 @@ impl Check {
     }
 }
 
-// ---------------------------------------------------------------- outlets
+// ---------------------------------------------------------------- parties and their bookings
 
-/// A cabinet's outlets. Their bookings stand in front of its image, two octets each.
+/// Who shares the lines.
 #[derive(Clone, Copy, PartialEq, Eq, PartialOrd, Ord, Debug)]
-pub enum Outlet {
-    A,
-    B,
+pub enum Party {
+    Buses,
+    Workshop,
 }
 
-impl Outlet {
-    /// The first octet of a normal packet for this outlet.
+impl Party {
+    pub const ALL: [Party; 2] = [Party::Buses, Party::Workshop];
+
+    pub fn other(self) -> Party {
+        match self {
+            Party::Buses => Party::Workshop,
+            Party::Workshop => Party::Buses,
+        }
+    }
+}
+
+/// What a cabinet has booked: the buses at its outlets A and B, and the workshop. The bookings
+/// stand in front of its image, two octets each.
+#[derive(Clone, Copy, PartialEq, Eq, PartialOrd, Ord, Debug)]
+pub enum Account {
+    A,
+    B,
+    Workshop,
+}
+
+impl Account {
+    pub const ALL: [Account; 3] = [Account::A, Account::B, Account::Workshop];
+
+    pub fn party(self) -> Party {
+        match self {
+            Account::A | Account::B => Party::Buses,
+            Account::Workshop => Party::Workshop,
+        }
+    }
+
+    /// The first octet of a normal packet for this booking.
     pub fn octet(self) -> u8 {
         match self {
-            Outlet::A => 0x00,
-            Outlet::B => 0x01,
+            Account::A => 0x00,
+            Account::B => 0x01,
+            Account::Workshop => 0x02,
         }
     }
 
     fn place_in_image(self) -> Range<usize> {
         match self {
-            Outlet::A => 0..2,
-            Outlet::B => 2..4,
-        }
-    }
-
-    pub fn other(self) -> Outlet {
-        match self {
-            Outlet::A => Outlet::B,
-            Outlet::B => Outlet::A,
+            Account::A => 0..2,
+            Account::B => 2..4,
+            Account::Workshop => 4..6,
         }
     }
 }
 
-const FIRST_NOTE: u8 = 4;
+pub const FIRST_NOTE: u8 = 6;
 const LAST_NOTE: u8 = 31;
 
-/// The outlets at the two ends of a send, the sender's first.
+/// The bookings at the two ends of a send, the sender's first.
 #[derive(Clone, Copy, PartialEq, Eq, PartialOrd, Ord, Debug)]
 pub enum Ends {
     AA,
     AB,
     BA,
     BB,
+    /// The workshop's at both.
+    Workshop,
 }
 
 impl Ends {
-    /// The outlets that a send's p names, if it names any.
+    pub const ALL: [Ends; 5] = [Ends::AA, Ends::AB, Ends::BA, Ends::BB, Ends::Workshop];
+
+    /// What a send's p names, if it names anything.
     pub fn of(p: u8) -> Option<Ends> {
-        match p {
-            0 => Some(Ends::AA),
-            1 => Some(Ends::AB),
-            2 => Some(Ends::BA),
-            3 => Some(Ends::BB),
-            _ => None,
+        Ends::ALL.get(usize::from(p)).copied()
+    }
+
+    pub fn sending(self) -> Account {
+        match self {
+            Ends::AA | Ends::AB => Account::A,
+            Ends::BA | Ends::BB => Account::B,
+            Ends::Workshop => Account::Workshop,
         }
     }
 
-    pub fn sending(self) -> Outlet {
+    pub fn receiving(self) -> Account {
         match self {
-            Ends::AA | Ends::AB => Outlet::A,
-            Ends::BA | Ends::BB => Outlet::B,
+            Ends::AA | Ends::BA => Account::A,
+            Ends::AB | Ends::BB => Account::B,
+            Ends::Workshop => Account::Workshop,
         }
     }
 
-    pub fn receiving(self) -> Outlet {
-        match self {
-            Ends::AA | Ends::BA => Outlet::A,
-            Ends::AB | Ends::BB => Outlet::B,
-        }
+    pub fn party(self) -> Party {
+        self.sending().party()
     }
 }
+
+/// The p of a send of the workshop.
+pub const WORKSHOP_P: u8 = 4;
 
 // ---------------------------------------------------------------- normal packets
 
@@ -147,18 +180,18 @@ pub enum PacketVersion {
     Two,
 }
 
-/// A normal packet: the receiving outlet, an amount for it and, in version 2, the CRC of both.
+/// A normal packet: the receiving booking, an amount for it and, in version 2, the CRC of both.
 #[derive(Clone, Copy, PartialEq, Eq, Debug)]
 pub struct Charge {
-    pub outlet: Outlet,
+    pub account: Account,
     pub amount: u16,
     pub own_check: Option<u16>,
 }
 
 impl Charge {
     /// As it is put.
-    pub fn new(version: PacketVersion, outlet: Outlet, amount: u16) -> Charge {
-        let plain = Charge { outlet, amount, own_check: None };
+    pub fn new(version: PacketVersion, account: Account, amount: u16) -> Charge {
+        let plain = Charge { account, amount, own_check: None };
         match version {
             PacketVersion::One => plain,
             PacketVersion::Two => Charge { own_check: Some(plain.right_check()), ..plain },
@@ -167,7 +200,7 @@ impl Charge {
 
     fn first_three_octets(self) -> [u8; 3] {
         let [high, low] = self.amount.to_be_bytes();
-        [self.outlet.octet(), high, low]
+        [self.account.octet(), high, low]
     }
 
     fn octets(self) -> Vec<u8> {
@@ -325,7 +358,7 @@ pub enum Packet {
     Invalid,
 }
 
-#[derive(Clone, Default)]
+#[derive(Clone, Default, PartialEq, Eq)]
 pub struct Line {
     pub packets: VecDeque<Packet>,
     /// A normal packet of this line was damaged or lost since the receiver's check restarted.
@@ -333,9 +366,14 @@ pub struct Line {
 }
 
 impl Line {
-    fn normal_packets(&self) -> usize {
-        let normal = |packet: &&Packet| matches!(packet, Packet::Normal(_));
-        self.packets.iter().filter(normal).count()
+    /// How many normal packets of this party stand in it.
+    pub fn packets_of(&self, party: Party) -> usize {
+        let of_party = |packet: &&Packet| matches!(packet, Packet::Normal(charge) if charge.account.party() == party);
+        self.packets.iter().filter(of_party).count()
+    }
+
+    pub fn has_place_for(&self, party: Party) -> bool {
+        self.packets_of(party) < PLACES_OF_A_PARTY
     }
 
     fn put(&mut self, packet: Packet) {
@@ -346,7 +384,7 @@ impl Line {
 }
 
 /// What a cabinet notes of the last save or recovery.
-#[derive(Clone, Default)]
+#[derive(Clone, Default, PartialEq, Eq)]
 struct Noted {
     checkps_come: BTreeSet<Number>,
     pieces_done: usize,
@@ -359,7 +397,7 @@ struct Noted {
 
 /// Why a cabinet entered error, and how it stood before: its coordinator and its state, and
 /// whether it brought its version along.
-#[derive(Clone, Copy)]
+#[derive(Clone, Copy, PartialEq, Eq)]
 struct Trouble {
     place: Place,
     coordinator_before: Number,
@@ -418,13 +456,13 @@ pub struct Word {
 }
 
 /// The word of the latest recovery that has one, and whether that recovery has not ended yet.
-#[derive(Clone, Copy, Default)]
+#[derive(Clone, Copy, Default, PartialEq, Eq)]
 struct Settling {
     word: Option<Word>,
     open: bool,
 }
 
-#[derive(Clone)]
+#[derive(Clone, PartialEq, Eq)]
 pub struct Cabinet {
     pub state: State,
     pub version: Version,
@@ -447,17 +485,17 @@ pub struct Cabinet {
 }
 
 impl Cabinet {
-    pub fn booking(&self, outlet: Outlet) -> u16 {
-        booking_in(&self.image, outlet)
+    pub fn booking(&self, account: Account) -> u16 {
+        booking_in(&self.image, account)
     }
 
-    fn set_booking(&mut self, outlet: Outlet, amperes: u16) {
-        self.image[outlet.place_in_image()].copy_from_slice(&amperes.to_be_bytes());
+    fn set_booking(&mut self, account: Account, amperes: u16) {
+        self.image[account.place_in_image()].copy_from_slice(&amperes.to_be_bytes());
     }
 
-    /// A's booking and B's.
-    pub fn bookings(&self) -> [u16; 2] {
-        [Outlet::A, Outlet::B].map(|outlet| self.booking(outlet))
+    /// A's booking, B's and the workshop's.
+    pub fn bookings(&self) -> [u16; 3] {
+        Account::ALL.map(|account| self.booking(account))
     }
 
     pub fn working(&self) -> bool {
@@ -542,19 +580,19 @@ impl Cabinet {
     }
 }
 
-pub fn booking_in(image: &Image, outlet: Outlet) -> u16 {
-    number_at(image, outlet.place_in_image().start) as u16
+pub fn booking_in(image: &Image, account: Account) -> u16 {
+    number_at(image, account.place_in_image().start) as u16
 }
 
 /// For the counts only: the last commit whose resume nobody took and from which nobody was
 /// restored, and whether the recovery under way passes over a save.
-#[derive(Clone, Default)]
+#[derive(Clone, Default, PartialEq, Eq)]
 struct History {
     unseen_commit_by: Option<Number>,
     passing_over: bool,
 }
 
-#[derive(Clone)]
+#[derive(Clone, PartialEq, Eq)]
 pub struct Group {
     cabinets: Vec<Cabinet>,
     file_links: BTreeSet<(Number, Number)>,
@@ -586,7 +624,7 @@ fn connected(members: &BTreeSet<Number>, links: &BTreeSet<(Number, Number)>) -> 
 
 // ---------------------------------------------------------------- load
 
-pub(crate) const CABINET_ENTRY_LENGTH: usize = 6;
+pub(crate) const CABINET_ENTRY_LENGTH: usize = 8;
 const LINK_ENTRY_LENGTH: usize = 2;
 
 /// Where a header has the offset of the cabinet table, and in version 2 its sixth number.
@@ -618,11 +656,22 @@ impl PacketVersion {
     }
 }
 
+/// By each party by itself.
+pub(crate) const MOST_BOOKED: u32 = 65_535;
+
 struct CabinetEntry {
     home: Number,
     mark: u8,
-    booking_a: u16,
-    booking_b: u16,
+    /// A's, B's and the workshop's.
+    bookings: [u16; 3],
+}
+
+impl CabinetEntry {
+    fn booked_by(&self, party: Party) -> u32 {
+        let of_party = Account::ALL.into_iter().zip(self.bookings);
+        let of_party = of_party.filter(|(account, _)| account.party() == party);
+        of_party.map(|(_, booking)| u32::from(booking)).sum()
+    }
 }
 
 pub(crate) fn number_at(octets: &[u8], offset: usize) -> usize {
@@ -655,8 +704,7 @@ fn cabinet_entries(table: &[u8]) -> Vec<CabinetEntry> {
     let entry = |octets: &[u8]| CabinetEntry {
         home: usize::from(octets[0]),
         mark: octets[1],
-        booking_a: u16::from_be_bytes([octets[2], octets[3]]),
-        booking_b: u16::from_be_bytes([octets[4], octets[5]]),
+        bookings: [2, 4, 6].map(|place| number_at(octets, place) as u16),
     };
     table.chunks(CABINET_ENTRY_LENGTH).map(entry).collect()
 }
@@ -695,8 +743,8 @@ pub fn load(file: &[u8]) -> Result<Group, u8> {
     if !connected(&(1..=n).collect(), &links) {
         return Err(6);
     }
-    let booked = |entry: &CabinetEntry| u32::from(entry.booking_a) + u32::from(entry.booking_b);
-    if entries.iter().map(booked).sum::<u32>() > 65_535 {
+    let total = |party: Party| entries.iter().map(|entry| entry.booked_by(party)).sum::<u32>();
+    if Party::ALL.into_iter().any(|party| total(party) > MOST_BOOKED) {
         return Err(7);
     }
     Ok(starting_group(version, &entries, links))
@@ -746,8 +794,9 @@ fn starting_cabinet(
         trips: 0,
         left_behind: None,
     };
-    cabinet.set_booking(Outlet::A, entry.booking_a);
-    cabinet.set_booking(Outlet::B, entry.booking_b);
+    for (account, booking) in Account::ALL.into_iter().zip(entry.bookings) {
+        cabinet.set_booking(account, booking);
+    }
     cabinet
 }
 
@@ -755,7 +804,7 @@ fn starting_cabinet(
 
 #[derive(Clone, Copy, PartialEq, Eq, Debug)]
 pub enum Step {
-    Send { from: Number, to: Number, outlets: u8, amount: u16 },
+    Send { from: Number, to: Number, ends: u8, amount: u16 },
     Note { at: Number, octet: u8, value: u16 },
     Begin(Number),
     Deliver { from: Number, to: Number },
@@ -805,7 +854,7 @@ pub(crate) fn line_end_and_place(b: u8, p: u8) -> (Number, u8) {
 fn step_of_fields(kind: u8, a: Number, b: u8, p: u8, q: u16) -> Option<Step> {
     let to = usize::from(b);
     Some(match kind {
-        1 => Step::Send { from: a, to, outlets: p, amount: q },
+        1 => Step::Send { from: a, to, ends: p, amount: q },
         2 => Step::Note { at: a, octet: p, value: q },
         3 => Step::Begin(a),
         4 => Step::Deliver { from: a, to },
@@ -860,8 +909,8 @@ impl Step {
 #[derive(Clone, Copy, PartialEq, Eq, Debug)]
 pub enum Event {
     Nothing,
-    /// An amount was added to this outlet's booking.
-    Added(Outlet),
+    /// An amount was added to this booking.
+    Added(Account),
     Commit,
     RecoveryEnd {
         save_passed_over: bool,
@@ -1023,9 +1072,7 @@ impl Group {
 
     fn refusal_of_kind(&self, step: &Step) -> Option<u8> {
         match *step {
-            Step::Send { from, to, outlets, amount } => {
-                self.send_refusal(from, to, outlets, amount)
-            }
+            Step::Send { from, to, ends, amount } => self.send_refusal(from, to, ends, amount),
             Step::Note { at, octet, value } => self.note_refusal(at, octet, value),
             Step::Begin(a) => self.begin_refusal(a),
             Step::Deliver { from, to } => self.deliver_refusal(from, to),
@@ -1040,15 +1087,16 @@ impl Group {
         }
     }
 
-    fn send_refusal(&self, from: Number, to: Number, outlets: u8, amount: u16) -> Option<u8> {
+    fn send_refusal(&self, from: Number, to: Number, ends: u8, amount: u16) -> Option<u8> {
         let sender = self.cabinet(from);
-        let ends = Ends::of(outlets);
+        let line = self.line(from, to);
+        let ends = Ends::of(ends);
         first_refusal(&[
             (13, !sender.uses_line_to(to)),
             (14, sender.state != State::Normal),
             (15, amount == 0 || ends.is_none()),
             (16, ends.is_some_and(|ends| amount > sender.booking(ends.sending()))),
-            (17, self.line(from, to).normal_packets() >= NORMAL_PLACES),
+            (17, ends.is_some_and(|ends| !line.has_place_for(ends.party()))),
         ])
     }
 
@@ -1176,8 +1224,8 @@ impl Group {
 
     fn perform(&mut self, step: Step) -> Result<Event, Crash> {
         match step {
-            Step::Send { from, to, outlets, amount } => {
-                let ends = Ends::of(outlets).expect("a send that names no outlets is refused");
+            Step::Send { from, to, ends, amount } => {
+                let ends = Ends::of(ends).expect("a send that names no bookings is refused");
                 self.send(from, to, ends, amount);
             }
             Step::Note { at, octet, value } => {
@@ -1289,13 +1337,13 @@ impl Group {
             return self.find_link_fault(from, to, Sign::OwnCheck);
         }
         self.add_amount(from, to, charge);
-        Ok(Event::Added(charge.outlet))
+        Ok(Event::Added(charge.account))
     }
 
     fn add_amount(&mut self, from: Number, to: Number, charge: Charge) {
-        let Charge { outlet, amount, .. } = charge;
+        let Charge { account, amount, .. } = charge;
         let receiver = self.cabinet_mut(to);
-        receiver.set_booking(outlet, receiver.booking(outlet).wrapping_add(amount));
+        receiver.set_booking(account, receiver.booking(account).wrapping_add(amount));
         let check = &mut receiver.taken_check[from - 1];
         *check = check.and(charge);
     }
@@ -1709,18 +1757,74 @@ impl Group {
     }
 }
 
+// ---------------------------------------------------------------- but for the workshop's amounts
+
+/// The image with nothing booked by the workshop.
+pub(crate) fn without_workshop(mut image: Image) -> Image {
+    image[Account::Workshop.place_in_image()].fill(0);
+    image
+}
+
+impl Check {
+    fn count_alone(self) -> Check {
+        Check { count: self.count, ..Check::START }
+    }
+}
+
+impl Packet {
+    /// A packet of the workshop has no amount, and of its own check only whether it fits; a checkp
+    /// has its count alone.
+    fn but_for_amounts(self) -> Packet {
+        match self {
+            Packet::Normal(charge) if charge.account == Account::Workshop => {
+                let own_check = charge.own_check.map(|_| u16::from(charge.fits()));
+                Packet::Normal(Charge { amount: 0, own_check, ..charge })
+            }
+            Packet::Checkp(check) => Packet::Checkp(check.count_alone()),
+            other => other,
+        }
+    }
+}
+
+impl Cabinet {
+    fn but_for_amounts(&self) -> Cabinet {
+        let counts = |checks: &[Check]| checks.iter().map(|check| check.count_alone()).collect();
+        Cabinet {
+            image: without_workshop(self.image),
+            left_behind: self.left_behind.map(without_workshop),
+            sent_check: counts(&self.sent_check),
+            taken_check: counts(&self.taken_check),
+            ..self.clone()
+        }
+    }
+}
+
+impl Group {
+    /// All of the group but the workshop's bookings, the amounts of its packets and what runs
+    /// over them.
+    pub fn but_for_amounts(&self) -> Group {
+        let mut group = self.clone();
+        group.cabinets = self.cabinets.iter().map(Cabinet::but_for_amounts).collect();
+        group.slots = self.slots.iter().map(|slots| slots.map(without_workshop)).collect();
+        for packet in group.lines.iter_mut().flatten().flat_map(|line| &mut line.packets) {
+            *packet = packet.but_for_amounts();
+        }
+        group
+    }
+}
+
 // ---------------------------------------------------------------- tests
 
 #[cfg(test)]
 mod tests {
     use super::*;
 
-    use Outlet::{A, B};
+    use Account::{Workshop, A, B};
 
     /// Cabinets in a row, each linked to the next; the last one is the store of all.
-    fn group_file_of_both(bookings: &[[u16; 2]]) -> Vec<u8> {
+    fn group_file_of_all(bookings: &[[u16; 3]]) -> Vec<u8> {
         let n = bookings.len();
-        let link_table = 10 + 6 * n;
+        let link_table = 10 + 8 * n;
         let header = [n, n - 1, 10, link_table, link_table + 2 * (n - 1)];
         let mut file: Vec<u8> =
             header.iter().flat_map(|&number| (number as u16).to_be_bytes()).collect();
@@ -1732,6 +1836,12 @@ mod tests {
             file.extend_from_slice(&[low, low + 1]);
         }
         file
+    }
+
+    /// With nothing booked by the workshop.
+    fn group_file_of_both(bookings: &[[u16; 2]]) -> Vec<u8> {
+        let all: Vec<[u16; 3]> = bookings.iter().map(|&[a, b]| [a, b, 0]).collect();
+        group_file_of_all(&all)
     }
 
     /// With nothing booked at any outlet B.
@@ -1752,8 +1862,17 @@ mod tests {
         loaded(&group_file_of_both(bookings))
     }
 
-    fn bookings(group: &Group) -> Vec<[u16; 2]> {
+    fn group_of_all(bookings: &[[u16; 3]]) -> Group {
+        loaded(&group_file_of_all(bookings))
+    }
+
+    fn all_bookings(group: &Group) -> Vec<[u16; 3]> {
         group.numbers().map(|number| group.cabinet(number).bookings()).collect()
+    }
+
+    /// Those of the buses.
+    fn bookings(group: &Group) -> Vec<[u16; 2]> {
+        all_bookings(group).into_iter().map(|[a, b, _]| [a, b]).collect()
     }
 
     fn answers(group: &mut Group, records: &[Record]) -> Vec<u8> {
@@ -1836,18 +1955,30 @@ mod tests {
     }
 
     #[test]
-    fn a_starting_image_has_both_bookings_in_front() {
-        let group = group_of_both(&[[0x0102, 0x0304], [5, 6]]);
+    fn each_partys_total_may_reach_65535() {
+        let load = |bookings: &[[u16; 3]]| load(&group_file_of_all(bookings)).err();
+        assert_eq!(load(&[[65_000, 300, 65_534], [200, 35, 1]]), None);
+        assert_eq!(load(&[[0, 0, 65_535], [0, 0, 1]]), Some(7));
+        assert_eq!(load(&[[0, 65_535, 9], [1, 0, 9]]), Some(7));
+        assert_eq!(load(&[[0, 65_535, 65_535], [1, 0, 1]]), Some(7));
+    }
+
+    #[test]
+    fn a_starting_image_has_all_bookings_in_front() {
+        let group = group_of_all(&[[0x0102, 0x0304, 0x0506], [5, 6, 7]]);
         let image = group.cabinet(1).image;
-        assert_eq!(image[..5], [1, 2, 3, 4, 0]);
+        assert_eq!(image[..7], [1, 2, 3, 4, 5, 6, 0]);
         assert_eq!(*group.slot(1, 0), image);
         assert_eq!(*group.slot(1, 1), [0; 32]);
     }
 
     #[test]
-    fn entries_of_four_octets_are_refused() {
+    fn entries_of_four_or_six_octets_are_refused() {
         let one_outlet = [0, 2, 0, 1, 0, 10, 0, 18, 0, 20, 2, 0, 0, 100, 2, 1, 0, 50, 1, 2];
         assert_eq!(load(&one_outlet).err(), Some(3));
+        let two_outlets =
+            [0, 2, 0, 1, 0, 10, 0, 22, 0, 24, 2, 0, 0, 100, 0, 0, 2, 1, 0, 50, 0, 0, 1, 2];
+        assert_eq!(load(&two_outlets).err(), Some(3));
     }
 
     #[test]
@@ -1863,8 +1994,8 @@ mod tests {
         assert_eq!(changed(2, 0x80), Some(3));
         assert_eq!(changed(10, 1), Some(4));
         assert_eq!(changed(11, 2), Some(4));
-        assert_eq!(changed(28, 2), Some(5));
-        assert_eq!(changed(30, 1), None);
+        assert_eq!(changed(34, 2), Some(5));
+        assert_eq!(changed(36, 1), None);
     }
 
     #[test]
@@ -1897,22 +2028,64 @@ mod tests {
     }
 
     #[test]
-    fn outlets_that_no_p_names_are_refused_before_the_booking_is_asked() {
-        let mut group = group_of_both(&[[100, 200], [10, 20]]);
-        for p in [4, 7, 128, 255] {
+    fn bookings_that_no_p_names_are_refused_before_any_is_asked() {
+        let mut group = group_of_all(&[[100, 200, 300], [10, 20, 30]]);
+        for p in [5, 6, 7, 128, 255] {
             assert_eq!(answers(&mut group, &[send_by(p, 1), send_by(p, 1000)]), [15, 15]);
         }
-        assert_eq!(answers(&mut group, &[send_by(3, 0), send_by(3, 1000)]), [15, 16]);
-        assert_eq!(answers(&mut group, &[[1, 1, 9, 4, 0, 1], [1, 1, 1, 4, 0, 1]]), [11, 13]);
-        assert_eq!(answers(&mut group, &[one(3, 1), send_by(4, 1)]), [0, 14]);
+        for p in [3, 4] {
+            assert_eq!(answers(&mut group, &[send_by(p, 0), send_by(p, 1000)]), [15, 16]);
+        }
+        assert_eq!(answers(&mut group, &[[1, 1, 9, 5, 0, 1], [1, 1, 1, 5, 0, 1]]), [11, 13]);
+        assert_eq!(answers(&mut group, &[[1, 1, 9, 4, 0, 0], [1, 1, 1, 4, 0, 0]]), [11, 13]);
+        assert_eq!(answers(&mut group, &[one(3, 1), send_by(4, 0), send_by(5, 1)]), [0, 14, 14]);
     }
 
     #[test]
-    fn the_check_value_runs_over_the_receiving_outlet() {
-        for (p, outlet) in [(0, 0x00), (1, 0x01), (2, 0x00), (3, 0x01)] {
-            let mut group = group_of_both(&[[100, 200], [10, 20]]);
+    fn the_workshop_sends_from_its_booking_to_its_booking() {
+        let mut group = group_of_all(&[[1000, 2000, 300], [10, 20, 30]]);
+        assert_eq!(answers(&mut group, &[send_by(4, 301), send_by(4, 300)]), [16, 0]);
+        assert_eq!(all_bookings(&group), [[1000, 2000, 0], [10, 20, 30]]);
+        let sent = Charge::new(PacketVersion::One, Workshop, 300);
+        assert_eq!(sent.octets(), [2, 1, 44]);
+        assert_eq!(group.line(1, 2).packets[0], Packet::Normal(sent));
+        assert_eq!(group.step(&deliver(1, 2), KINDS).event, Event::Added(Workshop));
+        assert_eq!(all_bookings(&group), [[1000, 2000, 0], [10, 20, 330]]);
+        assert_eq!(answers(&mut group, &[send_by(4, 1), send_by(3, 2000)]), [16, 0]);
+    }
+
+    #[test]
+    fn the_workshops_own_check_runs_over_its_octet() {
+        let charge = Charge::new(PacketVersion::Two, Workshop, 7);
+        assert_eq!(charge.own_check, Some(crc_octets(CRC_START, &[2, 0, 7])));
+    }
+
+    #[test]
+    fn a_hurt_amount_of_the_workshop_wraps_in_its_own_booking() {
+        let mut group = group_of_all(&[[100, 200, 300], [10, 20, 30]]);
+        let hurt = [11, 1, 2, 0, 0xFF, 0xFF];
+        assert_eq!(answers(&mut group, &[send_by(4, 7), hurt, deliver(1, 2)]), [0; 3]);
+        assert_eq!(all_bookings(&group), [[100, 200, 293], [10, 20, 30 - 8]]);
+    }
+
+    /// Whichever party's packet was hit.
+    #[test]
+    fn a_line_has_one_hurt_mark_for_both_parties() {
+        for (hit, other) in [(0, 1), (1, 0)] {
+            let mut group = group_of_all(&[[100, 200, 300], [10, 20, 30]]);
+            let hurt = |place: u8| [11, 1, 2, place, 0, 1];
+            let lose = |place: u8| [12, 1, 2, place, 0, 0];
+            let records = [send_by(0, 7), send_by(4, 7), hurt(hit), hurt(other), lose(other)];
+            assert_eq!(answers(&mut group, &records), [0, 0, 0, 20, 20]);
+        }
+    }
+
+    #[test]
+    fn the_check_value_runs_over_a_packets_first_octet() {
+        for (p, first) in [(0, 0x00), (1, 0x01), (2, 0x00), (3, 0x01), (4, 0x02)] {
+            let mut group = group_of_all(&[[100, 200, 300], [10, 20, 30]]);
             assert_eq!(answers(&mut group, &[send_by(p, 7), one(3, 1)]), [0, 0]);
-            let sent = Check { crc: crc_octets(CRC_START, &[outlet, 0, 7]), count: 1 };
+            let sent = Check { crc: crc_octets(CRC_START, &[first, 0, 7]), count: 1 };
             assert_eq!(group.line(1, 2).packets[1], Packet::Checkp(sent));
             assert_eq!(answers(&mut group, &[deliver(1, 2), deliver(1, 2)]), [0, 0]);
             assert_eq!(group.cabinet(2).state, State::Checkpointing);
@@ -1939,28 +2112,40 @@ mod tests {
     }
 
     #[test]
-    fn notes_begin_after_both_bookings() {
-        let mut group = group_of_both(&[[100, 200], [10, 20]]);
-        let records = [0, 1, 2, 3, 4, 31, 32].map(note);
-        assert_eq!(answers(&mut group, &records), [15, 15, 15, 15, 0, 0, 15]);
-        assert_eq!(bookings(&group)[0], [100, 200]);
-        assert_eq!(group.cabinet(1).image[3..6], [200, 7, 0]);
+    fn notes_begin_after_all_bookings() {
+        let mut group = group_of_all(&[[100, 200, 300], [10, 20, 30]]);
+        let records = [0, 1, 2, 3, 4, 5, 6, 31, 32].map(note);
+        assert_eq!(answers(&mut group, &records), [15, 15, 15, 15, 15, 15, 0, 0, 15]);
+        assert_eq!(all_bookings(&group)[0], [100, 200, 300]);
+        assert_eq!(group.cabinet(1).image[5..8], [44, 7, 0]);
     }
 
     #[test]
-    fn the_places_of_a_line_are_for_both_outlets_together() {
-        let mut records: Vec<Record> = (0..8).map(|index| send_by(index % 4, 1)).collect();
+    fn the_places_of_a_party_are_for_both_outlets_together() {
+        let mut records: Vec<Record> = (0..4).map(|p| send_by(p, 1)).collect();
         records.extend([0, 1, 2, 3].map(|p| send_by(p, 1)));
-        let expected = [0, 0, 0, 0, 0, 0, 0, 0, 17, 17, 17, 17];
+        let expected = [0, 0, 0, 0, 17, 17, 17, 17];
         assert_eq!(answers(&mut group_of_both(&[[9, 9], [9, 9]]), &records), expected);
     }
 
     #[test]
-    fn the_ninth_normal_packet_finds_the_line_full() {
-        let mut records = vec![send(1, 2, 1); 9];
+    fn each_party_has_four_places_whatever_the_other_has() {
+        for (one, other) in [(0, 4), (4, 0)] {
+            let mut group = group_of_all(&[[90, 90, 90], [9, 9, 9]]);
+            let fill = |p: u8| [send_by(p, 1); 5];
+            assert_eq!(answers(&mut group, &fill(one)), [0, 0, 0, 0, 17]);
+            assert_eq!(answers(&mut group, &fill(other)), [0, 0, 0, 0, 17]);
+            assert_eq!(answers(&mut group, &[deliver(1, 2)]), [0]);
+            assert_eq!(answers(&mut group, &[send_by(other, 1), send_by(one, 1)]), [17, 0]);
+        }
+    }
+
+    #[test]
+    fn the_fifth_normal_packet_of_a_party_finds_the_line_full() {
+        let mut records = vec![send(1, 2, 1); 5];
         records.push(deliver(1, 2));
         records.push(send(1, 2, 1));
-        let expected = [0, 0, 0, 0, 0, 0, 0, 0, 17, 0, 0];
+        let expected = [0, 0, 0, 0, 17, 0, 0];
         assert_eq!(answers(&mut group(&[100, 50]), &records), expected);
     }
 
@@ -2004,26 +2189,28 @@ mod tests {
 
     #[test]
     fn a_save_without_resume_taken_is_passed_over() {
-        let mut group = group_of_both(&[[100, 10], [50, 5]]);
-        answers(&mut group, &[send_by(0, 30), send_by(3, 3), deliver(1, 2), deliver(1, 2)]);
+        let mut group = group_of_all(&[[100, 10, 20], [50, 5, 2]]);
+        answers(&mut group, &[send_by(0, 30), send_by(3, 3), send_by(4, 4)]);
+        answers(&mut group, &[deliver(1, 2); 3]);
         commit_of_two(&mut group);
         let records = [one(10, 1), one(14, 2), one(7, 2), one(7, 2), one(7, 2), one(7, 2)];
         assert_eq!(answers(&mut group, &records), [0; 6]);
         let end = group.step(&one(8, 2), KINDS);
         assert_eq!(end.event, Event::RecoveryEnd { save_passed_over: true });
         assert_eq!(group.cabinet(2).version, Version::Known(0));
-        assert_eq!(group.cabinet(2).bookings(), [50, 5]);
+        assert_eq!(group.cabinet(2).bookings(), [50, 5, 2]);
     }
 
     #[test]
     fn a_save_with_resume_taken_is_restored() {
-        let mut group = group_of_both(&[[100, 10], [50, 5]]);
-        answers(&mut group, &[send_by(0, 30), send_by(3, 3), deliver(1, 2), deliver(1, 2)]);
+        let mut group = group_of_all(&[[100, 10, 20], [50, 5, 2]]);
+        answers(&mut group, &[send_by(0, 30), send_by(3, 3), send_by(4, 4)]);
+        answers(&mut group, &[deliver(1, 2); 3]);
         commit_of_two(&mut group);
         let records = [deliver(1, 2), send(2, 1, 9), one(10, 1), one(14, 2), one(7, 2)];
         assert_eq!(answers(&mut group, &records), [0, 0, 0, 14, 0]);
         assert_eq!(group.cabinet(2).version, Version::Known(1));
-        assert_eq!(group.cabinet(2).bookings(), [80, 8]);
+        assert_eq!(group.cabinet(2).bookings(), [80, 8, 6]);
     }
 
     /// No run comes to an entry into error with marks there: entering normal has forgotten them.

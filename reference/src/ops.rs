@@ -6,20 +6,24 @@ use crate::listing::list_cabinets;
 use crate::model::{self, Group, Image};
 use std::fmt::Write;
 
-/// The expected text, or none if some line is no operation.
-pub fn answers_and_store(group_file: &[u8], ops: &str, highest_kind: u8) -> Option<String> {
+/// The operations, or none if some line is no operation.
+pub fn operations(ops: &str) -> Option<Vec<Operation>> {
+    ops.lines().map(operation_of_line).collect()
+}
+
+pub fn answers_and_store(group_file: &[u8], operations: &[Operation], highest_kind: u8) -> String {
     let mut evening = match model::load(group_file) {
         Ok(group) => Evening::new(group, highest_kind),
-        Err(refusal) => return Some(format!("load {refusal}\n")),
+        Err(refusal) => return format!("load {refusal}\n"),
     };
     let mut text = String::new();
-    for line in ops.lines() {
-        let answer = evening.take(operation_of_line(line)?);
+    for &operation in operations {
+        let answer = evening.take(operation);
         let _ = writeln!(text, "{answer}");
     }
     list_cabinets(&mut text, &evening.group);
     list_store(&mut text, &evening.group);
-    Some(text)
+    text
 }
 
 fn operation_of_line(line: &str) -> Option<Operation> {

@@ -4,7 +4,7 @@
 use crate::aim::Aim;
 use crate::listing::{add_counts, count, counts_text};
 use crate::model::{
-    self, Cabinet, Ends, Event, Group, Number, Outcome, Outlet, Packet, PacketVersion, Sign,
+    self, Account, Cabinet, Ends, Event, Group, Number, Outcome, Packet, PacketVersion, Sign,
     CABINET_ENTRY_LENGTH, TAKEN,
 };
 use std::collections::BTreeMap;
@@ -21,7 +21,7 @@ pub enum Cover {
 #[derive(Clone, Default, PartialEq, Eq, Debug)]
 pub struct OutletCounts {
     pub sends_taken: BTreeMap<Ends, u64>,
-    pub packets_taken: BTreeMap<Outlet, u64>,
+    pub packets_taken: BTreeMap<Account, u64>,
     /// With 15, and not for an amount of 0.
     pub sends_refused_for_p: u64,
     /// With 16.
@@ -29,8 +29,8 @@ pub struct OutletCounts {
     /// By octet, with 15, and not for the value.
     pub notes_refused_at: BTreeMap<u8, u64>,
     pub recoveries_changing_b: u64,
-    /// Link faults found by comparison, by the outlet of the hurt packet.
-    pub faults_by_comparison: BTreeMap<Outlet, u64>,
+    /// Link faults found by comparison, by the booking that the hurt packet was for.
+    pub faults_by_comparison: BTreeMap<Account, u64>,
     /// With 7, where A's bookings alone would have passed.
     pub loads_refused_for_b: u64,
 }
@@ -57,13 +57,13 @@ impl OutletCounts {
             _ => {}
         }
         match outcome.event {
-            Event::Added(outlet) => count(&mut self.packets_taken, outlet),
+            Event::Added(account) => count(&mut self.packets_taken, account),
             Event::RecoveryEnd { .. } => {
                 self.recoveries_changing_b += u64::from(watch.b_has_changed(group));
             }
             Event::LinkFault(Sign::CheckValue) => {
-                if let Some(outlet) = watch.hurt_on_line_of(record) {
-                    count(&mut self.faults_by_comparison, outlet);
+                if let Some(account) = watch.hurt_on_line_of(record) {
+                    count(&mut self.faults_by_comparison, account);
                 }
             }
             _ => {}
@@ -95,8 +95,8 @@ impl OutletCounts {
     }
 
     pub(crate) fn report(&self) -> String {
-        let mut text = format!("sends taken by outlets: {}\n", counts_text(&self.sends_taken));
-        let _ = writeln!(text, "packets taken by outlet: {}", counts_text(&self.packets_taken));
+        let mut text = format!("sends taken by bookings: {}\n", counts_text(&self.sends_taken));
+        let _ = writeln!(text, "packets taken by booking: {}", counts_text(&self.packets_taken));
         let _ = writeln!(text, "sends refused 15 for p: {}", self.sends_refused_for_p);
         let covered = counts_text(&self.sends_otherwise_covered);
         let _ = writeln!(text, "sends refused 16, covered by: {covered}");
@@ -109,12 +109,17 @@ impl OutletCounts {
     }
 }
 
-fn cover(sender: &Cabinet, outlet: Outlet, amount: u16) -> Option<Cover> {
-    let other = sender.booking(outlet.other());
+/// The workshop has no outlet.
+fn cover(sender: &Cabinet, account: Account, amount: u16) -> Option<Cover> {
+    let other = match account {
+        Account::A => sender.booking(Account::B),
+        Account::B => sender.booking(Account::A),
+        Account::Workshop => return None,
+    };
     if amount <= other {
         return Some(Cover::OtherOutlet);
     }
-    let missing = amount - sender.booking(outlet);
+    let missing = amount - sender.booking(account);
     (missing <= other).then_some(Cover::BothTogether)
 }
 
@@ -124,24 +129,24 @@ fn loads_without_b(group_file: &[u8]) -> bool {
     let n = usize::from(file[1]);
     let header_length = PacketVersion::named_by(&file).header_length();
     for entry in file[header_length..].chunks_mut(CABINET_ENTRY_LENGTH).take(n) {
-        entry[4..].fill(0);
+        entry[4..6].fill(0);
     }
     model::load(&file).is_ok()
 }
 
-/// For the counts only: B's bookings as they were before the recovery under way, and the outlet
-/// of the packet that was damaged or lost last on each line.
+/// For the counts only: B's bookings as they were before the recovery under way, and for which
+/// booking the packet was that was damaged or lost last on each line.
 #[derive(Default)]
 pub(crate) struct Watch {
     before_fault: [u16; 8],
-    hurt: BTreeMap<(Number, Number), Outlet>,
+    hurt: BTreeMap<(Number, Number), Account>,
 }
 
 impl Watch {
     pub(crate) fn before_step(&mut self, group: &Group) {
         if !group.recovery_under_way() {
             for (number, booking) in group.numbers().zip(&mut self.before_fault) {
-                *booking = group.cabinet(number).booking(Outlet::B);
+                *booking = group.cabinet(number).booking(Account::B);
             }
         }
     }
@@ -152,11 +157,11 @@ impl Watch {
             return;
         };
         if let Some(Packet::Normal(charge)) = aim.packet {
-            self.hurt.insert(aim.line, charge.outlet);
+            self.hurt.insert(aim.line, charge.account);
         }
     }
 
-    fn hurt_on_line_of(&self, deliver: &[u8]) -> Option<Outlet> {
+    fn hurt_on_line_of(&self, deliver: &[u8]) -> Option<Account> {
         let line = (usize::from(deliver[1]), usize::from(deliver[2]));
         self.hurt.get(&line).copied()
     }
@@ -165,7 +170,7 @@ impl Watch {
     fn b_has_changed(&self, group: &Group) -> bool {
         group.numbers().zip(self.before_fault).any(|(number, before)| {
             let cabinet = group.cabinet(number);
-            cabinet.working() && cabinet.booking(Outlet::B) != before
+            cabinet.working() && cabinet.booking(Account::B) != before
         })
     }
 }

@@ -1,7 +1,7 @@
 //! Points to come back to: up to four, each a name and one image for each cabinet. They stand
 //! beside the group; taking a point changes the points alone, a return the group alone.
 
-use crate::model::{Group, Image, TAKEN};
+use crate::model::{without_workshop, Group, Image, TAKEN};
 
 pub const NAME_LENGTH: usize = 8;
 pub type Name = [u8; NAME_LENGTH];
@@ -12,13 +12,13 @@ const NO_SUCH_NAME: u8 = 21;
 const NOT_QUIET: u8 = 22;
 const A_FIFTH_NAME: u8 = 23;
 
-#[derive(Clone)]
+#[derive(Clone, PartialEq, Eq)]
 struct Point {
     name: Name,
     images: Vec<Image>,
 }
 
-#[derive(Clone, Default)]
+#[derive(Clone, Default, PartialEq, Eq)]
 pub struct Points(Vec<Point>);
 
 impl Points {
@@ -47,6 +47,15 @@ impl Points {
             None => self.0.push(point),
         }
         TAKEN
+    }
+
+    /// With nothing booked by the workshop.
+    pub fn but_for_amounts(&self) -> Points {
+        let point = |Point { name, images }: &Point| {
+            let images = images.iter().copied().map(without_workshop).collect();
+            Point { name: *name, images }
+        };
+        Points(self.0.iter().map(point).collect())
     }
 
     /// Sets all images and slots to the point's; answers 0 or the refusal.

@@ -1,7 +1,8 @@
 //! Groups, records and ways to bring a group on, for the tests of more than one part.
 
 use crate::model::{
-    load, Event, Group, Number, Outlet, Packet, PacketVersion, State, KINDS, TAKEN,
+    load, Account, Event, Group, Number, Packet, PacketVersion, State, CABINET_ENTRY_LENGTH, KINDS,
+    TAKEN,
 };
 
 pub(crate) type Record = [u8; 6];
@@ -19,7 +20,7 @@ pub(crate) fn group_file(
     links: &[(u8, u8)],
 ) -> Vec<u8> {
     let header_length = if version == PacketVersion::Two { 12 } else { 10 };
-    let link_table = header_length + 6 * bookings.len();
+    let link_table = header_length + CABINET_ENTRY_LENGTH * bookings.len();
     let length = link_table + 2 * links.len();
     let header = [bookings.len(), links.len(), header_length, link_table, length, 2];
     let mut file: Vec<u8> =
@@ -27,7 +28,7 @@ pub(crate) fn group_file(
     file.truncate(header_length);
     for (number, booking) in (1..).zip(bookings) {
         let [high, low] = booking.to_be_bytes();
-        file.extend_from_slice(&[store, u8::from(number == store), high, low, 0, 0]);
+        file.extend_from_slice(&[store, u8::from(number == store), high, low, 0, 0, 0, 0]);
     }
     file.extend(links.iter().flat_map(|&(low, high)| [low, high]));
     file
@@ -146,7 +147,7 @@ pub(crate) fn states(group: &Group) -> Vec<State> {
 
 /// At A.
 pub(crate) fn bookings(group: &Group) -> Vec<u16> {
-    group.numbers().map(|number| group.cabinet(number).booking(Outlet::A)).collect()
+    group.numbers().map(|number| group.cabinet(number).booking(Account::A)).collect()
 }
 
 pub(crate) fn leads(group: &Group) -> Vec<Number> {

@@ -12,11 +12,12 @@ use reference::own_checks::{Dropped, Found, Hit, Misfit, Mixed};
 use reference::trips::Between;
 use reference::unsure::{Lost, Refusal};
 use reference::word::{word, Mark, Sort, WordCounts};
+use reference::workshop::{self, Overbooked, Totals};
 
 const WISHES: Wishes = Wishes { damage: true, highest_kind: KINDS, cabinets: None };
-const MADE: Row = Row { form: Form::Steps, seed: 4915, cases: 200, wishes: WISHES };
-const PLANNED: Row = Row { form: Form::Plan, seed: 5323, cases: 100, wishes: WISHES };
-const WORDED: Row = Row { form: Form::Word, seed: 59, cases: 100, wishes: WISHES };
+const MADE: Row = Row { form: Form::Steps, seed: 1216, cases: 210, wishes: WISHES };
+const PLANNED: Row = Row { form: Form::Plan, seed: 1264, cases: 100, wishes: WISHES };
+const WORDED: Row = Row { form: Form::Word, seed: 1957, cases: 100, wishes: WISHES };
 
 const GROUP_MOST: usize = 4_096;
 const RECORDS_MOST: usize = 90_180;
@@ -72,13 +73,13 @@ fn of_steps(tally: &Tally) -> Vec<Reached> {
 fn of_outlets(tally: &Tally) -> Vec<Reached> {
     let outlets = &tally.outlets;
     vec![
-        ("sends by outlets", outlets.sends_taken.len() == 4),
-        ("packets by outlet", outlets.packets_taken.len() == 2),
+        ("sends by bookings", outlets.sends_taken.len() == 5),
+        ("packets by booking", outlets.packets_taken.len() == 3),
         ("sends refused for p", outlets.sends_refused_for_p > 0),
         ("sends otherwise covered", outlets.sends_otherwise_covered.len() == 2),
         ("notes refused", outlets.notes_refused_at.keys().eq(&[2, 3])),
         ("recoveries changing B", outlets.recoveries_changing_b > 0),
-        ("comparisons by outlet", outlets.faults_by_comparison.len() == 2),
+        ("comparisons by booking", outlets.faults_by_comparison.len() == 3),
         ("loads refused for B", outlets.loads_refused_for_b > 0),
     ]
 }
@@ -173,6 +174,28 @@ fn of_own_checks(tally: &Tally) -> Vec<Reached> {
     ]
 }
 
+fn of_workshop(tally: &Tally) -> Vec<Reached> {
+    let counts = &tally.workshop;
+    let refused = &counts.loads_refused;
+    let found = &counts.recoveries_after_find;
+    vec![
+        ("totals", counts.totals.keys().eq(&Totals::ALL)),
+        ("overbooked", Overbooked::BY_ONE_PARTY.iter().all(|by| refused.contains_key(by))),
+        ("sends beyond four", counts.sends_beyond_four.len() == 2 && counts.lines_filled > 0),
+        ("lines full", counts.lines_full.len() == 4),
+        ("covered by the other party's", counts.otherwise_covered.len() == 2),
+        ("notes", counts.notes.keys().eq(&[(4, 15), (5, 15), (6, 0)])),
+        ("workshop packets hurt", counts.hurt.len() == 4),
+        ("refused after the other party's", counts.refused_after_the_other.len() == 2),
+        ("wraps of the workshop's", counts.wraps > 0),
+        ("workshop's hurts found", counts.found.keys().eq(&workshop::Found::ALL)),
+        ("recoveries after those", found.keys().eq(&workshop::Found::ALL)),
+        ("trips with a workshop booking", counts.trips > 0),
+        ("recoveries changing the workshop's", counts.recoveries_changing > 0),
+        ("commits changing the workshop's", counts.commits_changing > 0),
+    ]
+}
+
 fn several_of_each(tally: &Tally) -> bool {
     let ended = &tally.own_checks.recoveries_ended;
     ended.keys().eq(&Found::ALL) && ended.values().all(|&recoveries| recoveries > 2)
@@ -180,8 +203,9 @@ fn several_of_each(tally: &Tally) -> bool {
 
 /// The names of the counts at which nothing is counted.
 fn not_reached(tally: &Tally) -> Vec<&'static str> {
-    let parts = [of_steps, of_outlets, of_losses, of_trips, of_reports_unsure, of_own_checks];
-    let reached = parts.into_iter().flat_map(|part| part(tally));
+    let early = [of_steps, of_outlets, of_losses, of_trips, of_reports_unsure];
+    let late = [of_own_checks, of_workshop];
+    let reached = early.into_iter().chain(late).flat_map(|part| part(tally));
     reached.filter(|(_, there)| !there).map(|(name, _)| name).collect()
 }
 

@@ -39,7 +39,7 @@ pub fn agrees(file: &[u8], list: &[u8], text: &[u8]) -> bool
 pub fn evening_agrees(file: &[u8], list: &[u8], text: &[u8]) -> bool
     ensures { λ r. ⌜ Decides r (now (text .entry) ≡ evening (now (file .entry)) (now (list .entry))) ⌝ }
 {
-    let mut out = [0u8; 200200];
+    let mut out = [0u8; 201220];
     let length = diary::write_evening(file, list, &mut out);
     holds(&out, length, text)
 }

@@ -81,7 +81,7 @@ fn judged(kind: Kind, file: &[u8], list: &[u8], text: &[u8], s: Sizes) -> Verdic
 fn sized_case(kind: Kind, fd: i32, s: Sizes) -> Verdict {
     let mut file = [0u8; 4096];
     let mut list = [0u8; 90180];
-    let mut text = [0u8; 200200];
+    let mut text = [0u8; 201220];
     if filled(fd, &mut file, s.file) {
         if filled(fd, &mut list, s.list) {
             if filled(fd, &mut text, s.text) {
@@ -192,6 +192,7 @@ fn main() {
     container(Kind::Listing, b"trips", b"trips.cases");
     container(Kind::Listing, b"unsure", b"unsure.cases");
     container(Kind::Listing, b"own checks", b"own_checks.cases");
+    container(Kind::Listing, b"workshop", b"workshop.cases");
     container(Kind::Listing, b"made", b"made.cases");
     container(Kind::Evening, b"points", b"points.cases");
     container(Kind::Evening, b"planned", b"planned.cases");

@@ -4,11 +4,12 @@ pub mod Left
 pub mod Demand
 pub mod Bounds
 pub mod Saves
+pub mod Hurts
 pub mod Points
 pub mod During
 pub mod NoClock
 pub mod Fifo
 pub mod Versions
 pub mod Word
-pub mod Examples
+pub mod Written
 pub mod Instances

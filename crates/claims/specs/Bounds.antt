@@ -5,6 +5,9 @@ use mathlib.Core.Path.{_≡_}
 use mathlib.Core.Bool.{true, false}
 use mathlib.Core.List.{List, [], _∷_}
 use lib.ListN.{length}
+use Rattle.outlet.specs.declared.Party.{Party}
+use Rattle.outlet.specs.declared.Party.the-variants.{Buses, Workshop}
+use Rattle.outlet.specs.Outlet.{partyOf}
 use Rattle.packet.specs.declared.PacketVersion.{PacketVersion}
 use Rattle.packet.specs.declared.PacketVersion.the-variants.{One, Two}
 use Rattle.packet.specs.declared.Payload.{Payload}
@@ -39,6 +42,20 @@ content (c ∷ cs) = packetOf (c .packet) (content cs)
 abbrev pub packets : Group → ℕ → ℕ → List Packet
 packets g a b = content (line g a b .cells)
 
+-- the normal ones of them
+abbrev pub normalFirst : Packet → List Packet → List Packet
+normalFirst Empty l = l
+normalFirst (NormalPacket p) l = NormalPacket p ∷ l
+normalFirst (Checkp v) l = l
+normalFirst Resume l = l
+normalFirst (Recover v) l = l
+normalFirst (Fault p) l = l
+normalFirst Invalid l = l
+
+unfoldable pub normalsOf : List Packet → List Packet
+normalsOf [] = []
+normalsOf (p ∷ l) = normalFirst p (normalsOf l)
+
 -- ---- what is asked of every run
 
 -- of the group and its history after every list of operations (step records, points and returns) from a freshly loaded file
@@ -68,21 +85,25 @@ PacketsOfVersion =
 
 -- ---- lines
 
--- "each direction is a line, first in, first out, of at most 12 packets, at most 8 of them normal"
+-- "each direction is a line, first in, first out, of at most 12 packets, at most 8 of them normal"; the workshop has "four of the eight normal
+-- places in each; the buses have the other four"
 abbrev pub LinesBounded : Type 0
-LinesBounded = Always (λ g h. (a b : ℕ) → (length (packets g a b) ≤ 12) × (normals (line g a b) ≤ 8))
+LinesBounded =
+    Always (λ g h. (a b : ℕ) → (length (packets g a b) ≤ 12) × (normals Buses (line g a b) ≤ 4) × (normals Workshop (line g a b) ≤ 4)
+    × (length (normalsOf (packets g a b)) ≤ 8))
 
 -- ---- amounts
 
--- "no normal packet has been damaged since the start or the end of the last recovery"
-abbrev pub Undamaged : History → Type 0
-Undamaged h = h .damaged ≡ false
+-- "no normal packet has been damaged since the start or the end of the last recovery": none of that party
+abbrev pub Undamaged : Party → History → Type 0
+Undamaged y h = h .damaged y ≡ false
 
--- the outlet of b that p names has room for its amount
+-- the booking of b that p names, an outlet's or the workshop's, has room for its amount
 abbrev pub HasRoom : Group → ℕ → Payload → Type 0
 HasRoom g b p = booking (p .outlet) (cabinet g b .image) + p .amount < 65536
 
--- "A receiver adds an amount modulo 65,536; it is to be proved that this never wraps while .. ": b adds p, the oldest packet from a
+-- "A receiver adds an amount modulo 65,536; it is to be proved that this never wraps while .. ": b adds p, the oldest packet from a, and no
+-- packet of p's party was damaged; packets of the other party may have been
 abbrev pub NeverWraps : Type 0
 NeverWraps =
-    Running (λ g h. Undamaged h → (a b : ℕ) (p : Payload) → oldest (line g a b) ≡ NormalPacket p → takesFrom (cabinet g b) a ≡ true → HasRoom g b p)
+    Running (λ g h. (a b : ℕ) (p : Payload) → Undamaged (partyOf (p .outlet)) h → oldest (line g a b) ≡ NormalPacket p → takesFrom (cabinet g b) a ≡ true → HasRoom g b p)

@@ -5,7 +5,11 @@ use mathlib.Core.Bool.{true, false}
 use mathlib.Core.List.{List, [], _∷_, _++_, map}
 use mathlib.Core.Option.{some}
 use lib.ListN.{getD}
+use Rattle.outlet.specs.declared.Party.the-variants.{Buses, Workshop}
+use Rattle.outlet.specs.Outlet.{partyOf}
 use Rattle.packet.specs.declared.Payload.{Payload}
+use Rattle.packet.specs.declared.Check.{Check}
+use Rattle.packet.specs.Packet.{startCheck, stepCheck}
 use Rattle.packet.specs.declared.Packet.the-variants.{Normal as NormalPacket, Resume}
 use Rattle.line.specs.Line.{oldest}
 use Rattle.image.specs.Image.{blankImage}
@@ -13,32 +17,38 @@ use Rattle.state.specs.declared.State.the-variants.{Recovering}
 use Rattle.group.specs.Group.{stateOf, line}
 use Rattle.load.specs.Load.{cabinetCount, feederTotal}
 use Rattle.protocol.specs.declared.Step.the-variants.{Deliver, Lose}
-use Rattle.protocol.specs.Marked.{twoCabinets, send, deliver, restored, fail}
+use Rattle.protocol.specs.Marked.{twoCabinets, send, begin, deliver, restored, fail}
 use Rattle.protocol.specs.Restored.{worldAfter}
 use Rattle.protocol.specs.History.{World, stepping, pointing, returning, steps, advance, run, ends, latest}
 use Rattle.protocol.specs.Returns.{named, pointAfterLoss, keptAfterLoss}
-use Rattle.protocol.specs.Outlets.{sendAB, outletPair}
+use Rattle.protocol.specs.Outlets.{sendAB}
+use Rattle.protocol.specs.Workshop.{sharedPair, sendW, toW}
 use Rattle.protocol.specs.Losses.{lose}
 use Rattle.protocol.specs.Unsure.{storeBetween, untilWait, endUnderWait}
 use Rattle.protocol.specs.Entry.{step}
 use Rattle.protocol.specs.Examples.{toA, toB, damage, fetches, row, ring, ringCommitted, fourCabinets, fourSaved, thirdLost, threeCommitted}
 use Rattle.claims.specs.Bounds.{packets, Undamaged, HasRoom}
 use Rattle.claims.specs.Fifo.{lineAfter}
+use Rattle.claims.specs.Hurts.{Compares, AsHurt}
 use Rattle.claims.specs.Saves.{savedTotal, OfNewest}
 use Rattle.claims.specs.Points.{KeptOf}
 use Rattle.claims.specs.NoClock.{WaitTaken, waited, firstEnd, unsureRecord, report, OneOfEach, decider, Replaced}
 
--- ---- additions: with a damaged packet one would wrap, so that the premise of `NeverWraps` is wanted
+-- ---- additions: with a damaged packet of that party one would wrap, so that the premise of `NeverWraps` is wanted
 
--- damage makes 65,535 amperes of the 30 that 1 sends to 2, which has 50 at outlet A and 20 at outlet B
+-- damage makes 65,535 amperes of the 30 that 1 sends to 2, which has 50 at outlet A, 20 at outlet B and 5 for the workshop
 abbrev pub swollen : List ℕ → World
-swollen sending = worldAfter outletPair (steps (sending ∷ damage 1 2 0 65505 ∷ []))
+swollen sending = worldAfter sharedPair (steps (sending ∷ damage 1 2 0 65505 ∷ []))
 
 abbrev pub WouldWrap : World → Payload → Type 0
-WouldWrap w p = (oldest (line (w .group) 0 1) ≡ NormalPacket p) × (HasRoom (w .group) 1 p → ⊥) × (Undamaged (w .history) → ⊥)
+WouldWrap w p = (oldest (line (w .group) 0 1) ≡ NormalPacket p) × (HasRoom (w .group) 1 p → ⊥) × (Undamaged (partyOf (p .outlet)) (w .history) → ⊥)
 
 abbrev pub Wraps : Type 0
-Wraps = WouldWrap (swollen (send 1 2 30)) (toA 65535) × WouldWrap (swollen (sendAB 1 2 30)) (toB 65535)
+Wraps = WouldWrap (swollen (send 1 2 30)) (toA 65535) × WouldWrap (swollen (sendAB 1 2 30)) (toB 65535) × WouldWrap (swollen (sendW 1 2 30)) (toW 65535)
+
+-- of the other party nothing is damaged then
+abbrev pub OthersUndamaged : Type 0
+OthersUndamaged = Undamaged Workshop (swollen (send 1 2 30) .history) × Undamaged Buses (swollen (sendW 1 2 30) .history)
 
 -- ---- lines: 2 takes the resume of 1, and puts one on its line to 3 and none on that back to 1
 
@@ -64,7 +74,20 @@ oneLost = advance twoSent (stepping (lose 1 2 0))
 abbrev pub LossMovesUp : Type 0
 LossMovesUp =
     (lineAfter (twoSent .group) (oneLost .group) (Lose 1 2 0) 0 1 ≡ NormalPacket (toA 7) ∷ []) × (packets (oneLost .group) 0 1 ≡ NormalPacket (toA 7) ∷ [])
-    × Undamaged (oneLost .history) × (oneLost .history .hurt 0 1 ≡ true)
+    × Undamaged Buses (oneLost .history) × (oneLost .history .hurt 0 1 ≡ true)
+
+-- ---- comparisons: 2 would take the checkp of a save that 1 begins, after a packet that is lost and after one that is taken
+
+abbrev pub compareAfter : List ℕ → World
+compareAfter next = worldAfter (twoCabinets 100 50) (steps (send 1 2 5 ∷ next ∷ begin 1 ∷ []))
+
+abbrev pub ComparedThere : World → Check → Type 0
+ComparedThere w v = Compares (w .group) 0 1 v × AsHurt (w .group) (w .history) 0 1 v
+
+abbrev pub TwoComparisons : Type 0
+TwoComparisons =
+    ComparedThere (compareAfter (lose 1 2 0)) (stepCheck startCheck (toA 5)) × (compareAfter (lose 1 2 0) .history .hurt 0 1 ≡ true)
+    × ComparedThere (compareAfter (deliver 1 2)) (stepCheck startCheck (toA 5)) × (compareAfter (deliver 1 2) .history .hurt 0 1 ≡ false)
 
 -- ---- saves: the version of 2 is 1 now, and its slot 0 has the start
 
@@ -73,7 +96,7 @@ OtherSlotIsOlder = OfNewest (resumed .group) (resumed .history) 1 false → ⊥
 
 -- 3 was lost before the second save, which has no cut of it: its 50 amperes count
 abbrev pub LostOnesCount : Type 0
-LostOnesCount = savedTotal 4 (worldAfter fourCabinets (steps (fourSaved ++ thirdLost ++ threeCommitted)) .history) ≡ 200
+LostOnesCount = savedTotal 4 (worldAfter fourCabinets (steps (fourSaved ++ thirdLost ++ threeCommitted)) .history) Buses ≡ 200
 
 -- ---- points: at the second one of the row 1 is lost with what it has in it, and 2 works
 

@@ -7,6 +7,7 @@ use mathlib.Core.List.{List, [], _∷_, map}
 use mathlib.Core.Option.{Option, none, some}
 use lib.ListN.{getD}
 use lib.Dec.{eqb}
+use Rattle.outlet.specs.declared.Party.{Party}
 use Rattle.marks.specs.Marks.{marked}
 use Rattle.state.specs.declared.State.the-variants.{Error, Recovering}
 use Rattle.state.specs.State.{works}
@@ -94,7 +95,7 @@ AllTaken w (c ∷ cs) = (step (w .group) (unsureRecord c) .answer ≡ 0) × AllT
 -- ---- the claim
 
 -- from w one report of each in cs, where under the wait the recovery ended in u
-pub record Replaced (n total : ℕ) (w u : World) (k : ℕ) (cs : List ℕ) : Type 0 where
+pub record Replaced (n : ℕ) (total : Party → ℕ) (w u : World) (k : ℕ) (cs : List ℕ) : Type 0 where
   -- under the wait all was restored
   pub restored : Restored n total (u .history) (u .group)
   -- each report is taken, and with the last one the coordinator goes on

@@ -4,6 +4,7 @@ use mathlib.Core.Path.{_≡_}
 use mathlib.Core.Bool.{true, false}
 use mathlib.Core.List.{List}
 use mathlib.Core.Option.{Option, some}
+use Rattle.outlet.specs.declared.Party.{Party}
 use Rattle.state.specs.State.{works}
 use Rattle.image.specs.declared.Image.{Image}
 use Rattle.image.specs.Image.{booked}
@@ -38,14 +39,14 @@ PointsKeepSaves =
 
 -- ---- the points that stand
 
-pub record Stand (n total : ℕ) (ps : Points) (h : History) : Type 0 where
+pub record Stand (n : ℕ) (total : Party → ℕ) (ps : Points) (h : History) : Type 0 where
   -- their names differ
   pub names : (j k : ℕ) → pointAt ps j .kept ≡ true → pointAt ps k .kept ≡ true → pointAt ps j .name ≡ pointAt ps k .name → j ≡ k
   -- each has the images that the history has under its name
   pub images : (k : ℕ) → pointAt ps k .kept ≡ true
       → (m : ℕ → Option Image) × (h .points (pointAt ps k .name) ≡ some m) × ((c : ℕ) → c < n → m c ≡ some (imageAt (pointAt ps k) c))
-  -- and these add up to the feeder's total
-  pub adds : (k : ℕ) → pointAt ps k .kept ≡ true → sum (λ c. booked (imageAt (pointAt ps k) c)) n ≡ total
+  -- and these add up to the feeder's total, for each party by itself
+  pub adds : (k : ℕ) → pointAt ps k .kept ≡ true → (y : Party) → sum (λ c. booked y (imageAt (pointAt ps k) c)) n ≡ total y
 
 abbrev pub PointsStand : Type 0
 PointsStand =

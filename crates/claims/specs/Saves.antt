@@ -7,6 +7,7 @@ use mathlib.Core.Bool.{Bool, true, false}
 use mathlib.Core.List.{List, _∷_}
 use mathlib.Core.Option.{some}
 use Rattle.marks.specs.Marks.{marked, covers}
+use Rattle.outlet.specs.declared.Party.{Party}
 use Rattle.packet.specs.declared.Packet.the-variants.{Resume}
 use Rattle.line.specs.Line.{oldest, packetAt}
 use Rattle.state.specs.declared.State.the-variants.{Checkpointing, Checkpointed}
@@ -35,21 +36,21 @@ pub record Commits (g : Group) (r : List ℕ) : Type 0 where
   pub commit : commits g (step g r .group) (coordinator (cabinet g (cabinet g (about - 1) .home))) ≡ true
 
 -- of the group before a commit, and the history after it
-abbrev pub EveryCommit : (ℕ → ℕ → Group → History → Type 0) → Type 0
+abbrev pub EveryCommit : (ℕ → (Party → ℕ) → Group → History → Type 0) → Type 0
 EveryCommit P =
     (f : List ℕ) → Octets f → load f .answer ≡ 0 → (xs : List Operation) → AllOctets xs → (r : List ℕ) → Octets r
     → Commits (worldAfter f xs .group) r → P (cabinetCount f) (feederTotal f) (worldAfter f xs .group) (advance (worldAfter f xs) (stepping r) .history)
 
--- the images of the newest save, lost cabinets' included
-abbrev pub savedTotal : ℕ → History → ℕ
-savedTotal n h = sum (λ c. amperes (imageNow h c)) n
+-- the images of the newest save, lost cabinets' included, of a party
+abbrev pub savedTotal : ℕ → History → Party → ℕ
+savedTotal n h y = sum (λ c. amperes y (imageNow h c)) n
 
 -- at its cuts what each had taken from each other one is what that one had sent it, all, in order and undamaged; every cabinet has an
--- image in it or was lost with one; and these add up to the feeder's total
+-- image in it or was lost with one; and these add up to the feeder's total, for each party by itself
 abbrev pub CommitsWhole : Type 0
 CommitsWhole =
     EveryCommit (λ n total g h.
-    Balanced (latest h) × ((c : ℕ) → c < n → (m : Image) × (imageNow h c ≡ some m)) × (savedTotal n h ≡ total))
+    Balanced (latest h) × ((c : ℕ) → c < n → (m : Image) × (imageNow h c ≡ some m)) × ((y : Party) → savedTotal n h y ≡ total y))
 
 -- "A save with a lost packet must never commit", and "Neither version may commit a hurt packet": where a save is committed, no normal packet
 -- of any line was hurt, damaged or lost, since the start or the last recovery's end

@@ -51,15 +51,15 @@ module _ (file list : List ℕ) {used : ℕ} (u : used ≡ min (length list) 900
 
     pub accepted : {answers before mid after : List ℕ} {at end : ℕ} (room : List ℕ) → length answers ≡ 10000 → answers ≡ sets room 0 (answersOf file (operationsIn (take used list)))
         → Written (planLines 1 (planRecords (length (take used list)) (take used list)) answers) 0 before at mid → Written (cabLines (o .group .n) (o .group)) at mid end after
-        → o .group .n ≤ 255 → (end ≡ length (evening file list)) × ((after ≡ sets before 0 (evening file list)) × (end ≤ 200200))
+        → o .group .n ≤ 255 → (end ≡ length (evening file list)) × ((after ≡ sets before 0 (evening file list)) × (end ≤ 201220))
     accepted {answers} room l s v w n =
         let said : Text = planLines 1 (planRecords (length (take used list)) (take used list)) answers in
         let cabs : Text = cabLines (o .group .n) (o .group) in
         let all : said ++ cabs ≡ evening file list = rw (told room l s, group-of file (operations rs) run-of z) (sym lines) in
         let few : length said ≤ 19 * length rs = rw (told room l s) (lines-length 1 rs (answersTo first (operations rs))) in
-        let short : length (said ++ cabs) ≤ 200200 =
+        let short : length (said ++ cabs) ≤ 201220 =
         rw (length-append said cabs) (omega (arith, few, at-most 9 10000 list, cabs-length (o .group .n) (o .group))) in
-        exactly 200200 (omega arith) all short (then v w)
+        exactly 201220 (omega arith) all short (then v w)
 
   module _ (z : o .answer ≡ 0 → ⊥) where
     line : loadLine (o .answer) ≡ evening file list
@@ -67,8 +67,8 @@ module _ (file list : List ℕ) {used : ℕ} (u : used ≡ min (length list) 900
     line = rw (unloaded file (operations rs) run-of z, answer-of file (operations rs) run-of)
 
     pub refused : {before after : List ℕ} {end : ℕ} → Written (loadLine (o .answer)) 0 before end after
-        → (end ≡ length (evening file list)) × ((after ≡ sets before 0 (evening file list)) × (end ≤ 200200))
-    refused w = exactly 200200 (omega arith) line (omega (arith, load-length (o .answer))) w
+        → (end ≡ length (evening file list)) × ((after ≡ sets before 0 (evening file list)) × (end ≤ 201220))
+    refused w = exactly 201220 (omega arith) line (omega (arith, load-length (o .answer))) w
 
 -- ---- demand 3
 

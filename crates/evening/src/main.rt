@@ -24,7 +24,7 @@ fn main() {
     let file_length = read_start(b"group.dat", &mut file);
     let mut list = [0u8; 90000];
     let list_length = read_start(b"plan.dat", &mut list);
-    let mut text = [0u8; 200200];
+    let mut text = [0u8; 201220];
     let n = diary::write_evening(&file[..file_length], &list[..list_length], &mut text);
     io::write_all(STDOUT_FILENO, &text[..n]);
 }

@@ -1,8 +1,10 @@
--- A cabinet's image: 32 octets, with the booking of each outlet and notes (document 02, card 2), moved in four pieces.
+-- A cabinet's image: 32 octets, with the booking of each outlet, the workshop's and notes (document 02, cards 2 and 9), moved in four pieces.
 use Prim.Native.Nat.{ℕ, zero, suc, _+_, _-_, _*_, _/_, _%_}
 use lib.ListN.{getD, set, replicate}
 use Rattle.outlet.specs.declared.Outlet.{Outlet}
-use Rattle.outlet.specs.declared.Outlet.the-variants.{A, B}
+use Rattle.outlet.specs.declared.Outlet.the-variants.{A, B, W}
+use Rattle.outlet.specs.declared.Party.{Party}
+use Rattle.outlet.specs.declared.Party.the-variants.{Buses, Workshop}
 use Rattle.image.specs.declared.Image.{Image}
 
 abbrev pub blankImage : Image
@@ -13,17 +15,19 @@ withOctet m p v = record { octets = set (m .octets) p v }
 
 -- ---- bookings, each "in amperes"
 
--- "Octets 0 and 1 become A's booking, 2 and 3 B's": the first octet of each
+-- "Octets 0 and 1 become A's booking, 2 and 3 B's"; "The depot workshop gets its own booking in octets 4 and 5": the first octet of each
 abbrev pub bookingAt : Outlet → ℕ
 bookingAt A = 0
 bookingAt B = 2
+bookingAt W = 4
 
 abbrev pub booking : Outlet → Image → ℕ
 booking o m = getD (m .octets) (bookingAt o) 0 * 256 + getD (m .octets) (bookingAt o + 1) 0
 
--- what an image books: the sum "over all outlets"
-abbrev pub booked : Image → ℕ
-booked m = booking A m + booking B m
+-- what an image books for a party: for the buses the sum over both outlets
+abbrev pub booked : Party → Image → ℕ
+booked Buses m = booking A m + booking B m
+booked Workshop m = booking W m
 
 abbrev pub withBooking : Image → Outlet → ℕ → Image
 withBooking m o v = withOctet (withOctet m (bookingAt o) (v / 256)) (bookingAt o + 1) (v % 256)
@@ -38,9 +42,9 @@ credited m o q = withBooking m o ((booking o m + q) % 65536)
 
 -- ---- notes
 
--- "notes begin at 4"
+-- "notes begin at 6"
 abbrev pub firstNote : ℕ
-firstNote = 4
+firstNote = 6
 
 -- ---- pieces
 

@@ -1,4 +1,4 @@
-// A cabinet's image: 32 octets, the bookings of the outlets first.
+// A cabinet's image: 32 octets, the bookings of the outlets and of the workshop first.
 use outlet::Outlet;
 ghost use mathlib.Core.Path.{_≡_};
 ghost use Prim.Native.Nat.{_*_, _+_, _-_, _<_};
@@ -28,6 +28,7 @@ fn booking_at(outlet: Outlet) -> usize
     match outlet {
         Outlet::A => 0,
         Outlet::B => 2,
+        Outlet::W => 4,
     }
 }
 

@@ -9,7 +9,8 @@ use lib.ListN.{length, getD, set, drop, drop-of-length-le}
 use lib.Seq.{drop-cons}
 use Rattle.packet.specs.declared.Packet.{Packet}
 use Rattle.line.specs.declared.Cell.{Cell}
-use Rattle.packet.specs.Packet.{isEmpty, isNormal}
+use Rattle.outlet.specs.declared.Party.{Party}
+use Rattle.packet.specs.Packet.{isEmpty, isOf}
 use Rattle.line.specs.Line.{emptyCell, restCells, putCells, firstEmpty, normalsIn, withoutCells}
 
 -- a search that has passed i full cells
@@ -37,15 +38,15 @@ put-at [] p = refl
 put-at (c ∷ cs) p = put-here (isEmpty (c .packet)) c cs p (put-at cs p)
 
 -- a count that has passed i cells
-pub count-more : (l : List Cell) (i n : ℕ) → i < length l → normalsIn l ≡ n + normalsIn (drop i l)
-    → normalsIn l ≡ (n + cond (isNormal (getD l i emptyCell .packet)) 1 0) + normalsIn (drop (i + 1) l)
-count-more l i n h e =
-    let d : normalsIn (drop i l) ≡ cond (isNormal (getD l i emptyCell .packet)) 1 0 + normalsIn (drop (i + 1) l)
+pub count-more : (y : Party) (l : List Cell) (i n : ℕ) → i < length l → normalsIn y l ≡ n + normalsIn y (drop i l)
+    → normalsIn y l ≡ (n + cond (isOf y (getD l i emptyCell .packet)) 1 0) + normalsIn y (drop (i + 1) l)
+count-more y l i n h e =
+    let d : normalsIn y (drop i l) ≡ cond (isOf y (getD l i emptyCell .packet)) 1 0 + normalsIn y (drop (i + 1) l)
     = rw (add-one, drop-cons l i emptyCell h) in
     omega arith
 
-pub count-ended : (l : List Cell) (i n : ℕ) → length l ≤ i → normalsIn l ≡ n + normalsIn (drop i l) → n ≡ normalsIn l
-count-ended l i n h e = let d : normalsIn (drop i l) ≡ 0 = rw (drop-of-length-le l h) in omega arith
+pub count-ended : (y : Party) (l : List Cell) (i n : ℕ) → length l ≤ i → normalsIn y l ≡ n + normalsIn y (drop i l) → n ≡ normalsIn y l
+count-ended y l i n h e = let d : normalsIn y (drop i l) ≡ 0 = rw (drop-of-length-le l h) in omega arith
 
 -- n cells from the k-th on
 abbrev pub cellsFrom : ℕ → ℕ → List Cell → List Cell

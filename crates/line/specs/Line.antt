@@ -8,7 +8,8 @@ use Rattle.packet.specs.declared.Packet.{Packet}
 use Rattle.packet.specs.declared.Packet.the-variants.{Empty}
 use Rattle.line.specs.declared.Cell.{Cell}
 use Rattle.line.specs.declared.Line.{Line}
-use Rattle.packet.specs.Packet.{isEmpty, isNormal}
+use Rattle.outlet.specs.declared.Party.{Party}
+use Rattle.packet.specs.Packet.{isEmpty, isOf}
 
 abbrev pub emptyCell : Cell
 emptyCell = record { packet = Empty }
@@ -44,13 +45,13 @@ firstEmpty (c ∷ cs) = cond (isEmpty (c .packet)) 0 (suc (firstEmpty cs))
 abbrev pub put : Line → Packet → Line
 put l p = record { cells = putCells (l .cells) p }
 
--- how many normal packets stand in the line
-abbrev pub normalsIn : List Cell → ℕ
-normalsIn [] = 0
-normalsIn (c ∷ cs) = cond (isNormal (c .packet)) 1 0 + normalsIn cs
+-- how many normal packets of a party stand in the line
+abbrev pub normalsIn : Party → List Cell → ℕ
+normalsIn y [] = 0
+normalsIn y (c ∷ cs) = cond (isOf y (c .packet)) 1 0 + normalsIn y cs
 
-abbrev pub normals : Line → ℕ
-normals l = normalsIn (l .cells)
+abbrev pub normals : Party → Line → ℕ
+normals y l = normalsIn y (l .cells)
 
 -- "removes the normal packet at place p from a line": those behind it move up; nothing changes past the line's end
 abbrev pub withoutCells : List Cell → ℕ → List Cell

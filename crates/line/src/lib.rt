@@ -1,4 +1,5 @@
 // The lines between cabinets, by value.
+use outlet::Party;
 use packet::Packet;
 ghost use mathlib.Core.Path.{_≡_};
 ghost use Prim.Native.Nat.{_≤_};
@@ -80,15 +81,16 @@ impl Line {
         l
     }
 
-    pub fn normals(self) -> u8
-        ensures { λ r. ⌜ r ≡ normals self ⌝ }
+    // How many normal packets of a party stand in the line.
+    pub fn normals(self, party: Party) -> u8
+        ensures { λ r. ⌜ r ≡ normals party self ⌝ }
     {
         let mut count: u8 = 0;
         let mut i = 0;
         while i < 12 {
             let c = self.cells[i];
             let p = c.packet;
-            count += one_if(packet::is_normal(p));
+            count += one_if(packet::is_of(party, p));
             i += 1;
         }
         count

@@ -1,6 +1,6 @@
--- What several functions' proofs share, and what holds of a group that was loaded.
+-- Laws that several proofs share, and what holds of a group that was loaded.
 pub mod Lists
 pub mod Passed
-mod Links
+pub mod Links
 pub mod Loaded
 pub mod Versions

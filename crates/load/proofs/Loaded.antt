@@ -17,7 +17,9 @@ use Rattle.image.specs.declared.Image.{Image}
 use Rattle.cabinet.specs.declared.Cabinet.{Cabinet}
 use Rattle.state.specs.State.{works}
 use Rattle.outlet.specs.declared.Outlet.{Outlet}
-use Rattle.outlet.specs.declared.Outlet.the-variants.{A, B}
+use Rattle.outlet.specs.declared.Outlet.the-variants.{A, B, W}
+use Rattle.outlet.specs.declared.Party.{Party}
+use Rattle.outlet.specs.declared.Party.the-variants.{Buses, Workshop}
 use Rattle.image.specs.Image.{blankImage, booked, withBooking}
 use Rattle.image.proofs.Laws.{booking-small}
 use Rattle.cabinet.specs.Cabinet.{absent}
@@ -82,15 +84,18 @@ blank-octet k = omega (arith, repeated {A = ℕ} 32 k 0)
 
 pub image-octet : (f : List ℕ) → ((i : ℕ) → getD f i 0 < 256) → (i k : ℕ) → getD (imageOf f i .octets) k 0 < 256
 image-octet f small i =
-    booking-small B (withBooking blankImage A (bookingOf A f i)) (bookingOf B f i) (lt B)
-    (booking-small A blankImage (bookingOf A f i) (lt A) blank-octet)
+    booking-small W (withBooking (withBooking blankImage A (bookingOf A f i)) B (bookingOf B f i)) (bookingOf W f i) (lt W)
+    (booking-small B (withBooking blankImage A (bookingOf A f i)) (bookingOf B f i) (lt B)
+    (booking-small A blankImage (bookingOf A f i) (lt A) blank-octet))
   where
     lt : (o : Outlet) → bookingOf o f i < 65536
     lt A = omega (arith, small (entryAt f i + 2), small (entryAt f i + 2 + 1))
     lt B = omega (arith, small (entryAt f i + 4), small (entryAt f i + 4 + 1))
+    lt W = omega (arith, small (entryAt f i + 6), small (entryAt f i + 6 + 1))
 
-image-booked : (f : List ℕ) (i : ℕ) → booked (imageOf f i) ≡ entryTotal f i
-image-booked f i = omega arith
+image-booked : (y : Party) (f : List ℕ) (i : ℕ) → booked y (imageOf f i) ≡ entryTotal f y i
+image-booked Buses f i = omega arith
+image-booked Workshop f i = omega arith
 
 plus : {a b c d : ℕ} → a ≡ b → c ≡ d → a + c ≡ b + d
 plus p q = rw (p, q)
@@ -172,10 +177,10 @@ module _ (f : List ℕ) (rows : Rows) where
 
     -- ---- the bookings
 
-    booked-to : (m : ℕ) → m ≤ cabinetCount f → sum (λ i. booked (cabinet g i .image)) m ≡ sum (λ i. entryTotal f i) m
+    booked-to : (y : Party) (m : ℕ) → m ≤ cabinetCount f → sum (λ i. booked y (cabinet g i .image)) m ≡ sum (λ i. entryTotal f y i) m
     unfolding sum
-    booked-to zero h = refl
-    booked-to (suc m) h = plus (ap (λ (c : Cabinet). booked (c .image)) (here m (omega arith)) ∙ image-booked f m) (booked-to m (omega arith))
+    booked-to y zero h = refl
+    booked-to y (suc m) h = plus (ap (λ (c : Cabinet). booked y (c .image)) (here m (omega arith)) ∙ image-booked y f m) (booked-to y m (omega arith))
 
   -- ---- the lines
 
@@ -282,7 +287,7 @@ module _ (f : List ℕ) (rows : Rows) where
       none-from-past = λ i j h. no-mark i j (λ m. let b = sound-links .below i j m in omega arith);
       none-to-past = λ i j h. no-mark i j (λ m. let b = sound-links .below i j m in omega arith);
       joined = connected-same (rows-back (fair .size) ∙ file) working-present ∙ ok .joined;
-      total = booked-to (ok .most) (cabinetCount f) (le-refl (cabinetCount f));
+      total = λ y. booked-to (ok .most) y (cabinetCount f) (le-refl (cabinetCount f));
       total-most = ok .total;
       image-octets = λ i k. either (ok .most) (λ c. getD (c .image .octets) k 0 < 256) i (image-octet f small i k) (blank-octet k);
       slot-octets = λ i v k. either-slot (ok .most) (λ m. getD (m .octets) k 0 < 256) i v (image-octet f small i k) (blank-octet k);

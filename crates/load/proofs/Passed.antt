@@ -1,4 +1,4 @@
--- What each check says of a file that no check refuses.
+-- What each check says of a file that no check refuses, and which check answers first.
 use Prim.Native.Nat.{ℕ, _≤_}
 use mathlib.Core.Path.{_≡_, refl}
 use mathlib.Core.List.{List}
@@ -6,9 +6,11 @@ use mathlib.Core.Bool.{Bool, true, false, _&&_, and-eq-true-iff}
 use native.Mathlib.Omega.{arith}
 use lib.ListN.{length}
 use lib.Dec.{leb}
-use borrow.Author.Tests.{leb-true}
+use borrow.Author.Tests.{le-leb, leb-true}
 use Rattle.marks.specs.Reach.{connected}
-use Rattle.load.specs.Load.{cabinetCount, linkCount, offsetsRight, cabinetsRight, linksRight, rowsIn, present, feederTotal, refuse, loadRefusal}
+use Rattle.outlet.specs.declared.Party.{Party}
+use Rattle.outlet.specs.declared.Party.the-variants.{Buses, Workshop}
+use Rattle.load.specs.Load.{cabinetCount, linkCount, offsetsRight, cabinetsRight, linksRight, rowsIn, present, feederTotal, totalsRight, refuse, loadRefusal}
 
 pub record Passed (f : List ℕ) : Type 0 where
   pub long : 10 ≤ length f
@@ -18,7 +20,7 @@ pub record Passed (f : List ℕ) : Type 0 where
   pub cabinets : cabinetsRight (cabinetCount f) f ≡ true
   pub links : linksRight (linkCount f) f ≡ true
   pub joined : connected (rowsIn f) (present f) ≡ true
-  pub total : feederTotal f ≤ 65535
+  pub total : (y : Party) → feederTotal f y ≤ 65535
 
 -- an answer of 0 past a check: the check passed, and the next answer is 0
 past : (b : Bool) (k next : ℕ) → (k ≡ 0 → ⊥) → refuse b k next ≡ 0 → (b ≡ true) × (next ≡ 0)
@@ -33,7 +35,7 @@ passed f e =
     let p₄ = past (cabinetsRight (cabinetCount f) f) 4 _ (λ q. omega arith) (p₃ .1) in
     let p₅ = past (linksRight (linkCount f) f) 5 _ (λ q. omega arith) (p₄ .1) in
     let p₆ = past (connected (rowsIn f) (present f)) 6 _ (λ q. omega arith) (p₅ .1) in
-    let p₇ = past (leb (feederTotal f) 65535) 7 _ (λ q. omega arith) (p₆ .1) in
+    let p₇ = past (totalsRight f) 7 _ (λ q. omega arith) (p₆ .1) in
     let count = and-eq-true-iff (leb 2 (cabinetCount f)) (leb (cabinetCount f) 8) .0 (p₂ .0) in
     record {
       long = leb-true 10 (length f) (p₁ .0);
@@ -43,5 +45,13 @@ passed f e =
       cabinets = p₄ .0;
       links = p₅ .0;
       joined = p₆ .0;
-      total = leb-true (feederTotal f) 65535 (p₇ .0);
+      total = below (p₇ .0);
     }
+  where
+    below : totalsRight f ≡ true → (y : Party) → feederTotal f y ≤ 65535
+    below e Buses = leb-true (feederTotal f Buses) 65535 (and-eq-true-iff (leb (feederTotal f Buses) 65535) (leb (feederTotal f Workshop) 65535) .0 e .0)
+    below e Workshop = leb-true (feederTotal f Workshop) 65535 (and-eq-true-iff (leb (feederTotal f Buses) 65535) (leb (feederTotal f Workshop) 65535) .0 e .1)
+
+-- "where several apply, the first in the order written": a wrong offset gives 3, whatever cabinets and links are
+pub third-first : (f : List ℕ) → 10 ≤ length f → leb 2 (cabinetCount f) && leb (cabinetCount f) 8 ≡ true → offsetsRight f ≡ false → loadRefusal f ≡ 3
+third-first f long count wrong = rw (le-leb 10 (length f) long, count, wrong)

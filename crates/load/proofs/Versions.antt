@@ -8,7 +8,8 @@ use lib.ListN.{length, getD}
 use lib.Dec.{eqb}
 use borrow.Author.Tests.{eqb-true, eq-eqb, ne-eqb}
 use Rattle.marks.specs.Reach.{Rows, mark}
-use Rattle.outlet.specs.declared.Outlet.the-variants.{A, B}
+use Rattle.outlet.specs.declared.Outlet.{Outlet}
+use Rattle.outlet.specs.declared.Outlet.the-variants.{A, B, W}
 use Rattle.packet.specs.declared.PacketVersion.{PacketVersion}
 use Rattle.packet.specs.declared.PacketVersion.the-variants.{One, Two}
 use Rattle.image.specs.Image.{booking}
@@ -51,8 +52,10 @@ written f r =
 
 -- ---- what is read
 
-image-bookings : (f : List ℕ) (i : ℕ) → (booking A (imageOf f i) ≡ bookingOf A f i) × (booking B (imageOf f i) ≡ bookingOf B f i)
-image-bookings f i = (omega arith, omega arith)
+image-bookings : (o : Outlet) (f : List ℕ) (i : ℕ) → booking o (imageOf f i) ≡ bookingOf o f i
+image-bookings A f i = omega arith
+image-bookings B f i = omega arith
+image-bookings W f i = omega arith
 
 -- the definitions read at the offsets of the file's version
 read : (f : List ℕ) → Passed f → Read (versionOf f) f (groupOf f (rowsIn f))
@@ -63,12 +66,14 @@ read f ok =
     record {
       version = refl;
       count = refl;
-      home = λ i h. ap (λ (c : Cabinet). c .home) (here f rows (ok .most) i h) ∙ ap (λ (at : ℕ). getD f (at + 6 * i) 0 - 1) table;
-      store = λ i h. ap (λ (c : Cabinet). c .store) (here f rows (ok .most) i h) ∙ ap (λ (at : ℕ). eqb (getD f (at + 6 * i + 1) 0) 1) table;
+      home = λ i h. ap (λ (c : Cabinet). c .home) (here f rows (ok .most) i h) ∙ ap (λ (at : ℕ). getD f (at + 8 * i) 0 - 1) table;
+      store = λ i h. ap (λ (c : Cabinet). c .store) (here f rows (ok .most) i h) ∙ ap (λ (at : ℕ). eqb (getD f (at + 8 * i + 1) 0) 1) table;
       bookedA = λ i h. ap (λ (c : Cabinet). booking A (c .image)) (here f rows (ok .most) i h)
-          ∙ (image-bookings f i .0 ∙ ap (λ (at : ℕ). number f (at + 6 * i + 2)) table);
+          ∙ (image-bookings A f i ∙ ap (λ (at : ℕ). number f (at + 8 * i + 2)) table);
       bookedB = λ i h. ap (λ (c : Cabinet). booking B (c .image)) (here f rows (ok .most) i h)
-          ∙ (image-bookings f i .1 ∙ ap (λ (at : ℕ). number f (at + 6 * i + 4)) table);
+          ∙ (image-bookings B f i ∙ ap (λ (at : ℕ). number f (at + 8 * i + 4)) table);
+      bookedW = λ i h. ap (λ (c : Cabinet). booking W (c .image)) (here f rows (ok .most) i h)
+          ∙ (image-bookings W f i ∙ ap (λ (at : ℕ). number f (at + 8 * i + 6)) table);
       linked = λ k h. rw (marks, ← table) (entry-linked f (linkCount f) (ok .most) (ok .links) k h);
       only = λ i j h e. rw (← table) (only-entries f (linkCount f) (ok .most) (ok .links) i j h (sym (ap (λ (r : Rows). mark r i j) marks) ∙ e));
     }

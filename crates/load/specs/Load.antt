@@ -1,4 +1,4 @@
--- Document 01, "The group file" and the refusals of a load, with document 02, cards 2 and 7: a file's octets to the group, lines and store, or a
+-- Document 01, "The group file" and the refusals of a load, with document 02, cards 2, 7 and 9: a file's octets to the group, lines and store, or a
 -- number 1 to 7.
 use Prim.Native.Nat.{ℕ, zero, suc, _+_, _-_, _*_}
 use mathlib.Core.Bool.{Bool, true, false, cond, _&&_}
@@ -8,7 +8,9 @@ use lib.Dec.{eqb, ltb, leb}
 use Rattle.marks.specs.Marks.{Marks, noMarks}
 use Rattle.marks.specs.Reach.{Rows, connected}
 use Rattle.outlet.specs.declared.Outlet.{Outlet}
-use Rattle.outlet.specs.declared.Outlet.the-variants.{A, B}
+use Rattle.outlet.specs.declared.Outlet.the-variants.{A, B, W}
+use Rattle.outlet.specs.declared.Party.{Party}
+use Rattle.outlet.specs.declared.Party.the-variants.{Buses, Workshop}
 use Rattle.packet.specs.declared.PacketVersion.{PacketVersion}
 use Rattle.packet.specs.declared.PacketVersion.the-variants.{One, Two}
 use Rattle.settled.specs.declared.Settled.the-variants.{Nobody}
@@ -51,9 +53,10 @@ tableIn Two = 12
 unfoldable pub versionOf : List ℕ → PacketVersion
 versionOf f = cond (eqb (tableOffset f) 12) Two One
 
--- "The cabinet entry in the group file grows to six octets": where that of cabinet i, numbered from 0, stands
+-- "The cabinet entry in the group file grows to six octets", and has "two octets more" for the workshop: where that of cabinet i, numbered
+-- from 0, stands
 abbrev pub entryAt : List ℕ → ℕ → ℕ
-entryAt f i = tableIn (versionOf f) + 6 * i
+entryAt f i = tableIn (versionOf f) + 8 * i
 
 -- "offset of the link table .., total length", both "following" the size of an entry
 abbrev pub linkTable : List ℕ → ℕ
@@ -62,7 +65,8 @@ linkTable f = entryAt f (cabinetCount f)
 abbrev pub totalLength : List ℕ → ℕ
 totalLength f = linkTable f + 2 * linkCount f
 
--- "home (one octet), store mark (one octet, 0 or 1), booking (two octets)", of outlet A, and "B's booking last"
+-- "home (one octet), store mark (one octet, 0 or 1), booking (two octets)", of outlet A, then B's booking, and the workshop's "at the end of the
+-- cabinet entry"
 abbrev pub homeOf : List ℕ → ℕ → ℕ
 homeOf f i = getD f (entryAt f i) 0
 
@@ -72,6 +76,7 @@ storeMark f i = getD f (entryAt f i + 1) 0
 abbrev pub bookingOf : Outlet → List ℕ → ℕ → ℕ
 bookingOf A f i = number f (entryAt f i + 2)
 bookingOf B f i = number f (entryAt f i + 4)
+bookingOf W f i = number f (entryAt f i + 6)
 
 -- link entry k: "two cabinet numbers, lower first"
 abbrev pub lowerOf : List ℕ → ℕ → ℕ
@@ -140,12 +145,18 @@ present f =
     ltb 0 (cabinetCount f) ∷ ltb 1 (cabinetCount f) ∷ ltb 2 (cabinetCount f) ∷ ltb 3 (cabinetCount f) ∷ ltb 4 (cabinetCount f)
     ∷ ltb 5 (cabinetCount f) ∷ ltb 6 (cabinetCount f) ∷ ltb 7 (cabinetCount f) ∷ []
 
--- "The feeder's total is the sum of the bookings in the file", and "is now over all outlets"
-abbrev pub entryTotal : List ℕ → ℕ → ℕ
-entryTotal f i = bookingOf A f i + bookingOf B f i
+-- "The feeder's total is the sum of the bookings in the file", and "is now over all outlets"; "Demand 3's total holds for each party by
+-- itself", so each has its own
+abbrev pub entryTotal : List ℕ → Party → ℕ → ℕ
+entryTotal f Buses i = bookingOf A f i + bookingOf B f i
+entryTotal f Workshop i = bookingOf W f i
 
-abbrev pub feederTotal : List ℕ → ℕ
-feederTotal f = sum (λ i. entryTotal f i) (cabinetCount f)
+abbrev pub feederTotal : List ℕ → Party → ℕ
+feederTotal f y = sum (λ i. entryTotal f y i) (cabinetCount f)
+
+-- "7 for either party's total"
+abbrev pub totalsRight : List ℕ → Bool
+totalsRight f = leb (feederTotal f Buses) 65535 && leb (feederTotal f Workshop) 65535
 
 abbrev pub refuse : Bool → ℕ → ℕ → ℕ
 refuse true k next = next
@@ -160,13 +171,13 @@ loadRefusal f =
     (refuse (cabinetsRight (cabinetCount f) f) 4
     (refuse (linksRight (linkCount f) f) 5
     (refuse (connected (rowsIn f) (present f)) 6
-    (refuse (leb (feederTotal f) 65535) 7 0))))))
+    (refuse (totalsRight f) 7 0))))))
 
 -- ---- the group
 
 -- the entry's bookings, and notes that are "zero at the start"
 abbrev pub imageOf : List ℕ → ℕ → Image
-imageOf f i = withBooking (withBooking blankImage A (bookingOf A f i)) B (bookingOf B f i)
+imageOf f i = withBooking (withBooking (withBooking blankImage A (bookingOf A f i)) B (bookingOf B f i)) W (bookingOf W f i)
 
 -- "At the start every version variable is 0 .. and every cabinet is in normal."; a table names "its coordinator, at first the lowest"
 abbrev pub startingCabinet : List ℕ → Rows → ℕ → Cabinet

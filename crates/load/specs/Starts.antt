@@ -7,6 +7,7 @@ use lib.ListN.{length, getD}
 use lib.Dec.{ltb}
 use Rattle.marks.specs.Marks.{marked, noMarks}
 use Rattle.marks.specs.Reach.{mark, connected}
+use Rattle.outlet.specs.declared.Party.{Party}
 use Rattle.line.specs.Line.{emptyLine}
 use Rattle.state.specs.declared.State.the-variants.{Normal}
 use Rattle.state.specs.declared.Version.the-variants.{Known}
@@ -68,9 +69,9 @@ pub record Starts (f : List ℕ) (g : Group) : Type 0 where
   pub none-from-past : (i j : ℕ) → g .n ≤ i → mark (rowsOf (g .links)) i j ≡ false
   pub none-to-past : (i j : ℕ) → g .n ≤ j → mark (rowsOf (g .links)) i j ≡ false
   pub joined : connected (rowsOf (g .sound)) (working g) ≡ true
-  -- the bookings add up to the feeder's total
-  pub total : sum (λ i. booked (cabinet g i .image)) (g .n) ≡ feederTotal f
-  pub total-most : feederTotal f ≤ 65535
+  -- the bookings of each party add up to its total
+  pub total : (y : Party) → sum (λ i. booked y (cabinet g i .image)) (g .n) ≡ feederTotal f y
+  pub total-most : (y : Party) → feederTotal f y ≤ 65535
   -- every octet of every image is one
   pub image-octets : (i k : ℕ) → getD (cabinet g i .image .octets) k 0 < 256
   pub slot-octets : (i : ℕ) (v : Bool) (k : ℕ) → getD (slot g i v .octets) k 0 < 256

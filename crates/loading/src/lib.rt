@@ -26,11 +26,13 @@ fn image_of(file: &[u8], i: usize) -> Image
     requires { ⌜ i < 65536 ⌝ }
     ensures { λ r. ⌜ r ≡ imageOf (now (file .entry)) i ⌝ }
 {
-    let a = load::booking_of(file, Outlet::A, i as u16);
-    let b = load::booking_of(file, Outlet::B, i as u16);
+    let a = reading::booking_of(file, Outlet::A, i as u16);
+    let b = reading::booking_of(file, Outlet::B, i as u16);
+    let w = reading::booking_of(file, Outlet::W, i as u16);
     Image::blank()
         .with_booking(Outlet::A, a)
         .with_booking(Outlet::B, b)
+        .with_booking(Outlet::W, w)
 }
 
 fn row_of(rows: [[bool; 8]; 8], i: usize) -> [bool; 8]
@@ -44,7 +46,7 @@ fn starting_cabinet(file: &[u8], rows: [[bool; 8]; 8], i: usize) -> Cabinet
     requires { ⌜ i < 8 ⌝ }
     ensures { λ r. ⌜ r ≡ startingCabinet (now (file .entry)) rows i ⌝ }
 {
-    let at = load::entry_at(file, i as u16);
+    let at = reading::entry_at(file, i as u16);
     Cabinet {
         phase: Phase {
             state: State::Normal,
@@ -52,15 +54,15 @@ fn starting_cabinet(file: &[u8], rows: [[bool; 8]; 8], i: usize) -> Cabinet
             alarm: Alarm::Quiet,
         },
         table: Table {
-            cabinets: load::present(file),
+            cabinets: reading::present(file),
             links: row_of(rows, i),
             lead: 0,
         },
         noted: cabinet::nothing_noted(),
         registers: registers::start_registers(),
         image: image_of(file, i),
-        home: load::less_one(load::small(file, at)) as u8,
-        store: load::small(file, at + 1) == 1,
+        home: reading::less_one(reading::small(file, at)) as u8,
+        store: reading::small(file, at + 1) == 1,
         owed: [false; 8],
     }
 }
@@ -70,7 +72,7 @@ fn cabinet_of(file: &[u8], rows: [[bool; 8]; 8], i: usize) -> Cabinet
     requires { ⌜ i < 8 ⌝ }
     ensures { λ r. ⌜ r ≡ cabinetOf (now (file .entry)) rows i ⌝ }
 {
-    if i < load::cabinet_count(file) {
+    if i < reading::cabinet_count(file) {
         starting_cabinet(file, rows, i)
     } else {
         Cabinet::absent()
@@ -97,7 +99,7 @@ fn slots_of(file: &[u8], i: usize) -> Slots
     requires { ⌜ i < 8 ⌝ }
     ensures { λ r. ⌜ r ≡ slotsOf (now (file .entry)) i ⌝ }
 {
-    if i < load::cabinet_count(file) {
+    if i < reading::cabinet_count(file) {
         Slots {
             zero: image_of(file, i),
             one: Image::blank(),
@@ -129,14 +131,14 @@ fn group_of(file: &[u8], rows: [[bool; 8]; 8]) -> Group
 {
     let links = group::of_rows(rows);
     Group {
-        n: load::cabinet_count(file) as u8,
+        n: reading::cabinet_count(file) as u8,
         cabinets: cabinets_of(file, rows),
         links: links,
         sound: links,
         outgoing: [Outgoing::empty(); 8],
         store: store_of(file),
         trips: [0; 8],
-        packets: load::version_of(file),
+        packets: reading::version_of(file),
         settled: Settled::Nobody,
     }
 }
@@ -163,9 +165,9 @@ fn no_group() -> Group
 pub fn load(file: &[u8]) -> Outcome
     ensures { λ r. ⌜ r ≡ load (now (file .entry)) ⌝ }
 {
-    let refusal = load::load_refusal(file);
+    let refusal = reading::load_refusal(file);
     if refusal == 0 {
-        group::answering(0, group_of(file, load::rows_in(file)))
+        group::answering(0, group_of(file, reading::rows_in(file)))
     } else {
         group::answering(refusal, no_group())
     }

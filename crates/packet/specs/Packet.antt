@@ -5,7 +5,8 @@ use mathlib.Core.List.{List, [], _∷_, _++_}
 use lib.Bits.{bitXor}
 use lib.Dec.{ltb, leb, eqb}
 use Rattle.outlet.specs.declared.Outlet.{Outlet}
-use Rattle.outlet.specs.Outlet.{octetOf}
+use Rattle.outlet.specs.declared.Party.{Party}
+use Rattle.outlet.specs.Outlet.{octetOf, partyOf, sameParty}
 use Rattle.crc.specs.Crc.{start, crcFrom, crc}
 use Rattle.packet.specs.declared.PacketVersion.{PacketVersion}
 use Rattle.packet.specs.declared.PacketVersion.the-variants.{One, Two}
@@ -100,6 +101,16 @@ isNormal Resume = false
 isNormal (Recover v) = false
 isNormal (Fault p) = false
 isNormal Invalid = false
+
+-- a normal packet of a party, which its first octet tells
+abbrev pub isOf : Party → Packet → Bool
+isOf y Empty = false
+isOf y (Normal p) = sameParty (partyOf (p .outlet)) y
+isOf y (Checkp c) = false
+isOf y Resume = false
+isOf y (Recover v) = false
+isOf y (Fault p) = false
+isOf y Invalid = false
 
 -- ---- damage
 

@@ -1,12 +1,13 @@
 // Packets, and what they and a check register hold, by value.
 // Cabinets are numbered 0 to 7 here: a cabinet's number in a file or a record, less one.
 use outlet::Outlet;
+use outlet::Party;
 ghost use mathlib.Core.Path.{_≡_};
 ghost use mathlib.Core.Bool.{_&&_};
 ghost use Prim.Native.Nat.{_*_, _<_, _^_};
 ghost use lib.Dec.{eqb};
 ghost use Rattle.crc.specs.Crc.{crcFrom};
-ghost use Rattle.packet.specs.Packet.{firstThree, ownCheck, ownIn, packed, ownOctets, fits, startCheck, stepCheck, sameCheck, linkPlace, samePlace, isEmpty, isNormal, inReach, shifted, mayShift, patternRight, hurtBy, damaged};
+ghost use Rattle.packet.specs.Packet.{firstThree, ownCheck, ownIn, packed, ownOctets, fits, startCheck, stepCheck, sameCheck, linkPlace, samePlace, isEmpty, isNormal, isOf, inReach, shifted, mayShift, patternRight, hurtBy, damaged};
 
 // The packet version of a group: in version 2 each normal packet carries a check of its own.
 pub enum PacketVersion {
@@ -220,6 +221,24 @@ pub fn is_normal(p: Packet) -> bool
     match p {
         Packet::Empty => false,
         Packet::Normal(_) => true,
+        Packet::Checkp(_) => false,
+        Packet::Resume => false,
+        Packet::Recover(_) => false,
+        Packet::Fault(_) => false,
+        Packet::Invalid => false,
+    }
+}
+
+// A normal packet of a party.
+pub fn is_of(party: Party, p: Packet) -> bool
+    ensures { λ r. ⌜ r ≡ isOf party p ⌝ }
+{
+    match p {
+        Packet::Empty => false,
+        Packet::Normal(carried) => {
+            let to = carried.outlet;
+            outlet::same_party(outlet::party_of(to), party)
+        }
         Packet::Checkp(_) => false,
         Packet::Resume => false,
         Packet::Recover(_) => false,

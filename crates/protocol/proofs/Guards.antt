@@ -32,6 +32,7 @@ use Rattle.protocol.specs.Unsure.{WaitsAsked, tooLate, heardBetween, oth
 use Rattle.protocol.specs.OwnChecks.{left, logsAfter, HurtLogged, Leaves, fittingTaken, amountHurt}
 use Rattle.protocol.specs.Word.{whichWord, account}
 use Rattle.protocol.specs.Words.{watched, foundFrom, EntriesNoted, AsTold, ledInBegin, unfinishedInBegin, normalThenDecided}
+use Rattle.protocol.specs.Workshop.{notesAfter, PartyNoted, watch, watchParts, compared, twinsBrief, twinsBrief-compared}
 
 -- the answer to every record
 pub answers : AsWritten holeLate × AsWritten oldResume × AsWritten struckAtReceiver × AsWritten linkFirst × AsWritten inOrder × AsWritten leads
@@ -62,7 +63,7 @@ cases = (refl, refl, refl)
 -- what a packet that is hurt leaves, and what the history notes of a hurt
 pub hurts : Leaves fittingTaken × Leaves amountHurt × HurtLogged × HurtNoted
 unfolding crcBit crcBits crcOctet crcFrom ownCheck fits shifted patternRight hurtBy lowest covers both struck connected emptyLines lineTo withLineTo putAll putCheckps cabinet withCabinet outgoing withOutgoing line withLine blankSlots slot withSlots withSlot rowsOf ofRows withSound some working recoveringOnes forgetTrips isCrashed crashAll sum versionOf load broadcast join cutIfAll takeCheckp resumeWith commit recoverWith raise enterError findLinkFault markFailed alarmTo receiveNormal receiveCheckp receiveInvalid sent sendStep beginStep delivered deliverStep writePiece writeStep reportSaved commitIfAll savedStep failStep hurt damageStep step stepAll left settle upd logged advance run logsAfter lost loseStep
-hurts = (refl, refl, (refl, refl, refl), ((refl, refl, refl, refl, refl), (refl, refl, refl, refl, refl)))
+hurts = (refl, refl, (refl, refl, refl), ((refl, refl, refl, refl, refl, refl), (refl, refl, refl, refl, refl, refl)))
 
 -- where the wait of document 01 would be taken
 pub waits : WaitsAsked
@@ -78,3 +79,8 @@ packet-stays = refl
 pub told : AsTold ledInBegin × AsTold unfinishedInBegin × AsTold normalThenDecided × EntriesNoted
 unfolding crcBit crcBits crcOctet crcFrom fits shifted patternRight lowest covers both nextUp struck connected emptyLines lineTo withLineTo putAll putCheckps cabinet withCabinet outgoing withOutgoing line withLine slot withSlots withSlot rowsOf ofRows withSound some working recoveringOnes tripsOf withTripsOf forgetTrips isCrashed crashAll sum versionOf load broadcast join cutIfAll takeCheckp resumeWith commit adopt recoverWith raise enterError hear findLinkFault markFailed trip alarmTo endRecovery noteLost receiveNormal receiveCheckp receiveResume receiveRecover receiveFault receiveInvalid sent sendStep beginStep delivered deliverStep writePiece writeStep reportSaved commitIfAll savedStep fetchPiece fetchStep reportRestored endIfAll restoredStep failStep hurt damageStep tripOnce tripStep reportUnsure decideIfAll unsureStep step whichWord watched foundFrom settle settleOver advance account
 told = (refl, refl, refl, refl)
+
+-- what the amounts of workshop sends leave alone, and of which party a damaged packet is noted
+pub parted : (compared twinsBrief ≡ twinsBrief-compared) × PartyNoted
+unfolding crcBit crcBits crcOctet crcFrom fits shifted patternRight hurtBy lowest covers both struck connected emptyLines lineTo withLineTo noPoints pointAt imageAt sameName cabinet withCabinet outgoing withOutgoing line withLine blankSlots slot rowsOf ofRows some working recoveringOnes isCrashed crashAll sum versionOf load findLinkFault receiveNormal sent sendStep delivered deliverStep hurt damageStep lost loseStep step operate upd logged advance run whichWord notesAfter watch watchParts compared
+parted = (refl, (refl, refl, refl, refl))

@@ -1,18 +1,20 @@
--- Document 01, "Which save" and "Words of demand 3", with document 02, cards 1, 3, 5 and 7: the history of a run, a fold over the file and the
+-- Document 01, "Which save" and "Words of demand 3", with document 02, cards 1, 3, 5, 7 and 9: the history of a run, a fold over the file and the
 -- operations (step records, points taken, returns) with what the rules make of them. Of the groups before and after a step it reads
 -- states, tables, homes, images, the packet version, the packet that is taken or damaged, and which checkps have come; no version of an
 -- image, slot, register, report, piece or fault place. Of a point it reads whether it is taken: what it keeps, the history knows by itself. In a step cabinets count
 -- from 1, here from 0.
 use Prim.Native.Nat.{ℕ, _-_}
-use mathlib.Core.Bool.{Bool, true, false, cond, not, _&&_}
+use mathlib.Core.Bool.{Bool, true, false, cond, not, _&&_, _||_}
 use mathlib.Core.List.{List, [], _∷_, _++_, map}
 use mathlib.Core.Option.{Option, none, some}
 use lib.Dec.{eqb, ltb}
 use Rattle.marks.specs.Marks.{marked}
+use Rattle.outlet.specs.declared.Party.{Party}
+use Rattle.outlet.specs.Outlet.{partyOf, sameParty}
 use Rattle.packet.specs.declared.Payload.{Payload}
 use Rattle.packet.specs.declared.Packet.{Packet}
 use Rattle.packet.specs.declared.Packet.the-variants.{Empty, Normal as NormalPacket, Checkp, Resume, Recover, Fault, Invalid}
-use Rattle.packet.specs.Packet.{isNormal, fits}
+use Rattle.packet.specs.Packet.{fits}
 use Rattle.line.specs.Line.{oldest, packetAt}
 use Rattle.state.specs.declared.State.{State}
 use Rattle.state.specs.declared.State.the-variants.{Normal, Checkpointing, Checkpointed, Recovering, Recovered}
@@ -75,8 +77,8 @@ pub record History : Type 0 where
   pub lost : ℕ → Option Image
   -- the points, of each name the one last taken with it
   pub points : Kept
-  -- a normal packet was damaged since the start or the last recovery's end: no matter to demand 3, it is for `claims.Bounds.NeverWraps`
-  pub damaged : Bool
+  -- a normal packet of a party was damaged since the start or the last recovery's end: no matter to demand 3, it is for `claims.Bounds.NeverWraps`
+  pub damaged : Party → Bool
   -- a normal packet of the line from one to another was hurt, damaged or lost, since then: no matter to it either, for `claims.Saves.CommitsUnhurt`
   pub hurt : ℕ → ℕ → Bool
   -- what `claims.Saves` speaks of, no matter to demand 3 either: a begin was taken since the start or the last recovery's end; a save was
@@ -110,7 +112,7 @@ fresh saves start lost points = record {
   start = start;
   lost = lost;
   points = points;
-  damaged = false;
+  damaged = λ y. false;
   hurt = λ a b. false;
   begun = false;
   standing = false;
@@ -163,7 +165,7 @@ withCuts h c = record { sent = h .sent; taken = h .taken; cuts = c; saves = h .s
 abbrev pub withSaves : History → List Save → History
 withSaves h s = record { sent = h .sent; taken = h .taken; cuts = h .cuts; saves = s; start = h .start; lost = h .lost; points = h .points; damaged = h .damaged; hurt = h .hurt; begun = h .begun; standing = h .standing }
 
-abbrev pub withDamaged : History → Bool → History
+abbrev pub withDamaged : History → (Party → Bool) → History
 withDamaged h t = record { sent = h .sent; taken = h .taken; cuts = h .cuts; saves = h .saves; start = h .start; lost = h .lost; points = h .points; damaged = t; hurt = h .hurt; begun = h .begun; standing = h .standing }
 
 abbrev pub withHurt : History → (ℕ → ℕ → Bool) → History
@@ -210,10 +212,15 @@ noteCommit false h k = h
 abbrev pub noteHurt : History → ℕ → ℕ → History
 noteHurt h a b = withHurt h (upd (h .hurt) a (upd (h .hurt a) b true))
 
--- damage hits a normal packet
-abbrev pub noteDamage : Bool → History → ℕ → ℕ → History
-noteDamage true h a b = noteHurt (withDamaged h true) a b
-noteDamage false h a b = h
+-- damage hits a normal packet, which is of one of the parties
+abbrev pub noteDamage : Packet → History → ℕ → ℕ → History
+noteDamage Empty h a b = h
+noteDamage (NormalPacket p) h a b = noteHurt (withDamaged h (λ y. sameParty (partyOf (p .outlet)) y || h .damaged y)) a b
+noteDamage (Checkp v) h a b = h
+noteDamage Resume h a b = h
+noteDamage (Recover v) h a b = h
+noteDamage (Fault p) h a b = h
+noteDamage Invalid h a b = h
 
 -- a save whose coordinator fails or trips before it is known is passed over
 abbrev pub notePassed : History → ℕ → History
@@ -252,7 +259,7 @@ observe h g g′ (Saved a) =
 observe h g g′ (Fetch a) = noteKnown (goes g g′ (a - 1) Recovering Recovered) h
 observe h g g′ (Restored a) = noteEnd (ends g g′ (a - 1)) h g′
 observe h g g′ (Fail a) = notePassed h (a - 1)
-observe h g g′ (Damage a b p w) = noteDamage (isNormal (packetAt (line g (a - 1) (b - 1)) p)) h (a - 1) (b - 1)
+observe h g g′ (Damage a b p w) = noteDamage (packetAt (line g (a - 1) (b - 1)) p) h (a - 1) (b - 1)
 -- a packet that is lost was sent and is never taken
 observe h g g′ (Lose a b p) = noteHurt h (a - 1) (b - 1)
 -- also where a third trip is a fail

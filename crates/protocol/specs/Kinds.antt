@@ -7,7 +7,7 @@ use lib.Dec.{eqb, ltb, leb}
 use Rattle.marks.specs.Marks.{marked, covers}
 use Rattle.marks.specs.Reach.{mark, connected}
 use Rattle.packet.specs.declared.Place.the-variants.{Failed as AtFailed, Tripped as AtTripped}
-use Rattle.outlet.specs.Outlet.{endsOf}
+use Rattle.outlet.specs.Outlet.{endsOf, partyOf}
 use Rattle.packet.specs.declared.Payload.{Payload}
 use Rattle.packet.specs.declared.Pattern.{Pattern}
 use Rattle.packet.specs.declared.Packet.{Packet}
@@ -37,16 +37,16 @@ orRefuse k g o = cond (eqb k 0) o (answering k g)
 
 -- ---- 1 send
 
--- "15 also for p above 3 in a send"; 16 asks the booking of the sending outlet
+-- "15 for p above 4 in a send"; 16 asks the booking that the amount leaves; "17 now when that party's four places are full"
 abbrev pub sendRefusal : Group → ℕ → ℕ → ℕ → ℕ → ℕ
 sendRefusal g a b p q =
     need (marked (inUse (cabinet g a)) b) 13
     (need (isIn (stateOf g a) Normal) 14
-    (need (ltb 0 q && leb p 3) 15
+    (need (ltb 0 q && leb p 4) 15
     (need (leb q (booking (endsOf p .from) (cabinet g a .image))) 16
-    (need (ltb (normals (line g a b)) 8) 17 0))))
+    (need (ltb (normals (partyOf (endsOf p .to)) (line g a b)) 4) 17 0))))
 
--- what a send puts: a packet for the receiving outlet, as the group's packet version has it
+-- what a send puts: a packet for the receiving outlet or the workshop, as the group's packet version has it
 abbrev pub carried : Group → ℕ → ℕ → Payload
 carried g p q = packed (g .packets) (endsOf p .to) q
 
@@ -59,7 +59,7 @@ sendStep g a b p q = orRefuse (sendRefusal g a b p q) g (taken (sent g a b p q))
 
 -- ---- 2 note
 
--- "note's lower end is 4"
+-- "notes begin at 6"
 abbrev pub noteRefusal : Group → ℕ → ℕ → ℕ → ℕ
 noteRefusal g a p q = need (isIn (stateOf g a) Normal) 14 (need (leb firstNote p && (leb p 31 && leb q 255)) 15 0)
 

@@ -21,5 +21,6 @@ pub mod Trips
 pub mod Unsure
 pub mod OwnChecks
 pub mod Words
+pub mod Workshop
 pub mod Answers
 pub mod Crash

@@ -14,7 +14,7 @@ use Rattle.cabinet.specs.declared.Cabinet.{Cabinet}
 use Rattle.group.specs.declared.Group.{Group}
 use Rattle.group.specs.declared.Outcome.{Outcome}
 use Rattle.state.specs.State.{works}
-use Rattle.outlet.specs.declared.Outlet.the-variants.{A, B}
+use Rattle.outlet.specs.declared.Outlet.the-variants.{A, B, W}
 use Rattle.image.specs.declared.Image.{Image}
 use Rattle.image.specs.Image.{booking}
 use Rattle.group.specs.Group.{cabinet}
@@ -86,9 +86,9 @@ answerLine word k answer = word ++ space ∷ decimal k ++ space ∷ decimal answ
 abbrev pub stepLine : ℕ → ℕ → Text
 stepLine k answer = answerLine stepWord k answer
 
--- "The listing prints A's, then B's"
+-- "The listing prints A's, then B's"; of the workshop "the listing prints its booking last"
 abbrev pub bookings : Image → Text
-bookings m = space ∷ decimal (booking A m) ++ space ∷ decimal (booking B m)
+bookings m = space ∷ decimal (booking A m) ++ space ∷ decimal (booking B m) ++ space ∷ decimal (booking W m)
 
 -- the state and, unless it is failed, version and bookings
 abbrev pub cabRest : Cabinet → Text

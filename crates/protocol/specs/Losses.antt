@@ -5,6 +5,7 @@ use mathlib.Core.Bool.{Bool, true, false}
 use mathlib.Core.List.{List, [], _∷_, _++_}
 use mathlib.Core.Option.{none, some}
 use lib.ListN.{length, getD, replicate}
+use Rattle.outlet.specs.declared.Party.the-variants.{Buses, Workshop}
 use Rattle.crc.specs.Crc.{crc}
 use Rattle.packet.specs.declared.Place.the-variants.{Link as AtLink}
 use Rattle.packet.specs.declared.Check.{Check}
@@ -110,7 +111,7 @@ lossCases =
     ∷ pairAnswers (send 1 2 5 ∷ send 1 2 7 ∷ lose 1 2 0 ∷ deliver 1 2 ∷ []) (deliver 1 2) 18
     ∷ pairAnswers (send 1 2 5 ∷ send 1 2 7 ∷ send 1 2 9 ∷ lose 1 2 1 ∷ deliver 1 2 ∷ deliver 1 2 ∷ []) (send 2 1 64) 0
     ∷ pairAnswers (send 1 2 5 ∷ send 1 2 7 ∷ send 1 2 9 ∷ lose 1 2 1 ∷ deliver 1 2 ∷ deliver 1 2 ∷ []) (send 2 1 65) 16
-    ∷ pairAnswers (replicate 8 (send 1 2 1) ++ lose 1 2 7 ∷ []) (send 1 2 1) 0
+    ∷ pairAnswers (replicate 4 (send 1 2 1) ++ lose 1 2 3 ∷ []) (send 1 2 1) 0
     -- "A save with a lost packet must never commit": a link fault, by which two cabinets are parted
     ∷ pairAnswers (send 1 2 30 ∷ lose 1 2 0 ∷ begin 1 ∷ []) (deliver 1 2) 50
     ∷ answers (twoCabinets 30000 50) (send 1 2 25919 ∷ lose 1 2 0 ∷ begin 1 ∷ []) (deliver 1 2) 50
@@ -161,9 +162,9 @@ packetAfterCrash = packetAt (line (stepAll (load farFromThree .group) (send 1 2 
 abbrev pub noted : List ℕ → History
 noted hurting = run (opening (load (twoCabinets 100 50) .group)) (steps (send 1 2 5 ∷ send 1 2 7 ∷ hurting ∷ begin 1 ∷ [])) .history
 
--- whether one was damaged, and what is noted of the lines from 1 to 2 and back
+-- whether one of the buses was damaged, none of the workshop, and what is noted of the lines from 1 to 2 and back
 abbrev pub Notes : History → Bool → Bool → Bool → Type 0
-Notes h damaged there back = (h .damaged ≡ damaged) × (h .hurt 0 1 ≡ there) × (h .hurt 1 0 ≡ back) × (length (h .sent 0 1) ≡ 2) × (h .taken 0 1 ≡ [])
+Notes h damaged there back = (h .damaged Buses ≡ damaged) × (h .damaged Workshop ≡ false) × (h .hurt 0 1 ≡ there) × (h .hurt 1 0 ≡ back) × (length (h .sent 0 1) ≡ 2) × (h .taken 0 1 ≡ [])
 
 abbrev pub HurtNoted : Type 0
 HurtNoted = Notes (noted (lose 1 2 0)) false true false × Notes (noted (damage 1 2 0 1)) true true false

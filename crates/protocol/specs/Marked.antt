@@ -18,20 +18,35 @@ twoOctets v = v / 256 ∷ v % 256 ∷ []
 
 -- the header of a file of n cabinets and m links
 abbrev pub header : ℕ → ℕ → List ℕ
-header n m = twoOctets n ++ twoOctets m ++ twoOctets 10 ++ twoOctets (10 + 6 * n) ++ twoOctets (10 + 6 * n + 2 * m)
+header n m = twoOctets n ++ twoOctets m ++ twoOctets 10 ++ twoOctets (10 + 8 * n) ++ twoOctets (10 + 8 * n + 2 * m)
 
--- the entries of cabinets i, i + 1 and so on, each with outlet A's booking and outlet B's; cabinet s is the one store and the home of all
-abbrev pub entriesFrom : ℕ → ℕ → List (ℕ × ℕ) → List ℕ
+-- what a cabinet books: for outlet A, for outlet B and for the workshop
+pub record Bookings : Type 0 where
+  pub a : ℕ
+  pub b : ℕ
+  pub w : ℕ
+
+abbrev pub onlyA : ℕ → Bookings
+onlyA a = record { a = a; b = 0; w = 0 }
+
+abbrev pub forBuses : ℕ × ℕ → Bookings
+forBuses x = record { a = x .0; b = x .1; w = 0 }
+
+-- the entries of cabinets i, i + 1 and so on; cabinet s is the one store and the home of all
+abbrev pub entriesFrom : ℕ → ℕ → List Bookings → List ℕ
 entriesFrom s i [] = []
-entriesFrom s i (x ∷ xs) = s ∷ cond (eqb i s) 1 0 ∷ twoOctets (x .0) ++ twoOctets (x .1) ++ entriesFrom s (suc i) xs
+entriesFrom s i (x ∷ xs) = s ∷ cond (eqb i s) 1 0 ∷ twoOctets (x .a) ++ twoOctets (x .b) ++ twoOctets (x .w) ++ entriesFrom s (suc i) xs
 
 -- a link is two numbers of the list
-abbrev pub fileBoth : ℕ → List (ℕ × ℕ) → List ℕ → List ℕ
-fileBoth s bookings links = header (length bookings) (length links / 2) ++ entriesFrom s 1 bookings ++ links
+abbrev pub fileAll : ℕ → List Bookings → List ℕ → List ℕ
+fileAll s bookings links = header (length bookings) (length links / 2) ++ entriesFrom s 1 bookings ++ links
 
--- "in 01's cases every entry octet that this or a later card adds is 0"
+-- "in 01's cases every entry octet that this or a later card adds is 0"; of both outlets, and of outlet A alone
+abbrev pub fileBoth : ℕ → List (ℕ × ℕ) → List ℕ → List ℕ
+fileBoth s bookings links = fileAll s (map forBuses bookings) links
+
 abbrev pub fileOf : ℕ → List ℕ → List ℕ → List ℕ
-fileOf s bookings links = fileBoth s (map (λ (booking : ℕ). (booking, 0)) bookings) links
+fileOf s bookings links = fileAll s (map onlyA bookings) links
 
 -- n links: 1 to 2, 2 to 3, and so on
 abbrev pub rowLinks : ℕ → List ℕ
@@ -100,7 +115,7 @@ exampleSteps = send 1 2 30 ++ deliver 1 2 ++ fail 2 ++ fetch 1 ++ fetch 1 ++ fet
 
 -- ".. and each such booking prints as 0"
 abbrev pub exampleOutput : Text
-exampleOutput = ascii "step 1 0\nstep 2 0\nstep 3 0\nstep 4 0\nstep 5 0\nstep 6 0\nstep 7 0\nstep 8 0\ncab 1 normal 0 100 0\ncab 2 failed\n"
+exampleOutput = ascii "step 1 0\nstep 2 0\nstep 3 0\nstep 4 0\nstep 5 0\nstep 6 0\nstep 7 0\nstep 8 0\ncab 1 normal 0 100 0 0\ncab 2 failed\n"
 
 abbrev pub marked : List Case
 marked =
@@ -117,8 +132,8 @@ marked =
     -- "sending 100 of 100 is taken, 101 gives 16"
     ∷ record { asked = StepOf (twoCabinets 100 50) [] (send 1 2 100); expected = 0 ∷ [] }
     ∷ record { asked = StepOf (twoCabinets 100 50) [] (send 1 2 101); expected = 16 ∷ [] }
-    -- "a ninth normal packet gives 17"
-    ∷ record { asked = StepOf (twoCabinets 100 50) (replicate 8 (send 1 2 1)) (send 1 2 1); expected = 17 ∷ [] }
+    -- "01's marked ninth packet becomes the fifth"
+    ∷ record { asked = StepOf (twoCabinets 100 50) (replicate 4 (send 1 2 1)) (send 1 2 1); expected = 17 ∷ [] }
     -- "begin at 2 while 1 works gives 14"
     ∷ record { asked = StepOf (twoCabinets 100 50) [] (begin 2); expected = 14 ∷ [] }
     ∷ []

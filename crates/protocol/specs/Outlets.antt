@@ -37,9 +37,9 @@ sendBA a b q = recordOf 1 a b 2 q
 abbrev pub sendBB : ℕ → ℕ → ℕ → List ℕ
 sendBB a b q = recordOf 1 a b 3 q
 
--- an image with both bookings and a note in the octet behind them
+-- an image with the bookings of both outlets and a note in its first octet for notes
 abbrev pub imageBoth : ℕ → ℕ → ℕ → Image
-imageBoth a b first = record { octets = twoOctets a ++ twoOctets b ++ first ∷ replicate 27 0 }
+imageBoth a b first = record { octets = twoOctets a ++ twoOctets b ++ twoOctets 0 ++ first ∷ replicate 25 0 }
 
 -- ---- a recovery: "The store's images and every rule of recovery cover both."
 
@@ -48,10 +48,10 @@ both-outlets = record {
   file = fileBoth 1 ((100, 10) ∷ (50, 20) ∷ (20, 300) ∷ []) (1 ∷ 2 ∷ 1 ∷ 3 ∷ 2 ∷ 3 ∷ []);
   before =
       -- a send over each pair of outlets, and a save with 63 and 280, 50 and 35, 42 and 30
-      steps (sendAB 1 2 30 ∷ deliver 1 2 ∷ sendBA 2 3 15 ∷ deliver 2 3 ∷ send 1 3 7 ∷ deliver 1 3 ∷ note 2 4 9 ∷ sendBB 3 1 270
+      steps (sendAB 1 2 30 ∷ deliver 1 2 ∷ sendBA 2 3 15 ∷ deliver 2 3 ∷ send 1 3 7 ∷ deliver 1 3 ∷ note 2 6 9 ∷ sendBB 3 1 270
       ∷ ringSave ++ ringResumed
       -- amperes and a note of which the save knows nothing; what 3 sends is never taken
-      ++ sendBA 1 2 280 ∷ deliver 1 2 ∷ sendAB 2 1 50 ∷ deliver 2 1 ∷ note 2 4 3 ∷ sendBB 3 2 30 ∷ []);
+      ++ sendBA 1 2 280 ∷ deliver 1 2 ∷ sendAB 2 1 50 ∷ deliver 2 1 ∷ note 2 6 3 ∷ sendBB 3 2 30 ∷ []);
   since = steps (fail 3 ∷ deliver 1 2 ∷ deliver 1 2 ∷ deliver 2 1 ∷ deliver 2 1 ∷ fetches 1 ++ fetches 2 ++ restored 1 ∷ []);
   last = stepping (restored 2);
   coordinator = 0;
@@ -113,10 +113,10 @@ outletCases =
     -- "the normal packet's first octet holds the receiving outlet as 0x00 or 0x01": the check runs over it
     ∷ record { asked = CheckOf (octetsOf (toA 30)); expected = 0x3F63 ∷ [] }
     ∷ record { asked = CheckOf (octetsOf (toB 30)); expected = 0x0853 ∷ [] }
-    -- "15 also for p above 3 in a send": after 14, before 16
-    ∷ answers [] (recordOf 1 1 2 4 5) 15
+    -- 15 for a p that names no outlets, "above 4" with card 9: after 14, before 16
+    ∷ answers [] (recordOf 1 1 2 5 5) 15
     ∷ answers [] (recordOf 1 1 2 255 60000) 15
-    ∷ answers (begin 1 ∷ []) (recordOf 1 1 2 4 5) 14
+    ∷ answers (begin 1 ∷ []) (recordOf 1 1 2 5 5) 14
     -- the sending outlet is charged, and the other one is not
     ∷ answers [] (sendBA 1 2 11) 16
     ∷ answers [] (sendAB 1 2 100) 0
@@ -132,15 +132,12 @@ outletCases =
     ∷ answers (sendAB 1 2 30 ∷ damage 1 2 0 65505 ∷ deliver 1 2 ∷ []) (sendBB 2 1 20) 16
     ∷ answers (sendAB 1 2 30 ∷ damage 1 2 0 65505 ∷ deliver 1 2 ∷ []) (sendBB 2 1 19) 0
     ∷ answers (sendAB 1 2 30 ∷ damage 1 2 0 65505 ∷ deliver 1 2 ∷ []) (send 2 1 50) 0
-    -- "17 eight normal packets in the line", whatever their outlets
-    ∷ answers (replicate 4 (send 1 2 1) ++ replicate 3 (sendBB 1 2 1)) (sendAB 1 2 1) 0
-    ∷ answers (replicate 4 (send 1 2 1) ++ replicate 4 (sendBB 1 2 1)) (sendAB 1 2 1) 17
-    -- "note's lower end is 4"
-    ∷ answers [] (note 1 3 7) 15
-    ∷ answers [] (note 1 4 7) 0
+    -- 17 where four packets of the buses stand in the line (card 9), whatever their outlets
+    ∷ answers (replicate 2 (send 1 2 1) ++ replicate 1 (sendBB 1 2 1)) (sendAB 1 2 1) 0
+    ∷ answers (replicate 2 (send 1 2 1) ++ replicate 2 (sendBB 1 2 1)) (sendAB 1 2 1) 17
     -- "The listing prints A's, then B's"
     ∷ record {
       asked = ListingOf outletPair (sendAB 1 2 30 ++ deliver 1 2);
-      expected = ascii "step 1 0\nstep 2 0\ncab 1 normal 0 70 10\ncab 2 normal 0 50 50\n";
+      expected = ascii "step 1 0\nstep 2 0\ncab 1 normal 0 70 10 0\ncab 2 normal 0 50 50 0\n";
     }
     ∷ []

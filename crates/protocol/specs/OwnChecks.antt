@@ -8,6 +8,7 @@ use mathlib.Core.List.{List, [], _∷_, _++_, map}
 use mathlib.Core.Option.{none, some}
 use lib.ListN.{length, getD, set, take}
 use Rattle.outlet.specs.declared.Outlet.the-variants.{A, B}
+use Rattle.outlet.specs.declared.Party.the-variants.{Buses}
 use Rattle.packet.specs.declared.PacketVersion.the-variants.{One, Two}
 use Rattle.packet.specs.declared.OwnCheck.the-variants.{Checked}
 use Rattle.packet.specs.declared.Pattern.{Pattern}
@@ -25,7 +26,7 @@ use Rattle.load.specs.Load.{load}
 use Rattle.protocol.specs.Entry.{step, stepAll}
 use Rattle.protocol.specs.Listing.{Text, ascii, cabLines}
 use Rattle.protocol.specs.History.{History, stepping, steps, run, opening}
-use Rattle.protocol.specs.Marked.{twoOctets, entriesFrom, twoCabinets, send, begin, deliver, fail, restored, Case}
+use Rattle.protocol.specs.Marked.{twoOctets, Bookings, onlyA, forBuses, entriesFrom, twoCabinets, send, begin, deliver, fail, restored, Case}
 use Rattle.protocol.specs.Examples.{note, fetches, damage, Example, Found, toA, imageWith, ring, ringSave, ringSaved}
 use Rattle.protocol.specs.Outlets.{sendAB, loads}
 use Rattle.protocol.specs.Losses.{lose, answers, pairAnswers}
@@ -35,13 +36,16 @@ use Rattle.protocol.specs.Losses.{lose, answers, pairAnswers}
 -- "Version 2 files have a sixth header number, 2 .., and offsets two higher"
 abbrev pub headerTwo : ℕ → ℕ → List ℕ
 headerTwo n m =
-    twoOctets n ++ twoOctets m ++ twoOctets 12 ++ twoOctets (12 + 6 * n) ++ twoOctets (12 + 6 * n + 2 * m) ++ twoOctets 2
+    twoOctets n ++ twoOctets m ++ twoOctets 12 ++ twoOctets (12 + 8 * n) ++ twoOctets (12 + 8 * n + 2 * m) ++ twoOctets 2
+
+abbrev pub fileAllTwo : ℕ → List Bookings → List ℕ → List ℕ
+fileAllTwo s bookings links = headerTwo (length bookings) (length links / 2) ++ entriesFrom s 1 bookings ++ links
 
 abbrev pub fileBothTwo : ℕ → List (ℕ × ℕ) → List ℕ → List ℕ
-fileBothTwo s bookings links = headerTwo (length bookings) (length links / 2) ++ entriesFrom s 1 bookings ++ links
+fileBothTwo s bookings links = fileAllTwo s (map forBuses bookings) links
 
 abbrev pub fileTwo : ℕ → List ℕ → List ℕ → List ℕ
-fileTwo s bookings links = fileBothTwo s (map (λ (booking : ℕ). (booking, 0)) bookings) links
+fileTwo s bookings links = fileAllTwo s (map onlyA bookings) links
 
 -- `ring`, `row`, `farFromThree` and `twoCabinets 100 50` in version 2
 abbrev pub ringTwo : List ℕ
@@ -274,7 +278,7 @@ fittingTaken = record {
   before = sendAB 1 2 30 ∷ [];
   asked = deliver 1 2;
   answer = 0;
-  cabinets = ascii "cab 1 normal 0 70 10\ncab 2 normal 0 50 50\n";
+  cabinets = ascii "cab 1 normal 0 70 10 0\ncab 2 normal 0 50 50 0\n";
 }
 
 -- one that is hurt in its amount, and one in its check, are not: 3 has the 20 amperes that it had
@@ -284,7 +288,7 @@ amountHurt = record {
   before = send 2 3 6 ∷ damageBy 2 0 2 3 0 1 ∷ [];
   asked = deliver 2 3;
   answer = 0;
-  cabinets = ascii "cab 1 normal 0 100 0\ncab 2 normal 0 44 0\ncab 3 recovering 0 20 0\n";
+  cabinets = ascii "cab 1 normal 0 100 0 0\ncab 2 normal 0 44 0 0\ncab 3 recovering 0 20 0 0\n";
 }
 
 abbrev pub checkHurt : Leaving
@@ -293,7 +297,7 @@ checkHurt = record {
   before = send 2 3 6 ∷ damage 2 3 0 1 ∷ [];
   asked = deliver 2 3;
   answer = 0;
-  cabinets = ascii "cab 1 normal 0 100 0\ncab 2 normal 0 44 0\ncab 3 recovering 0 20 0\n";
+  cabinets = ascii "cab 1 normal 0 100 0 0\ncab 2 normal 0 44 0 0\ncab 3 recovering 0 20 0 0\n";
 }
 
 -- in version 1 the same record hits the amount, and 7 amperes are added
@@ -303,7 +307,7 @@ hurtAdded = record {
   before = send 2 3 6 ∷ damage 2 3 0 1 ∷ [];
   asked = deliver 2 3;
   answer = 0;
-  cabinets = ascii "cab 1 normal 0 100 0\ncab 2 normal 0 44 0\ncab 3 normal 0 27 0\n";
+  cabinets = ascii "cab 1 normal 0 100 0 0\ncab 2 normal 0 44 0 0\ncab 3 normal 0 27 0 0\n";
 }
 
 -- over the one link of two cabinets the fault parts them
@@ -313,7 +317,7 @@ hurtParts = record {
   before = send 1 2 30 ∷ damageBy 2 0 1 2 0 1 ∷ [];
   asked = deliver 1 2;
   answer = 50;
-  cabinets = ascii "cab 1 crashed 0 70 0\ncab 2 crashed 0 50 0\n";
+  cabinets = ascii "cab 1 crashed 0 70 0 0\ncab 2 crashed 0 50 0 0\n";
 }
 
 -- "In checkp-begin, normal packets are taken from neighbours whose checkp has not come": one that fits, and not a hurt one
@@ -323,7 +327,7 @@ fittingInBegin = record {
   before = send 2 3 6 ∷ begin 1 ∷ deliver 1 3 ∷ [];
   asked = deliver 2 3;
   answer = 0;
-  cabinets = ascii "cab 1 checkp-begin 0 100 0\ncab 2 normal 0 44 0\ncab 3 checkp-begin 0 26 0\n";
+  cabinets = ascii "cab 1 checkp-begin 0 100 0 0\ncab 2 normal 0 44 0 0\ncab 3 checkp-begin 0 26 0 0\n";
 }
 
 abbrev pub hurtInBegin : Leaving
@@ -332,7 +336,7 @@ hurtInBegin = record {
   before = send 2 3 6 ∷ damageBy 1 4 2 3 0 0xFFFF ∷ begin 1 ∷ deliver 1 3 ∷ [];
   asked = deliver 2 3;
   answer = 0;
-  cabinets = ascii "cab 1 checkp-begin 0 100 0\ncab 2 normal 0 44 0\ncab 3 recovering 0 20 0\n";
+  cabinets = ascii "cab 1 checkp-begin 0 100 0 0\ncab 2 normal 0 44 0 0\ncab 3 recovering 0 20 0 0\n";
 }
 
 -- "Packets not named for a state are dropped": 2 is in recovering since 3 has failed, of which 1 does not know
@@ -342,7 +346,7 @@ hurtInRecovery = record {
   before = send 1 2 5 ∷ damageBy 2 0 1 2 0 1 ∷ fail 3 ∷ [];
   asked = deliver 1 2;
   answer = 0;
-  cabinets = ascii "cab 1 normal 0 5 0\ncab 2 recovering 0 20 0\ncab 3 failed\ncab 4 recovering 0 40 0\n";
+  cabinets = ascii "cab 1 normal 0 5 0 0\ncab 2 recovering 0 20 0 0\ncab 3 failed\ncab 4 recovering 0 40 0 0\n";
 }
 
 -- "Over a link struck at b it is dropped": 2 has struck the link to 1 for a hit resume, behind which the hurt packet comes
@@ -352,7 +356,7 @@ hurtOverStruck = record {
   before = send 3 1 10 ∷ ringSave ++ damage 1 2 0 1 ∷ send 1 2 5 ∷ damageBy 2 0 1 2 1 1 ∷ deliver 1 2 ∷ [];
   asked = deliver 1 2;
   answer = 0;
-  cabinets = ascii "cab 1 normal 1 105 0\ncab 2 error u 50 0\ncab 3 checkpointed u 10 0\n";
+  cabinets = ascii "cab 1 normal 1 105 0 0\ncab 2 error u 50 0 0\ncab 3 checkpointed u 10 0 0\n";
 }
 
 abbrev pub AllLeave : Type 0
@@ -365,10 +369,10 @@ AllLeave =
 abbrev pub notedAfter : List ℕ → List ℕ → History
 notedAfter file hurting = run (opening (load file .group)) (steps (send 2 3 6 ∷ hurting ∷ deliver 2 3 ∷ [])) .history
 
--- what was sent from 2 to 3 and taken there, whether anything was damaged, and whether on that line; the history is handed on, so that it is
+-- what was sent from 2 to 3 and taken there, whether a packet of the buses was damaged, and whether one of that line; the history is handed on, so that it is
 -- computed once
 abbrev pub logsIn : History → (List Payload × List Payload) × (Bool × Bool)
-logsIn h = ((h .sent 1 2, h .taken 1 2), (h .damaged, h .hurt 1 2))
+logsIn h = ((h .sent 1 2, h .taken 1 2), (h .damaged Buses, h .hurt 1 2))
 
 unfoldable pub logsAfter : List ℕ → List ℕ → (List Payload × List Payload) × (Bool × Bool)
 logsAfter file hurting = logsIn (notedAfter file hurting)
@@ -457,12 +461,12 @@ versionCases =
     -- "A file of one version is never read as the other": each with the other's first offset
     ∷ loads (set (twoCabinets 100 50) 5 12) 3
     ∷ loads (set pairTwo 5 10) 3
-    -- neither is read with one of its offsets or its length that of the other: link table and length of a pair are 22 and 24, 24 and 26
-    ∷ loads (set pairTwo 7 22) 3
-    ∷ loads (set pairTwo 9 24) 3
-    ∷ loads (set (twoCabinets 100 50) 7 24) 3
-    ∷ loads (set (twoCabinets 100 50) 9 26) 3
-    ∷ loads (set (twoCabinets 100 50) 9 26 ++ 0 ∷ 0 ∷ []) 3
+    -- neither is read with one of its offsets or its length that of the other: link table and length of a pair are 26 and 28, 28 and 30
+    ∷ loads (set pairTwo 7 26) 3
+    ∷ loads (set pairTwo 9 28) 3
+    ∷ loads (set (twoCabinets 100 50) 7 28) 3
+    ∷ loads (set (twoCabinets 100 50) 9 30) 3
+    ∷ loads (set (twoCabinets 100 50) 9 30 ++ 0 ∷ 0 ∷ []) 3
     ∷ loads (twoCabinets 100 50 ++ 0 ∷ 0 ∷ []) 3
     -- "1 fewer than 10 octets" in both, so of 10 and 11 octets that name 12 the answer is 2 or 3
     ∷ loads (startOfTwo 9 2) 1

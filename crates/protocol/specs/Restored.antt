@@ -1,11 +1,12 @@
 -- Demand 3: what holds whenever a coordinator ends a recovery. `h` is the history with that last step noted, `g` the group as it leaves
--- it, `n` the number of cabinets and `total` the sum of the bookings in the file.
+-- it, `n` the number of cabinets and `total` the sum of each party's bookings in the file.
 use Prim.Native.Nat.{ℕ, _<_}
 use mathlib.Core.Path.{_≡_}
 use mathlib.Core.Bool.{Bool, true, false, cond}
 use mathlib.Core.List.{List, [], _∷_}
 use mathlib.Core.Option.{Option, none, some}
 use lib.ListN.{getD}
+use Rattle.outlet.specs.declared.Party.{Party}
 use Rattle.packet.specs.declared.Payload.{Payload}
 use Rattle.state.specs.declared.Version.the-variants.{Known}
 use Rattle.image.specs.declared.Image.{Image}
@@ -34,20 +35,20 @@ Balanced s = (c d : ℕ) → takenIn (s .cut d) c ≡ sentIn (s .cut c) d
 abbrev pub counted : History → Group → ℕ → Option Image
 counted h g c = cond (works (stateOf g c)) (imageIn (latest h .cut c)) (h .lost c)
 
-abbrev pub amperes : Option Image → ℕ
-amperes none = 0
-amperes (some m) = booked m
+abbrev pub amperes : Party → Option Image → ℕ
+amperes y none = 0
+amperes y (some m) = booked y m
 
-pub record Restored (n total : ℕ) (h : History) (g : Group) : Type 0 where
+pub record Restored (n : ℕ) (total : Party → ℕ) (h : History) (g : Group) : Type 0 where
   -- all working cabinets have one known version
   pub version : Bool
   pub known : (c : ℕ) → c < n → works (stateOf g c) ≡ true → cabinet g c .phase .version ≡ Known version
   -- each holds the image of its own cut in the one save that the rule gives
   pub held : (c : ℕ) → c < n → works (stateOf g c) ≡ true → (x : Cut) × (latest h .cut c ≡ some x) × (cabinet g c .image ≡ x .image)
   pub balanced : Balanced (latest h)
-  -- every failed cabinet has an image, and the bookings, failed cabinets' included, add up to the feeder's total
+  -- every failed cabinet has an image, and the bookings, failed cabinets' included, add up to the feeder's total, "for each party by itself"
   pub lost : (c : ℕ) → c < n → works (stateOf g c) ≡ false → (m : Image) × (h .lost c ≡ some m)
-  pub adds : sum (λ c. amperes (counted h g c)) n ≡ total
+  pub adds : (y : Party) → sum (λ c. amperes y (counted h g c)) n ≡ total y
 
 -- ---- the claim
 

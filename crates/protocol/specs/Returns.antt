@@ -291,4 +291,4 @@ smallEvening = evening (twoCabinets 100 50) smallPlan
 
 abbrev pub smallPrinted : Text
 smallPrinted =
-    ascii "point 1 0\nstep 2 0\nstep 3 8\nstep 4 0\nreturn 5 0\nreturn 6 21\nstep 7 8\npoint 8 8\ncab 1 normal 0 100 0\ncab 2 normal 0 50 0\n"
+    ascii "point 1 0\nstep 2 0\nstep 3 8\nstep 4 0\nreturn 5 0\nreturn 6 21\nstep 7 8\npoint 8 8\ncab 1 normal 0 100 0 0\ncab 2 normal 0 50 0 0\n"

@@ -133,21 +133,21 @@ beginAgain = lastOf triangle (begin 1 ∷ []) (begin 1) 14
 abbrev pub hurtTwice : Run
 hurtTwice = lastOf (twoCabinets 100 50) (send 1 2 30 ∷ send 1 2 20 ∷ damage 1 2 0 1 ∷ []) (damage 1 2 1 13105) 20
 
--- ---- "17 eight normal packets in the line": not below eight
+-- ---- "17 now when that party's four places are full": not below four
 
 abbrev pub fullLine : Run
-fullLine = lastOf (twoCabinets 100 50) (replicate 8 (send 1 2 1)) (send 1 2 1) 17
+fullLine = lastOf (twoCabinets 100 50) (replicate 4 (send 1 2 1)) (send 1 2 1) 17
 
--- ---- "15 p outside .. to 31 or q above 255", and "note's lower end is 4"
+-- ---- "15 p outside .. to 31 or q above 255", and "notes begin at 6"
 
 abbrev pub noteLow : Run
-noteLow = lastOf triangle [] (note 1 3 7) 15
+noteLow = lastOf triangle [] (note 1 5 7) 15
 
 abbrev pub noteHigh : Run
 noteHigh = lastOf triangle [] (note 1 32 7) 15
 
 abbrev pub noteWide : Run
-noteWide = lastOf triangle [] (note 1 4 256) 15
+noteWide = lastOf triangle [] (note 1 6 256) 15
 
 -- ---- "19 home in error, recovering or recovered"
 

@@ -354,7 +354,7 @@ tripCases =
     ∷ answers ring (fail 3 ∷ []) (trip 3) 12
     ∷ answers ring [] (trip 3) 0
     -- image zeros, version unknown; the neighbours know theirs
-    ∷ record { asked = ListingOf ring (trip 3); expected = ascii "step 1 0\ncab 1 recovering 0 100 0\ncab 2 recovering 0 50 0\ncab 3 error u 0 0\n" }
+    ∷ record { asked = ListingOf ring (trip 3); expected = ascii "step 1 0\ncab 1 recovering 0 100 0 0\ncab 2 recovering 0 50 0 0\ncab 3 error u 0 0 0\n" }
     -- "its lines are emptied both ways", and those of its neighbours, which enter error
     ∷ answers ring (send 1 3 5 ∷ trip 3 ∷ []) (lose 1 3 0) 18
     -- "A store cabinet's trip crashes the group, and so does a trip while some working cabinet is in error, recovering or recovered."

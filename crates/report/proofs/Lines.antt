@@ -12,7 +12,7 @@ use Rattle.state.specs.declared.Version.{Version}
 use Rattle.state.specs.declared.Version.the-variants.{Known, Unknown, Lost}
 use Rattle.cabinet.specs.declared.Cabinet.{Cabinet}
 use Rattle.state.specs.State.{works}
-use Rattle.outlet.specs.declared.Outlet.the-variants.{A, B}
+use Rattle.outlet.specs.declared.Outlet.the-variants.{A, B, W}
 use Rattle.image.specs.Image.{booking}
 use Rattle.group.specs.declared.Group.{Group}
 use Rattle.group.specs.Group.{cabinet}
@@ -64,14 +64,14 @@ either-length : (b : Bool) (t : Text) → length (cond b t []) ≤ length t
 either-length true t = omega arith
 either-length false t = omega arith
 
-cab-length : (i : ℕ) (c : Cabinet) → length (cabLine i c) ≤ 40
+cab-length : (i : ℕ) (c : Cabinet) → length (cabLine i c) ≤ 44
 cab-length i c =
     let t : Text = 32 ∷ versionWord (c .phase .version) ++ bookings (c .image) in
-    let e : length t ≤ 14 =
-    simp length-append (omega (arith, version-length (c .phase .version), at-most 5 (booking A (c .image)), at-most 5 (booking B (c .image)))) in
+    let e : length t ≤ 20 =
+    simp length-append (omega (arith, version-length (c .phase .version), at-most 5 (booking A (c .image)), at-most 5 (booking B (c .image)), at-most 5 (booking W (c .image)))) in
     simp length-append
     (omega (arith, at-most 5 (i + 1), state-length (c .phase .state), either-length (works (c .phase .state)) t))
 
-pub cabs-length : (n : ℕ) (g : Group) → length (cabLines n g) ≤ 40 * n
+pub cabs-length : (n : ℕ) (g : Group) → length (cabLines n g) ≤ 44 * n
 cabs-length zero g = omega arith
 cabs-length (suc n) g = rw (length-append (cabLines n g) (cabLine n (cabinet g n))) (omega (arith, cabs-length n g, cab-length n (cabinet g n)))

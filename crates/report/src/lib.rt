@@ -41,7 +41,7 @@ pub fn cab_lines(out: &mut [u8], at: usize, g: Group) -> usize
 
 // The whole text for a group file and a list of step records, of which the first 10,000 count: its
 // length, and its octets stored in the buffer from the start as far as the buffer reaches. The text
-// has at most 200,000 octets: 10,000 step lines of 17 and 255 cabinet lines of 40. Where load
+// has at most 200,000 octets: 10,000 step lines of 17 and 255 cabinet lines of 44. Where load
 // answers 0, what demand 3 says holds at every recovery's end in the run that is listed.
 pub fn write_listing(file: &[u8], list: &[u8], out: &mut [u8]) -> usize
     ensures { λ r. ⌜ r ≡ length (listing (now (file .entry)) (now (list .entry))) ⌝ }

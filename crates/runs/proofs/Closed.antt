@@ -9,3 +9,4 @@ pub mod Trips
 pub mod Unsure
 pub mod OwnChecks
 pub mod Words
+pub mod Workshop

@@ -14,7 +14,7 @@ ghost use Rattle.marks.specs.Marks.{marked};
 ghost use Rattle.line.specs.Line.{normals};
 ghost use Rattle.state.specs.declared.State.the-variants.{Normal};
 ghost use Rattle.state.specs.State.{isIn};
-ghost use Rattle.outlet.specs.Outlet.{endsOf};
+ghost use Rattle.outlet.specs.Outlet.{endsOf, partyOf};
 ghost use Rattle.image.specs.Image.{booking, firstNote};
 ghost use Rattle.cabinet.specs.Cabinet.{inUse};
 ghost use Rattle.group.specs.Group.{cabinet, outgoing};
@@ -25,20 +25,22 @@ ghost use Rattle.protocol.specs.Kinds.{need, sent, sendStep, noteStep};
 fn send_refusal(c: Cabinet, l: Line, b: u8, p: u8, q: u16) -> u8
     ensures { λ r. ⌜ r ≡ need (marked (inUse c) b) 13
         (need (isIn (c .phase .state) Normal) 14
-        (need (ltb 0 q && leb p 3) 15
+        (need (ltb 0 q && leb p 4) 15
         (need (leb q (booking (endsOf p .from) (c .image))) 16
-        (need (ltb (normals l) 8) 17 0)))) ⌝ }
+        (need (ltb (normals (partyOf (endsOf p .to)) l) 4) 17 0)))) ⌝ }
 {
     let phase = c.phase;
     let state = phase.state;
     let image = c.image;
     let ends = outlet::ends_of(p);
     let charged = ends.from;
+    let to = ends.to;
     let linked = marks::marked(c.in_use(), b);
     let normal = state::is_in(state, State::Normal);
-    let room = records::need(l.normals() < 8, 17, 0);
+    let standing = l.normals(outlet::party_of(to));
+    let room = records::need(standing < 4, 17, 0);
     let covered = records::need(q <= image.booking(charged), 16, room);
-    let some = records::need(marks::and(0 < q, p <= 3), 15, covered);
+    let some = records::need(marks::and(0 < q, p <= 4), 15, covered);
     records::need(linked, 13, records::need(normal, 14, some))
 }
 
@@ -74,7 +76,7 @@ pub fn send_step(g: Group, a: u8, b: u8, p: u8, q: u16) -> Outcome
 fn note_refusal(s: State, p: u8, q: u16) -> u8
     ensures { λ r. ⌜ r ≡ need (isIn s Normal) 14 (need (leb firstNote p && (leb p 31 && leb q 255)) 15 0) ⌝ }
 {
-    let fits = marks::and(4 <= p, marks::and(p <= 31, q <= 255));
+    let fits = marks::and(6 <= p, marks::and(p <= 31, q <= 255));
     let normal = state::is_in(s, State::Normal);
     records::need(normal, 14, records::need(fits, 15, 0))
 }

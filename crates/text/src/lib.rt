@@ -84,7 +84,8 @@ fn cab_rest(out: &mut [u8], at: usize, c: Cabinet) -> usize
         let at = buffer::put(out, at, b' ');
         let at = buffer::put(out, at, version_octet(version));
         let at = buffer::number(out, at, c.image.booking(Outlet::A));
-        return buffer::number(out, at, c.image.booking(Outlet::B));
+        let at = buffer::number(out, at, c.image.booking(Outlet::B));
+        return buffer::number(out, at, c.image.booking(Outlet::W));
     }
     at
 }

@@ -15,7 +15,7 @@ pub(super) fn damage_at((from, to, place): Spot, burst: Burst) -> Record {
     record(11, from, b, p, burst.pattern)
 }
 
-fn delivers_up_to((from, to, place): Spot) -> Vec<Record> {
+pub(super) fn delivers_up_to((from, to, place): Spot) -> Vec<Record> {
     vec![record(4, from, to, 0, 0); place + 1]
 }
 
@@ -97,7 +97,9 @@ impl Run<'_> {
 
 impl Run<'_> {
     pub(super) fn sensible_damage(&mut self) -> Option<Record> {
-        match self.dice.below(12) {
+        match self.dice.below(15) {
+            12 => self.hurt_that_wraps(),
+            13 | 14 => self.hurts_of_both_parties(),
             0 => self.second_hurt(11),
             1 => self.refused_damage(),
             2 | 3 => self.hurt_to_be_dropped(),

@@ -3,13 +3,13 @@
 
 use super::hurts::{damage_at, Spot};
 use super::{record, Record, Run};
-use crate::model::{crc_octets, Ends, Number, Outlet, Packet, PacketVersion, State};
+use crate::model::{crc_octets, Account, Ends, Number, Packet, PacketVersion, State, WORKSHOP_P};
 
 // ---------------------------------------------------------------- what the CRC does not see
 
 /// The one amount whose packet of version 1 leaves a CRC register as it is.
-pub fn silent_amount(register: u16, outlet: Outlet) -> u16 {
-    let before_amount = crc_octets(register, &[outlet.octet()]);
+pub fn silent_amount(register: u16, account: Account) -> u16 {
+    let before_amount = crc_octets(register, &[account.octet()]);
     before_amount ^ before_two_octets(register)
 }
 
@@ -25,7 +25,7 @@ fn before_two_octets(register: u16) -> u16 {
 
 // ---------------------------------------------------------------- sensible losses
 
-fn loss_at((from, to, place): Spot) -> Record {
+pub(super) fn loss_at((from, to, place): Spot) -> Record {
     record(12, from, to, place as u8, 0)
 }
 
@@ -110,10 +110,10 @@ impl Run<'_> {
     fn silent_sends_on(&self, from: Number, to: Number) -> Vec<Record> {
         let [sent, _] = self.group.checks(from, to);
         let send = |p: u8| {
-            let outlet = Ends::of(p).expect("p is 0 to 3").receiving();
-            record(1, from, to, p, silent_amount(sent.crc, outlet))
+            let account = Ends::of(p).expect("p is 0 to 4").receiving();
+            record(1, from, to, p, silent_amount(sent.crc, account))
         };
-        (0..4).map(send).filter(|send| self.taken(send)).collect()
+        (0..=WORKSHOP_P).map(send).filter(|send| self.taken(send)).collect()
     }
 
     /// On a line where a normal packet was hurt already: refused if it aims at a normal one,
@@ -219,18 +219,19 @@ impl Run<'_> {
 mod tests {
     use super::*;
 
-    fn leaves_it(register: u16, outlet: Outlet, amount: u16) -> bool {
+    fn leaves_it(register: u16, account: Account, amount: u16) -> bool {
         let [high, low] = amount.to_be_bytes();
-        crc_octets(register, &[outlet.octet(), high, low]) == register
+        crc_octets(register, &[account.octet(), high, low]) == register
     }
 
     #[test]
     fn one_amount_and_no_other_leaves_a_register_as_it_is() {
-        assert_eq!(silent_amount(0xFFFF, Outlet::A), 25_919);
+        assert_eq!(silent_amount(0xFFFF, Account::A), 25_919);
+        assert_eq!(silent_amount(0xFFFF, Account::Workshop), 17_789);
         for register in [0, 1, 0x8000, 0x29B1, 0xFFFF] {
-            for outlet in [Outlet::A, Outlet::B] {
-                let silent = silent_amount(register, outlet);
-                let leaves = |amount: &u16| leaves_it(register, outlet, *amount);
+            for account in Account::ALL {
+                let silent = silent_amount(register, account);
+                let leaves = |amount: &u16| leaves_it(register, account, *amount);
                 assert!((0..=65_535).filter(leaves).eq([silent]));
             }
         }
@@ -239,8 +240,8 @@ mod tests {
     #[test]
     fn each_register_has_its_silent_amounts() {
         for register in 0..=65_535 {
-            for outlet in [Outlet::A, Outlet::B] {
-                assert!(leaves_it(register, outlet, silent_amount(register, outlet)));
+            for account in Account::ALL {
+                assert!(leaves_it(register, account, silent_amount(register, account)));
             }
         }
     }

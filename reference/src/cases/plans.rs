@@ -427,6 +427,11 @@ impl Planner<'_> {
                 note.map(|record| self.step(record));
             }
         }
+        if self.chance(100) {
+            let first = self.run.sends_that_fill_a_line();
+            first.map(|record| self.step(record));
+            self.take_what_follows();
+        }
         if self.chance(700) {
             self.settle();
         }
@@ -787,7 +792,7 @@ impl Planner<'_> {
     /// One ampere more than a booking, refused, and then all of it: the answers tell it.
     fn probe_scene(&mut self) {
         let from = self.run.any_cabinet();
-        let p = self.run.dice.below(4) as u8;
+        let p = self.run.dice.below(5) as u8;
         let booking = self.run.booking_behind(from, p);
         let neighbours = self.run.group.cabinet(from).neighbours();
         let Some(to) = self.run.dice.pick_any(&neighbours) else {
@@ -887,7 +892,7 @@ mod tests {
     use crate::cases::{case_seed, make_case};
     use crate::evening::{counted_evening, operation, Operation, Sight};
     use crate::listing::Tally;
-    use crate::model::{booking_in, Image, Outlet};
+    use crate::model::{booking_in, Account, Image};
     use crate::own_checks::{Found, Misfit};
     use crate::trips::Between;
     use crate::unsure::{Lost, Refusal};
@@ -1022,9 +1027,15 @@ mod tests {
         working.map(|c| format!("{:?}", group.cabinet(c).version)).collect()
     }
 
-    fn total(images: impl Iterator<Item = Image>) -> u32 {
-        let booked = |image: Image| [Outlet::A, Outlet::B].map(|outlet| booking_in(&image, outlet));
-        images.flat_map(booked).map(u32::from).sum()
+    /// Of the buses and of the workshop.
+    fn totals(images: impl Iterator<Item = Image>) -> [u32; 2] {
+        let mut totals = [0; 2];
+        for image in images {
+            let [a, b, workshop] =
+                Account::ALL.map(|account| u32::from(booking_in(&image, account)));
+            totals = [totals[0] + a + b, totals[1] + workshop];
+        }
+        totals
     }
 
     fn check_against_told(case: &Case) {
@@ -1033,19 +1044,19 @@ mod tests {
         };
         let mut told = Told::at_start(&group);
         let mut points = Points::default();
-        let start = total(told.saves[0].iter().copied());
+        let start = totals(told.saves[0].iter().copied());
         for operation in case.steps.chunks(PLAN_RECORD_LENGTH).filter_map(operation) {
             take(&mut told, &mut group, &mut points, operation);
             if group.quiet() {
                 let kept = |c: Number| group.committed_image(c);
                 assert!(group.numbers().all(|c| kept(c) == told.image(&group, c)));
-                assert_eq!(total(group.numbers().filter_map(kept)), start);
+                assert_eq!(totals(group.numbers().filter_map(kept)), start);
             }
         }
     }
 
     /// What a point would keep in each quiet moment is the save that the documents name, with
-    /// failed cabinets' images, and adds up to the feeder's total; damage or not. What each
+    /// failed cabinets' images, and adds up to each party's total; damage or not. What each
     /// recovery leaves is that save too, with tripped cabinets' images.
     #[test]
     fn points_keep_the_saves_that_the_documents_name() {

@@ -2,7 +2,7 @@
 
 use super::*;
 use crate::listing::{counted_listing, Counter};
-use crate::model::{load, Charge, Check, Group, Outlet, Sign, State, KINDS};
+use crate::model::{load, Account, Charge, Check, Group, Sign, State, KINDS};
 use crate::testing::{answers, bookings, deliver, one, send, settle, settle_until, Record};
 
 /// A damage or a loss on the line from a to b.
@@ -15,10 +15,10 @@ const SILENT: u16 = 25_919;
 
 /// Three cabinets, each linked to each, so that any link may be struck; 3 is the store.
 fn file_of_three(bookings: [u16; 3]) -> Vec<u8> {
-    let mut file = vec![0, 3, 0, 3, 0, 10, 0, 28, 0, 34];
+    let mut file = vec![0, 3, 0, 3, 0, 10, 0, 34, 0, 40];
     for (index, booking) in bookings.into_iter().enumerate() {
         let [high, low] = booking.to_be_bytes();
-        file.extend_from_slice(&[3, u8::from(index == 2), high, low, 0, 0]);
+        file.extend_from_slice(&[3, u8::from(index == 2), high, low, 0, 0, 0, 0]);
     }
     file.extend_from_slice(&[1, 2, 1, 3, 2, 3]);
     file
@@ -27,7 +27,9 @@ fn file_of_three(bookings: [u16; 3]) -> Vec<u8> {
 /// Two cabinets with one link, the second the store.
 fn file_of_two(bookings: [u16; 2]) -> Vec<u8> {
     let [[a, b], [c, d]] = bookings.map(u16::to_be_bytes);
-    vec![0, 2, 0, 1, 0, 10, 0, 22, 0, 24, 2, 0, a, b, 0, 0, 2, 1, c, d, 0, 0, 1, 2]
+    let header = [0, 2, 0, 1, 0, 10, 0, 26, 0, 28];
+    let entries = [[2, 0, a, b, 0, 0, 0, 0], [2, 1, c, d, 0, 0, 0, 0]];
+    [&header[..], &entries.concat(), &[1, 2]].concat()
 }
 
 fn three(bookings: [u16; 3]) -> Group {
@@ -76,7 +78,7 @@ fn the_count_finds_what_the_crc_does_not_see() {
 fn a_silent_loss_crashes_a_group_of_two() {
     let steps = [send(1, 2, SILENT), lose(1, 2, 0), one(3, 1), deliver(1, 2)].concat();
     let (text, tally) = counted_listing(&file_of_two([30_000, 50]), &steps, KINDS);
-    let cabinets = "cab 1 crashed 0 4081 0\ncab 2 crashed 0 50 0\n";
+    let cabinets = "cab 1 crashed 0 4081 0 0\ncab 2 crashed 0 50 0 0\n";
     assert_eq!(text, format!("step 1 0\nstep 2 0\nstep 3 0\nstep 4 50\n{cabinets}"));
     assert_eq!(tally.losses.found, BTreeMap::from([(Finding::CountAlone, 1)]));
 }
@@ -87,7 +89,7 @@ fn a_silent_loss_between_others_is_found() {
         let mut group = three([65_000, 50, 25]);
         for index in 0..3 {
             let [sent, _] = group.checks(1, 2);
-            let silent = crate::cases::losses::silent_amount(sent.crc, Outlet::A);
+            let silent = crate::cases::losses::silent_amount(sent.crc, Account::A);
             let amount = if index == place { silent } else { 7 };
             assert_eq!(answers(&mut group, &[send(1, 2, amount)]), [0]);
         }
@@ -190,7 +192,7 @@ fn packets_behind_a_lost_one_move_up() {
 #[test]
 fn a_lost_packet_leaves_its_place_to_another() {
     let mut group = three([100, 50, 25]);
-    assert_eq!(answers(&mut group, &[send(1, 2, 1); 9])[7..], [0, 17]);
+    assert_eq!(answers(&mut group, &[send(1, 2, 1); 5])[3..], [0, 17]);
     let records = [lose(1, 2, 3), send(1, 2, 2), send(1, 2, 2)];
     assert_eq!(answers(&mut group, &records), [0, 0, 17]);
 }

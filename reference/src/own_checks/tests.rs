@@ -3,7 +3,7 @@
 
 use super::*;
 use crate::listing::Counter;
-use crate::model::{crc_octets, load, Charge, Check, Outlet, Sign, State, KINDS};
+use crate::model::{crc_octets, load, Account, Charge, Check, Sign, State, KINDS};
 use crate::testing::{
     answers, bookings, deliver, ends, fail, group_file, line, one, save, save_up_to_commit, send,
     settle, states, trip, unsure, Record, ALL_OF_THREE, ROW_OF_THREE,
@@ -78,7 +78,7 @@ fn the_sixth_number_is_two() {
 fn a_file_of_one_version_is_not_read_as_the_other() {
     assert_eq!(refusal_with(One, &[(4, 12)]), Some(3));
     assert_eq!(refusal_with(Two, &[(4, 10)]), Some(3));
-    for (version, [table, length]) in [(One, [30, 36]), (Two, [28, 34])] {
+    for (version, [table, length]) in [(One, [36, 42]), (Two, [34, 40])] {
         assert_eq!(refusal_with(version, &[(6, table)]), Some(3));
         assert_eq!(refusal_with(version, &[(8, length)]), Some(3));
         assert_eq!(refusal_with(version, &[(6, table), (8, length)]), Some(3));
@@ -104,11 +104,11 @@ fn the_true_length_is_that_of_the_version() {
 fn two_octets_too_many_or_too_few_are_read_as_they_stand() {
     let mut file = file_of_three(One);
     file.extend([2, 3]);
-    (file[5], file[7], file[9]) = (12, 30, 36);
+    (file[5], file[7], file[9]) = (12, 36, 42);
     assert_eq!(load(&file).err(), Some(3));
     let mut file = file_of_three(Two);
     file.truncate(file.len() - 2);
-    (file[5], file[7], file[9]) = (10, 28, 34);
+    (file[5], file[7], file[9]) = (10, 34, 40);
     assert_eq!(load(&file).err(), Some(4));
 }
 
@@ -128,7 +128,7 @@ fn a_short_header_of_version_2_is_no_short_file() {
 fn entries_of_version_2_stand_two_octets_later() {
     for (version, start) in [(One, 10), (Two, 12)] {
         assert_eq!(refusal_with(version, &[(start, 0)]), Some(4));
-        assert_eq!(refusal_with(version, &[(start + 18, 0x0201)]), Some(5));
+        assert_eq!(refusal_with(version, &[(start + 24, 0x0201)]), Some(5));
         assert_eq!(refusal_with(version, &[(start + 2, 65_460)]), None);
         assert_eq!(refusal_with(version, &[(start + 2, 65_461)]), Some(7));
     }
@@ -140,12 +140,12 @@ fn entries_of_version_2_stand_two_octets_later() {
 
 #[test]
 fn a_packet_of_version_2_carries_the_crc_of_its_first_three_octets() {
-    assert_eq!(Charge::new(Two, Outlet::A, 7).own_check, Some(0xBC7B));
-    assert_eq!(Charge::new(Two, Outlet::B, 7).own_check, Some(crc_octets(0xFFFF, &[1, 0, 7])));
-    assert_eq!(Charge::new(One, Outlet::A, 7).own_check, None);
+    assert_eq!(Charge::new(Two, Account::A, 7).own_check, Some(0xBC7B));
+    assert_eq!(Charge::new(Two, Account::B, 7).own_check, Some(crc_octets(0xFFFF, &[1, 0, 7])));
+    assert_eq!(Charge::new(One, Account::A, 7).own_check, None);
     let mut group = three(Two);
     assert_eq!(answers(&mut group, &[send(1, 2, 7)]), [0]);
-    assert_eq!(only_packet(&group), Charge::new(Two, Outlet::A, 7));
+    assert_eq!(only_packet(&group), Charge::new(Two, Account::A, 7));
 }
 
 #[test]
@@ -194,7 +194,7 @@ fn saves_commit_in_both_versions() {
 
 #[test]
 fn amount_and_check_are_one_number_under_the_pattern() {
-    let sent = Charge::new(Two, Outlet::A, 7);
+    let sent = Charge::new(Two, Account::A, 7);
     let check = sent.own_check.expect("of version 2");
     let hits = [
         ((0, 0, 0x1234), (0, 0x1234)),
@@ -221,7 +221,7 @@ fn no_damage_leaves_a_packet_that_fits() {
         for pattern in (1..=65_535).step_by(5).chain((0..16).map(|bit| 1 << bit)) {
             let burst = Burst { pattern, bits: shift % 8, octets: shift / 8 };
             if burst.on_four_octets().is_some() {
-                assert!(!Charge::new(Two, Outlet::B, 500).hit_by(burst).fits());
+                assert!(!Charge::new(Two, Account::B, 500).hit_by(burst).fits());
             }
         }
     }
@@ -231,7 +231,7 @@ fn no_damage_leaves_a_packet_that_fits() {
 fn in_version_1_only_the_amount_is_hit() {
     let mut group = three(One);
     assert_eq!(answers(&mut group, &[send(1, 2, 7), damage(0, 0, 0, 0x1234)]), [0, 0]);
-    assert_eq!(only_packet(&group), Charge::new(One, Outlet::A, 7 ^ 0x1234));
+    assert_eq!(only_packet(&group), Charge::new(One, Account::A, 7 ^ 0x1234));
 }
 
 #[test]
@@ -302,8 +302,8 @@ fn damage_is_refused_in_order() {
 fn a_damage_of_before_is_read_as_it_was() {
     for version in BOTH {
         let mut group = three(version);
-        answers(&mut group, &[send(1, 2, 1); 8]);
-        let records = [damage(31, 0, 0, 1), damage(8, 0, 0, 1), damage(7, 0, 0, 1)];
+        answers(&mut group, &[send(1, 2, 1); 4]);
+        let records = [damage(31, 0, 0, 1), damage(4, 0, 0, 1), damage(3, 0, 0, 1)];
         assert_eq!(answers(&mut group, &records), [18, 18, 0]);
     }
 }
@@ -348,7 +348,7 @@ fn a_hurt_packet_is_found_on_taking_and_the_group_recovers() {
 fn in_version_1_the_checkp_finds_it() {
     let mut group = three(One);
     answers(&mut group, &[send(1, 2, 30), damage(0, 0, 0, 1)]);
-    assert_eq!(event(&mut group, deliver(1, 2)), Event::Added(Outlet::A));
+    assert_eq!(event(&mut group, deliver(1, 2)), Event::Added(Account::A));
     assert_eq!(bookings(&group), [70, 81, 25]);
     answers(&mut group, &[one(3, 1)]);
     assert_eq!(event(&mut group, deliver(1, 2)), Event::LinkFault(Sign::CheckValue));
@@ -360,7 +360,7 @@ fn in_version_1_the_checkp_finds_it() {
 fn packets_before_a_hurt_one_are_added() {
     let mut group = three(Two);
     answers(&mut group, &[send(1, 2, 5), send(1, 2, 6), send(1, 2, 7), damage(1, 0, 0, 1)]);
-    assert_eq!(event(&mut group, deliver(1, 2)), Event::Added(Outlet::A));
+    assert_eq!(event(&mut group, deliver(1, 2)), Event::Added(Account::A));
     assert_eq!(event(&mut group, deliver(1, 2)), Event::LinkFault(Sign::OwnCheck));
     assert_eq!(bookings(&group), [82, 55, 25]);
     assert_eq!(event(&mut group, deliver(1, 2)), Event::Nothing);
@@ -561,15 +561,15 @@ fn mixed_files_are_told_apart() {
         Mixed::of(&file, refusal)
     };
     assert_eq!(mixed(Two, &[(11, 1)], 0), Some(Mixed::SixthNumber));
-    assert_eq!(mixed(Two, &[], -25), Some(Mixed::CutShort));
-    assert_eq!(mixed(One, &[(5, 12)], -24), Some(Mixed::CutShort));
+    assert_eq!(mixed(Two, &[], -31), Some(Mixed::CutShort));
+    assert_eq!(mixed(One, &[(5, 12)], -30), Some(Mixed::CutShort));
     assert_eq!(mixed(One, &[(5, 12)], 0), Some(Mixed::FirstOffset));
     assert_eq!(mixed(Two, &[(5, 10)], 0), Some(Mixed::FirstOffset));
     assert_eq!(mixed(One, &[], 2), Some(Mixed::TrueLength));
     assert_eq!(mixed(Two, &[], -2), Some(Mixed::TrueLength));
-    assert_eq!(mixed(One, &[(7, 30)], 0), Some(Mixed::LaterNumbers));
-    assert_eq!(mixed(Two, &[(9, 34)], -2), Some(Mixed::LaterNumbers));
-    let as_entry = [(5, 10), (7, 28), (9, 34)];
+    assert_eq!(mixed(One, &[(7, 36)], 0), Some(Mixed::LaterNumbers));
+    assert_eq!(mixed(Two, &[(9, 40)], -2), Some(Mixed::LaterNumbers));
+    let as_entry = [(5, 10), (7, 34), (9, 40)];
     assert_eq!(mixed(Two, &as_entry, -2), Some(Mixed::SixthNumberAsEntry));
     assert_eq!(mixed(Two, &[(12, 0)], 0), None);
     assert_eq!(mixed(One, &[(5, 11)], 0), None);

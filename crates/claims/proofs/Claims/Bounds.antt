@@ -2,36 +2,42 @@
 use Prim.Native.Nat.{ℕ, zero, suc, _+_, _<_, _≤_}
 use mathlib.Core.Path.{_≡_, refl, sym, ap, _∙_, subst}
 use mathlib.Core.Logic.{⊎-elim}
-use mathlib.Core.Bool.{Bool, true, false, not, _&&_, _||_, false≢true}
+use mathlib.Core.Bool.{Bool, true, false, not, _&&_, _||_, false≢true, cond}
 use mathlib.Core.List.{List, [], _∷_, nil≢cons}
 use lib.ListN.{length}
 use native.Mathlib.Omega.{arith}
 use native.Mathlib.Decide.{ℕ-discrete}
 use Rattle.marks.specs.Marks.{marked}
+use Rattle.outlet.specs.declared.Outlet.{Outlet}
+use Rattle.outlet.specs.declared.Outlet.the-variants.{A, B, W}
+use Rattle.outlet.specs.declared.Party.{Party}
+use Rattle.outlet.specs.declared.Party.the-variants.{Buses, Workshop}
+use Rattle.outlet.specs.Outlet.{partyOf}
 use Rattle.packet.specs.declared.PacketVersion.{PacketVersion}
 use Rattle.packet.specs.declared.Payload.{Payload}
 use Rattle.packet.specs.declared.Packet.{Packet}
 use Rattle.packet.specs.declared.Packet.the-variants.{Empty, Normal as NormalPacket, Checkp, Resume, Recover, Fault, Invalid}
+use Rattle.packet.specs.Packet.{isOf}
 use Rattle.line.specs.declared.Cell.{Cell}
-use Rattle.line.specs.Line.{oldest, rest}
+use Rattle.line.specs.Line.{oldest, rest, normalsIn}
 use Rattle.state.specs.declared.State.{State}
 use Rattle.state.specs.declared.State.the-variants.{Failed, Normal, CheckpBegin, Checkpointing, Checkpointed, Error, Recovering, Recovered, Crashed}
 use Rattle.state.specs.State.{isIn, works, inRecovery}
 use Rattle.image.specs.Image.{booked}
-use Rattle.image.proofs.Laws.{booking-within}
+use Rattle.image.proofs.Laws.{booking-within, share}
 use Rattle.group.specs.declared.Group.{Group}
 use Rattle.group.specs.Group.{cabinet, stateOf, line, isCrashed, sum}
 use Rattle.load.specs.Load.{load, feederTotal}
 use Rattle.protocol.specs.Receive.{takesFrom}
 use Rattle.protocol.specs.History.{Operation, opening}
 use Rattle.protocol.specs.Restored.{Octets, AllOctets, worldAfter}
-use Rattle.claims.specs.Bounds.{VersionStays, LinesBounded, HasRoom, NeverWraps}
+use Rattle.claims.specs.Bounds.{VersionStays, LinesBounded, HasRoom, NeverWraps, normalsOf}
 use Rattle.claims.proofs.State.Fun.{never, is-true, sum-add, sum-swap}
 use Rattle.claims.proofs.State.View.{View, packetOf, content, view}
 use Rattle.claims.proofs.State.ViewMoves.{sim-off}
 use Rattle.claims.proofs.Invariant.Facts.{Ghost, Pair, unaware, amountsIn, amount}
 use Rattle.claims.proofs.Invariant.Whole.{Inv, outOf, gotOf}
-use Rattle.claims.proofs.Invariant.Words.{un-of, un-works, live-line}
+use Rattle.claims.proofs.Invariant.Words.{un-of, un-works, live-line, one-party}
 use Rattle.claims.proofs.Claims.Demand.{Runs, every-list, run-fixed}
 
 pub version-stays : VersionStays
@@ -53,10 +59,28 @@ unfolding content
 packets-within [] = omega arith
 packets-within (c ∷ cs) = omega (arith, one-within (c .packet) (content cs), packets-within cs)
 
+-- a normal packet is of one of the parties
+one-normal : (p : Packet) (l : List Packet) (j k : ℕ) → length (normalsOf l) ≤ j + k
+    → length (normalsOf (packetOf p l)) ≤ (cond (isOf Buses p) 1 0 + j) + (cond (isOf Workshop p) 1 0 + k)
+unfolding normalsOf
+one-normal Empty l j k h = omega arith
+one-normal (NormalPacket q) l j k h = omega (arith, one-party (partyOf (q .outlet)))
+one-normal (Checkp v) l j k h = omega arith
+one-normal Resume l j k h = omega arith
+one-normal (Recover v) l j k h = omega arith
+one-normal (Fault q) l j k h = omega arith
+one-normal Invalid l j k h = omega arith
+
+normals-both : (cs : List Cell) → length (normalsOf (content cs)) ≤ normalsIn Buses cs + normalsIn Workshop cs
+unfolding content normalsOf
+normals-both [] = omega arith
+normals-both (c ∷ cs) = one-normal (c .packet) (content cs) (normalsIn Buses cs) (normalsIn Workshop cs) (normals-both cs)
+
 pub lines-bounded : LinesBounded
 lines-bounded f of e xs o a b =
     let h = every-list f of e xs o .fit .lines a b in
-    (omega (arith, packets-within (line (worldAfter f xs .group) a b .cells), h .twelve), h .few)
+    let cs = line (worldAfter f xs .group) a b .cells in
+    (omega (arith, packets-within cs, h .twelve), h .few Buses, h .few Workshop, omega (arith, normals-both cs, h .few Buses, h .few Workshop))
 
 -- ---- what holds of every group that has not crashed
 
@@ -65,6 +89,12 @@ pub running : (f : List ℕ) → Octets f → load f .answer ≡ 0 → (xs : Lis
 running f of e xs o c = ⊎-elim (λ x. absurd (never x c)) (λ w. w) (every-list f of e xs o .going)
 
 -- ---- additions
+
+-- what a packet carries is all its own party's
+all-own : (o : Outlet) (q : ℕ) → share (partyOf o) o q ≡ q
+all-own A q = refl
+all-own B q = refl
+all-own W q = refl
 
 sum-less : (f g : ℕ → ℕ) (n : ℕ) → ((i : ℕ) → f i ≤ g i) → sum f n ≤ sum g n
 unfolding sum
@@ -91,7 +121,7 @@ takes-calm Recovering t e = absurd (false≢true e)
 takes-calm Recovered t e = absurd (false≢true e)
 takes-calm Crashed t e = absurd (false≢true e)
 
-module _ (total : ℕ) (g : Group) (γ : Ghost) (i : Inv (g .n) total (view g) γ) (clean : γ .big .clean ≡ true) (a b : ℕ) (p : Payload)
+module _ (total : Party → ℕ) (g : Group) (γ : Ghost) (i : Inv (g .n) total (view g) γ) (a b : ℕ) (p : Payload) (clean : γ .big .clean (partyOf (p .outlet)) ≡ true)
     (first : oldest (line g a b) ≡ NormalPacket p) (takes : takesFrom (cabinet g b) a ≡ true) where
   abbrev v : View
   v = view g
@@ -116,38 +146,43 @@ module _ (total : ℕ) (g : Group) (γ : Ghost) (i : Inv (g .n) total (view g) �
   lb : b < 8
   lb = below-eight b (un-works (γ .big) (v .own b) calm)
 
-  -- no more was taken than was sent, on this line with the packet that stands first
-  taken-within : (c d : ℕ) → γ .wire c d .got ≤ γ .wire c d .out
-  taken-within c d = omega (arith, i .core .pairs c d .noMore clean)
+  -- the packet's party, and nothing is asked of the other one
+  abbrev y : Party
+  y = partyOf (p .outlet)
 
-  with-first : γ .wire a b .got + p .amount ≤ γ .wire a b .out
+  -- no more was taken than was sent, on this line with the packet that stands first
+  taken-within : (c d : ℕ) → γ .wire c d .got y ≤ γ .wire c d .out y
+  taken-within c d = omega (arith, i .core .pairs c d .noMore y clean)
+
+  with-first : γ .wire a b .got y + p .amount ≤ γ .wire a b .out y
   unfolding amountsIn amount
-  with-first = omega (arith, here .noMore clean)
+  with-first = omega (arith, here .noMore y clean, all-own (p .outlet) (p .amount))
 
   -- over all lines
-  all-within : sum (λ c. gotOf γ c) 8 + p .amount ≤ sum (λ c. outOf γ c) 8
+  all-within : sum (λ c. gotOf γ c y) 8 + p .amount ≤ sum (λ c. outOf γ c y) 8
   all-within =
-      let taken : ℕ → ℕ → ℕ = λ c d. γ .wire c d .got in
-      let sent : ℕ → ℕ → ℕ = λ c d. γ .wire c d .out in
+      let taken : ℕ → ℕ → ℕ = λ c d. γ .wire c d .got y in
+      let sent : ℕ → ℕ → ℕ = λ c d. γ .wire c d .out y in
       let from-a = sum-more (taken a) (sent a) b 8 (p .amount) lb (taken-within a) with-first in
       let from-all =
-      sum-more (λ c. sum (taken c) 8) (λ c. outOf γ c) a 8 (p .amount) la (λ c. sum-less (taken c) (sent c) 8 (taken-within c)) from-a in
+      sum-more (λ c. sum (taken c) 8) (λ c. outOf γ c y) a 8 (p .amount) la (λ c. sum-less (taken c) (sent c) 8 (taken-within c)) from-a in
       omega (arith, from-all, sum-swap taken 8 8)
 
   -- no cabinet has sent more than it had, and b has what it books over
-  all-booked : sum (λ c. outOf γ c) 8 + booked (v .own b .image) ≤ sum (λ c. booked (γ .mind c .base) + gotOf γ c) 8
+  all-booked : sum (λ c. outOf γ c y) 8 + booked y (v .own b .image) ≤ sum (λ c. booked y (γ .mind c .base) + gotOf γ c y) 8
   all-booked =
-      let k = i .core .books b .live calm in
-      sum-more (λ c. outOf γ c) (λ c. booked (γ .mind c .base) + gotOf γ c) b 8 (booked (v .own b .image)) lb (λ c. i .core .books c .bounded)
+      let k = i .core .books b .live calm y in
+      sum-more (λ c. outOf γ c y) (λ c. booked y (γ .mind c .base) + gotOf γ c y) b 8 (booked y (v .own b .image)) lb (λ c. i .core .books c .bounded y)
       (omega (arith, k .1))
 
-  -- what bounds both outlets together bounds each
+  -- what bounds a party's bookings together bounds each
   no-wrap : HasRoom g b p
   no-wrap =
       let s = i .core .sums in
-      omega (arith, booking-within (p .outlet) (cabinet g b .image), all-within, all-booked, sum-add (λ c. booked (γ .mind c .base)) (λ c. gotOf γ c) 8, s .bases, s .least)
+      omega (arith, booking-within (p .outlet) (cabinet g b .image), all-within, all-booked, sum-add (λ c. booked y (γ .mind c .base)) (λ c. gotOf γ c y) 8, s .bases y, s .least y)
 
 pub never-wraps : NeverWraps
-never-wraps f of e xs o c unhurt =
+never-wraps f of e xs o c a b p unhurt =
     let w = running f of e xs o c in
-    no-wrap _ _ (w .ghost) (w .inv) (is-true (w .ghost .big .clean) (λ x. never (w .past .damaged ∙ ap not x) unhurt))
+    let y = partyOf (p .outlet) in
+    no-wrap _ _ (w .ghost) (w .inv) a b p (is-true (w .ghost .big .clean y) (λ x. never (w .past .damaged y ∙ ap not x) unhurt))

@@ -11,6 +11,7 @@ use native.Mathlib.Omega.{arith}
 use native.Mathlib.Decide.{ℕ-discrete, decLt}
 use Rattle.marks.specs.Marks.{lowest}
 use Rattle.marks.specs.MarksLaws.{lowest-le-marked}
+use Rattle.outlet.specs.declared.Party.{Party}
 use Rattle.packet.specs.declared.PacketVersion.{PacketVersion}
 use Rattle.state.specs.declared.State.{State}
 use Rattle.state.specs.declared.State.the-variants.{Normal, Error, Recovered, Crashed}
@@ -60,18 +61,18 @@ use Rattle.claims.proofs.Claims.Stepping.{entered}
 
 -- there is a ghost with which the invariant holds
 
-pub record Runs (total : ℕ) (g : Group) (h : History) : Type 0 where
+pub record Runs (total : Party → ℕ) (g : Group) (h : History) : Type 0 where
   pub ghost : Ghost
   pub fit : Fit g
   pub inv : Inv (g .n) total (view g) ghost
   pub past : Past (g .n) (view g) ghost h
   pub reports : Reports (view g)
 
-abbrev pub Going : ℕ → Group → History → Type 0
+abbrev pub Going : (Party → ℕ) → Group → History → Type 0
 Going total g h = (isCrashed g ≡ true) ⊎ Runs total g h
 
 -- all has its size and the points stand, whether the group has crashed or not
-pub record Good (total : ℕ) (w : World) : Type 0 where
+pub record Good (total : Party → ℕ) (w : World) : Type 0 where
   pub fit : Fit (w .group)
   pub points : PointsHeld (w .group .n) total (w .points) (w .history .points)
   pub going : Going total (w .group) (w .history)
@@ -149,7 +150,7 @@ pub same-state : (g : Group) (j : ℕ) → ends g g j ≡ true → ⊥
 same-state g j e = never e (not-both (stateOf g (coordinator (cabinet g j))) Recovered Normal refl)
 
 -- some cabinet works: the home of the coordinator
-pub works-one : (total : ℕ) (g : Group) (h : History) → Runs total g h → (c : ℕ) × (c < 8) × (works (stateOf g c) ≡ true)
+pub works-one : (total : Party → ℕ) (g : Group) (h : History) → Runs total g h → (c : ℕ) × (c < 8) × (works (stateOf g c) ≡ true)
 works-one total g h w =
     let u = w .inv .core .ground in
     let k = cabinet g (w .ghost .big .chief) .home in
@@ -158,7 +159,7 @@ works-one total g h w =
 
 -- ---- one step
 
-module _ (total : ℕ) (g : Group) (h : History) (r : List ℕ) (o : Octets r) where
+module _ (total : Party → ℕ) (g : Group) (h : History) (r : List ℕ) (o : Octets r) where
   abbrev g′ : Group
   g′ = step g r .group
 
@@ -272,7 +273,7 @@ module _ (total : ℕ) (g : Group) (h : History) (r : List ℕ) (o : Octets r) w
 
 -- ---- one operation
 
-module _ (total : ℕ) (w : World) (good : Good total w) where
+module _ (total : Party → ℕ) (w : World) (good : Good total w) where
   abbrev g₀ : Group
   g₀ = w .group
 
@@ -375,7 +376,7 @@ module _ (total : ℕ) (w : World) (good : Good total w) where
 
 -- ---- every list of operations
 
-good-run : (total : ℕ) (xs : List Operation) (w : World) → AllOctets xs → Good total w → Good total (run w xs)
+good-run : (total : Party → ℕ) (xs : List Operation) (w : World) → AllOctets xs → Good total w → Good total (run w xs)
 unfolding run
 good-run total [] w o h = h
 good-run total (x ∷ xs) w o h = good-run total xs (advance w x) (o .1) (one-more total w h x (o .0) .0)

@@ -11,9 +11,10 @@ use borrow.Author.Tests.{eqb-true, eqb-false}
 use native.Mathlib.Omega.{arith}
 use native.Mathlib.Decide.{ℕ-discrete}
 use Rattle.marks.specs.Marks.{marked}
+use Rattle.outlet.specs.declared.Party.{Party}
 use Rattle.packet.specs.declared.Packet.{Packet}
 use Rattle.packet.specs.declared.Packet.the-variants.{Empty, Normal as NormalPacket, Checkp, Resume, Recover, Fault, Invalid}
-use Rattle.packet.specs.Packet.{isNormal, fits}
+use Rattle.packet.specs.Packet.{fits}
 use Rattle.line.specs.Line.{oldest, packetAt}
 use Rattle.state.specs.declared.State.the-variants.{Normal, Checkpointed, Recovering, Recovered}
 use Rattle.cabinet.specs.declared.Alarm.{Alarm}
@@ -76,9 +77,14 @@ taken-same true h a b (Fault p) = (refl, refl)
 taken-same true h a b Invalid = (refl, refl)
 taken-same false h a b p = (refl, refl)
 
-damage-same : (t : Bool) (h : History) (a b : ℕ) → SameSave (latest (noteDamage t h a b)) (latest h)
-damage-same true h a b = (refl, refl)
-damage-same false h a b = (refl, refl)
+damage-same : (p : Packet) (h : History) (a b : ℕ) → SameSave (latest (noteDamage p h a b)) (latest h)
+damage-same Empty h a b = (refl, refl)
+damage-same (NormalPacket p) h a b = (refl, refl)
+damage-same (Checkp v) h a b = (refl, refl)
+damage-same Resume h a b = (refl, refl)
+damage-same (Recover v) h a b = (refl, refl)
+damage-same (Fault p) h a b = (refl, refl)
+damage-same Invalid h a b = (refl, refl)
 
 end-same : (t : Bool) (h : History) (g : Group) → SameSave (latest (noteEnd t h g)) (latest h)
 end-same true h g = (refl, refl)
@@ -125,7 +131,7 @@ module _ (g : Group) (recovers : any (recoveringOnes g) ≡ true) where
     observed-same (Fetch a) e = known-same (goes g g′ (a - 1) Recovering Recovered) h
     observed-same (RestoredStep a) e = end-same (ends g g′ (a - 1)) h g′
     observed-same (Fail a) e = absurd (refused-or (entryRefusal g (Fail a)) (failStep g (a - 1)) (fail-fifty (a - 1)) e)
-    observed-same (Damage a b p w) e = damage-same (isNormal (packetAt (line g (a - 1) (b - 1)) p)) h (a - 1) (b - 1)
+    observed-same (Damage a b p w) e = damage-same (packetAt (line g (a - 1) (b - 1)) p) h (a - 1) (b - 1)
     observed-same (Lose a b p) e = (refl, refl)
     observed-same (Trip a) e = absurd (refused-or (entryRefusal g (Trip a)) (tripStep g (a - 1)) (trip-fifty (a - 1)) e)
     observed-same (Unsure a) e = (refl, refl)
@@ -133,7 +139,7 @@ module _ (g : Group) (recovers : any (recoveringOnes g) ≡ true) where
 -- ---- who was there when it began, with the places that they had, and the save
 
 pub record Since : Type 0 where
-  pub total : ℕ
+  pub total : Party → ℕ
   pub there : ℕ → Bool
   pub place : ℕ → Alarm
   pub save : Save

@@ -9,6 +9,7 @@ use lib.Dec.{eqb, ltb}
 use borrow.Author.Tests.{eqb-true, eqb-false}
 use native.Mathlib.Omega.{arith}
 use Rattle.marks.specs.Reach.{mark}
+use Rattle.outlet.specs.declared.Party.{Party}
 use Rattle.packet.specs.declared.Packet.the-variants.{Normal as NormalPacket}
 use Rattle.line.specs.declared.Cell.{Cell}
 use Rattle.packet.specs.Packet.{isEmpty}
@@ -47,7 +48,7 @@ use Rattle.claims.proofs.Fifo.Steps.{cabinet-puts, fetch-puts, write-pu
 use Rattle.claims.proofs.Claims.Stepping.{named-below}
 use Rattle.claims.proofs.Claims.Demand.{Runs, every-list}
 
-module _ (total : ℕ) (g : Group) (h : History) (γ : Ghost) (w : Fit g) (i : Inv (g .n) total (view g) γ) (past : Past (g .n) (view g) γ h) where
+module _ (total : Party → ℕ) (g : Group) (h : History) (γ : Ghost) (w : Fit g) (i : Inv (g .n) total (view g) γ) (past : Past (g .n) (view g) γ h) where
   abbrev v : View
   v = view g
 

@@ -6,6 +6,7 @@ use mathlib.Core.List.{List, [], _∷_}
 use lib.Dec.{ltb}
 use borrow.Author.Tests.{ne-eqb, le-ltb}
 use native.Mathlib.Omega.{arith}
+use Rattle.outlet.specs.declared.Party.the-variants.{Buses}
 use Rattle.crc.specs.Crc.{crcBit, crcBits, crcOctet, crcFrom}
 use Rattle.marks.specs.Marks.{lowest, covers, both, nextUp}
 use Rattle.marks.specs.Reach.{struck, connected}
@@ -26,18 +27,23 @@ use Rattle.protocol.specs.Restored.{AllOctets, amperes}
 use Rattle.protocol.specs.Unsure.{storeBetween, untilWait, endUnderWait}
 use Rattle.state.specs.State.{works}
 use Rattle.claims.specs.Bounds.{content}
-use Rattle.claims.specs.Instances.{Wraps, ResumesOnward, LossMovesUp, OtherSlotIsOlder, LostOnesCount, PointsOfLostOnes, StillTheReturn, inDoubt, underWait, WaitEnds, InAnyOrder, LastFirst, StandingReport}
+use Rattle.claims.specs.Instances.{Wraps, OthersUndamaged, ResumesOnward, LossMovesUp, TwoComparisons, OtherSlotIsOlder, LostOnesCount, PointsOfLostOnes, StillTheReturn, inDoubt, underWait, WaitEnds, InAnyOrder, LastFirst, StandingReport}
 use Rattle.claims.specs.NoClock.{Before, loaded, operated, isReport, endsBelow, firstEnd, times}
 use Rattle.claims.proofs.State.Fun.{and-true, not-true-false}
 use Rattle.claims.proofs.Claims.NoClock.{no-clock-before}
-use Rattle.claims.proofs.Claims.Examples.{octets-of, operations-of}
+use Rattle.claims.proofs.Claims.Written.{octets-of, operations-of}
 
 pub wraps : Wraps
 unfolding crcBit crcBits crcOctet crcFrom fits shifted patternRight hurtBy lowest covers both nextUp struck connected emptyLines lineTo withLineTo putAll putCheckps cabinet withCabinet outgoing withOutgoing line withLine blankSlots slot withSlots withSlot rowsOf ofRows withSound forgetTrips some working recoveringOnes isCrashed sum versionOf load broadcast join cutIfAll takeCheckp resumeWith commit adopt recoverWith raise enterError hear findLinkFault markFailed alarmTo endRecovery noteLost receiveNormal receiveCheckp receiveResume receiveRecover receiveFault sent sendStep noteStep beginStep delivered deliverStep writePiece writeStep reportSaved commitIfAll savedStep fetchPiece fetchStep reportRestored endIfAll restoredStep failStep hurt damageStep step upd logged advance run settle settleOver
 wraps = (
   (refl, λ r. omega (arith, r), λ e. let z : _≡_ {A = ℕ} 0 1 = cc in omega arith),
   (refl, λ r. omega (arith, r), λ e. let z : _≡_ {A = ℕ} 0 1 = cc in omega arith),
+  (refl, λ r. omega (arith, r), λ e. let z : _≡_ {A = ℕ} 0 1 = cc in omega arith),
 )
+
+pub others-undamaged : OthersUndamaged
+unfolding crcBit crcBits crcOctet crcFrom shifted patternRight hurtBy lowest covers both connected emptyLines lineTo withLineTo cabinet withCabinet outgoing withOutgoing line withLine blankSlots rowsOf ofRows some working recoveringOnes isCrashed sum versionOf load sent sendStep hurt damageStep step upd logged advance run
+others-undamaged = (refl, refl)
 
 pub resumes-onward : ResumesOnward
 unfolding crcBit crcBits crcOctet crcFrom fits shifted patternRight hurtBy lowest covers both nextUp struck connected emptyLines lineTo withLineTo putAll putCheckps cabinet withCabinet outgoing withOutgoing line withLine blankSlots slot withSlots withSlot rowsOf ofRows withSound forgetTrips some working recoveringOnes isCrashed sum versionOf load broadcast join cutIfAll takeCheckp resumeWith commit adopt recoverWith raise enterError hear findLinkFault markFailed alarmTo endRecovery noteLost receiveNormal receiveCheckp receiveResume receiveRecover receiveFault sent sendStep noteStep beginStep delivered deliverStep writePiece writeStep reportSaved commitIfAll savedStep fetchPiece fetchStep reportRestored endIfAll restoredStep failStep hurt damageStep step upd logged advance run content settle settleOver
@@ -47,12 +53,16 @@ pub loss-moves-up : LossMovesUp
 unfolding crcBit crcBits crcOctet crcFrom lowest covers both connected emptyLines lineTo withLineTo cabinet withCabinet outgoing withOutgoing line withLine blankSlots rowsOf ofRows some working recoveringOnes isCrashed sum versionOf load sent sendStep lost loseStep step upd logged advance run content
 loss-moves-up = (refl, refl, refl, refl)
 
+pub two-comparisons : TwoComparisons
+unfolding lost loseStep crcBit crcBits crcOctet crcFrom fits shifted patternRight hurtBy lowest covers both nextUp struck connected emptyLines lineTo withLineTo putAll putCheckps cabinet withCabinet outgoing withOutgoing line withLine blankSlots slot withSlots withSlot rowsOf ofRows withSound forgetTrips some working recoveringOnes isCrashed sum versionOf load broadcast join cutIfAll takeCheckp resumeWith commit adopt recoverWith raise enterError hear findLinkFault markFailed alarmTo endRecovery noteLost receiveNormal receiveCheckp receiveResume receiveRecover receiveFault sent sendStep noteStep beginStep delivered deliverStep writePiece writeStep reportSaved commitIfAll savedStep fetchPiece fetchStep reportRestored endIfAll restoredStep failStep hurt damageStep step upd logged advance run content settle settleOver
+two-comparisons = ((record { comes = refl; ready = refl }, (refl, refl)), refl, (record { comes = refl; ready = refl }, (refl, refl)), refl)
+
 -- its cut has 75 amperes, the start 50
 pub other-slot-is-older : OtherSlotIsOlder
 unfolding crcBit crcBits crcOctet crcFrom fits shifted patternRight hurtBy lowest covers both nextUp struck connected emptyLines lineTo withLineTo putAll putCheckps cabinet withCabinet outgoing withOutgoing line withLine blankSlots slot withSlots withSlot rowsOf ofRows withSound forgetTrips some working recoveringOnes isCrashed sum versionOf load broadcast join cutIfAll takeCheckp resumeWith commit adopt recoverWith raise enterError hear findLinkFault markFailed alarmTo endRecovery noteLost receiveNormal receiveCheckp receiveResume receiveRecover receiveFault sent sendStep noteStep beginStep delivered deliverStep writePiece writeStep reportSaved commitIfAll savedStep fetchPiece fetchStep reportRestored endIfAll restoredStep failStep hurt damageStep step upd logged advance run settle settleOver
 other-slot-is-older y =
-    let cut : 75 ≡ booked (y .0 .image) = ap (λ o. amperes (imageIn o)) (y .1) in
-    let start : 50 ≡ booked (y .0 .image) = ap booked (y .2) in
+    let cut : 75 ≡ booked Buses (y .0 .image) = ap (λ o. amperes Buses (imageIn o)) (y .1) in
+    let start : 50 ≡ booked Buses (y .0 .image) = ap (booked Buses) (y .2) in
     omega (arith, cut, start)
 
 pub lost-ones-count : LostOnesCount

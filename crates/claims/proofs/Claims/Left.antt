@@ -7,7 +7,7 @@ use lib.Dec.{eqb}
 use Rattle.marks.specs.Marks.{marked}
 use Rattle.packet.specs.declared.Packet.{Packet}
 use Rattle.packet.specs.declared.Packet.the-variants.{Empty, Normal as NormalPacket, Checkp, Resume, Recover, Fault, Invalid}
-use Rattle.packet.specs.Packet.{isNormal, fits}
+use Rattle.packet.specs.Packet.{fits}
 use Rattle.line.specs.Line.{oldest, packetAt}
 use Rattle.state.specs.declared.State.the-variants.{Normal, Checkpointed, Recovering, Recovered}
 use Rattle.image.specs.declared.Image.{Image}
@@ -56,9 +56,14 @@ end-leaves : (t : Bool) (h : History) (g : Group) → Leaves h (noteEnd t h g)
 end-leaves true h g = record { points = refl; lost = λ c m e. ap (lostNow h g c) e }
 end-leaves false h g = nothing h
 
-damage-leaves : (t : Bool) (h : History) (a b : ℕ) → Leaves h (noteDamage t h a b)
-damage-leaves true h a b = record { points = refl; lost = λ c m e. e }
-damage-leaves false h a b = nothing h
+damage-leaves : (p : Packet) (h : History) (a b : ℕ) → Leaves h (noteDamage p h a b)
+damage-leaves Empty h a b = nothing h
+damage-leaves (NormalPacket p) h a b = record { points = refl; lost = λ c m e. e }
+damage-leaves (Checkp v) h a b = nothing h
+damage-leaves Resume h a b = nothing h
+damage-leaves (Recover v) h a b = nothing h
+damage-leaves (Fault p) h a b = nothing h
+damage-leaves Invalid h a b = nothing h
 
 observed-leaves : (h : History) (g g′ : Group) (s : Step) → Leaves h (observe h g g′ s)
 observed-leaves h g g′ (Send a b p q) = record { points = refl; lost = λ c m e. e }
@@ -74,7 +79,7 @@ observed-leaves h g g′ (Saved a) =
 observed-leaves h g g′ (Fetch a) = known-leaves (goes g g′ (a - 1) Recovering Recovered) h
 observed-leaves h g g′ (Restored a) = end-leaves (ends g g′ (a - 1)) h g′
 observed-leaves h g g′ (Fail a) = record { points = refl; lost = λ c m e. e }
-observed-leaves h g g′ (Damage a b p w) = damage-leaves (isNormal (packetAt (line g (a - 1) (b - 1)) p)) h (a - 1) (b - 1)
+observed-leaves h g g′ (Damage a b p w) = damage-leaves (packetAt (line g (a - 1) (b - 1)) p) h (a - 1) (b - 1)
 observed-leaves h g g′ (Lose a b p) = record { points = refl; lost = λ c m e. e }
 observed-leaves h g g′ (Trip a) = record { points = refl; lost = λ c m e. e }
 observed-leaves h g g′ (Unsure a) = nothing h

@@ -11,6 +11,7 @@ use native.Mathlib.Omega.{arith}
 use native.Mathlib.Decide.{ℕ-discrete}
 use Rattle.marks.specs.Marks.{covers}
 use Rattle.marks.specs.MarksLaws.{covers-has, has-covers}
+use Rattle.outlet.specs.declared.Party.{Party}
 use Rattle.packet.specs.declared.Place.{Place}
 use Rattle.packet.specs.declared.Place.the-variants.{Failed as AtFailed}
 use Rattle.state.specs.declared.State.{State}
@@ -70,7 +71,7 @@ waited-n g a = recover-n g a _
 no-marks : (g : Group) → NoReports g → Silent (view g)
 no-marks g none c e d = none c d (in-state (stateOf g c) Error .0 e)
 
-module _ (total : ℕ) (g : Group) (h : History) (w : Runs total g h) (a : ℕ) (fine : waitOverRefusal g a ≡ 0) (none : NoReports g) where
+module _ (total : Party → ℕ) (g : Group) (h : History) (w : Runs total g h) (a : ℕ) (fine : waitOverRefusal g a ≡ 0) (none : NoReports g) where
   abbrev i : Inv (g .n) total (view g) (w .ghost)
   i = w .inv
 
@@ -88,10 +89,10 @@ module _ (total : ℕ) (g : Group) (h : History) (w : Runs total g h) (a : ℕ) 
   }
 
 -- not crashed, so that the invariant holds
-runs-of : (total : ℕ) (w : World) → Good total w → isCrashed (w .group) ≡ false → Runs total (w .group) (w .history)
+runs-of : (total : Party → ℕ) (w : World) → Good total w → isCrashed (w .group) ≡ false → Runs total (w .group) (w .history)
 runs-of total w g c = ⊎-elim (λ x. absurd (never x c)) (λ x. x) (g .going)
 
-good-wait : (total : ℕ) (w : World) → Good total w → (a : ℕ) → WaitTaken (w .group) a → NoReports (w .group) → Good total (waited w a)
+good-wait : (total : Party → ℕ) (w : World) → Good total w → (a : ℕ) → WaitTaken (w .group) a → NoReports (w .group) → Good total (waited w a)
 good-wait total w g a t none =
     let r = waited-runs total (w .group) (w .history) (runs-of total w g (t .running)) a (t .fine) none in
     record {
@@ -114,7 +115,7 @@ module _ (f : List ℕ) (of : Octets f) (e : load f .answer ≡ 0) where
 
 -- ---- in runs of before the card nobody's report stands
 
-module _ (total : ℕ) (w : World) (good : Good total w) (none : Silent (view (w .group))) where
+module _ (total : Party → ℕ) (w : World) (good : Good total w) (none : Silent (view (w .group))) where
   abbrev g₀ : Group
   g₀ = w .group
 
@@ -171,7 +172,7 @@ before-unreported f of e _ (waitedAt {w} a t b) =
 
 -- ---- the wait, of which the recovery ended: all have one place
 
-module _ (total : ℕ) (g : Group) (γ : Ghost) (i : Inv (g .n) total (view g) γ) (a : ℕ) (fine : waitOverRefusal g a ≡ 0)
+module _ (total : Party → ℕ) (g : Group) (γ : Ghost) (i : Inv (g .n) total (view g) γ) (a : ℕ) (fine : waitOverRefusal g a ≡ 0)
     (one : (c : ℕ) → works (stateOf g c) ≡ true → cabinet g c .phase .alarm ≡ cabinet g a .phase .alarm) where
   abbrev v : View
   v = view g
@@ -231,7 +232,7 @@ crashed-same : (g g′ : Group) → ((c : ℕ) → stateOf g′ c ≡ stateOf g 
 unfolding isCrashed
 crashed-same g g′ e = rw (e 0, e 1, e 2, e 3, e 4, e 5, e 6, e 7)
 
-module _ (total : ℕ) (g : Group) (γ : Ghost) (i : Inv (g .n) total (view g) γ) (a : ℕ) (t : WaitTaken g a)
+module _ (total : Party → ℕ) (g : Group) (γ : Ghost) (i : Inv (g .n) total (view g) γ) (a : ℕ) (t : WaitTaken g a)
     (one : (c : ℕ) → works (stateOf g c) ≡ true → cabinet g c .phase .alarm ≡ cabinet g a .phase .alarm) (since : Since) where
   abbrev lead : ℕ
   lead = coordinator (cabinet g a)
@@ -457,7 +458,7 @@ module _ (total : ℕ) (g : Group) (γ : Ghost) (i : Inv (g .n) total (view g) �
 
 -- ---- the sentence
 
-abbrev sinceWait : ℕ → World → Since
+abbrev sinceWait : (Party → ℕ) → World → Since
 sinceWait total w = record {
   total = total;
   there = λ c. works (stateOf (w .group) c);
@@ -465,7 +466,7 @@ sinceWait total w = record {
   save = latest (w .history);
 }
 
-module _ (total : ℕ) (w : World) (r : Runs total (w .group) (w .history)) (a : ℕ) (t : WaitTaken (w .group) a) (none : NoReports (w .group)) where
+module _ (total : Party → ℕ) (w : World) (r : Runs total (w .group) (w .history)) (a : ℕ) (t : WaitTaken (w .group) a) (none : NoReports (w .group)) where
   abbrev gw : Group
   gw = w .group
 

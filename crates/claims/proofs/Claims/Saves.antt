@@ -10,6 +10,7 @@ use native.Mathlib.Omega.{arith}
 use lib.ListN.{getD}
 use lib.Dec.{eqb}
 use borrow.Author.Tests.{eqb-true, eqb-false, ne-eqb}
+use Rattle.outlet.specs.declared.Party.{Party}
 use Rattle.packet.specs.declared.Packet.the-variants.{Empty, Resume}
 use Rattle.packet.specs.Packet.{isEmpty}
 use Rattle.line.specs.Line.{packetAt}
@@ -51,7 +52,7 @@ use Rattle.claims.proofs.Claims.Bounds.{running}
 
 -- ---- a group that runs
 
-module _ (total : ℕ) (g : Group) (h : History) (w : Runs total g h) where
+module _ (total : Party → ℕ) (g : Group) (h : History) (w : Runs total g h) where
   abbrev γ : Ghost
   γ = w .ghost
 
@@ -150,14 +151,14 @@ module _ (total : ℕ) (g : Group) (h : History) (w : Runs total g h) where
   held-image : (c : ℕ) → c < g .n → imageNow h c ≡ some (γ .mind c .top)
   held-image c l = held-now (h .lost c) (latest h .cut c) (γ .mind c .top) (w .past .tops c l)
 
-  saved-sum : savedTotal (g .n) h ≡ sum (λ c. booked (γ .mind c .top)) (g .n)
-  saved-sum = sum-cong _ _ (g .n) (λ c l. ap amperes (held-image c l))
+  saved-sum : (y : Party) → savedTotal (g .n) h y ≡ sum (λ c. booked y (γ .mind c .top)) (g .n)
+  saved-sum y = sum-cong _ _ (g .n) (λ c l. ap (amperes y) (held-image c l))
 
   abbrev Whole : ℕ → Type 0
-  Whole n = Balanced (latest h) × ((c : ℕ) → c < n → (m : Image) × (imageNow h c ≡ some m)) × (savedTotal n h ≡ total)
+  Whole n = Balanced (latest h) × ((c : ℕ) → c < n → (m : Image) × (imageNow h c ≡ some m)) × ((y : Party) → savedTotal n h y ≡ total y)
 
   whole-save : Whole (g .n)
-  whole-save = (w .past .balanced, (λ c l. (γ .mind c .top, held-image c l)), saved-sum ∙ tops-add (w .inv) (w .past))
+  whole-save = (w .past .balanced, (λ c l. (γ .mind c .top, held-image c l)), (λ y. saved-sum y ∙ tops-add (w .inv) (w .past) y))
 
 pub decided-by-old : DecidedByOld
 decided-by-old f of e xs o c a = decided-newest _ _ _ (running f of e xs o c) a
@@ -209,7 +210,7 @@ module _ (g : Group) (r : List ℕ) (c : Commits g r) where
       (ap (λ (x : Outcome). x .answer) (sym (decoded ∙ entry .1)) ∙ c .taken) in
       (s .0, ap (λ (x : Outcome). x .group) (decoded ∙ entry .1 ∙ s .1))
 
-  module _ (total : ℕ) (h : History) (w : Runs total g h) where
+  module _ (total : Party → ℕ) (h : History) (w : Runs total g h) where
     named : a < 8
     named = named-below total g (w .ghost) (w .inv) (c .about) (entered .1) .1
 

@@ -7,6 +7,7 @@ use lib.Dec.{eqb, ltb, leb}
 use borrow.Author.Tests.{eqb-true, eqb-false, leb-true}
 use native.Mathlib.Omega.{arith}
 use Rattle.marks.specs.Reach.{mark}
+use Rattle.outlet.specs.declared.Party.{Party}
 use Rattle.packet.specs.Packet.{isEmpty}
 use Rattle.line.specs.Line.{oldest}
 use Rattle.group.specs.declared.Group.{Group}
@@ -40,14 +41,14 @@ use Rattle.claims.proofs.Moves.RestoredStep.{keeps-restored}
 use Rattle.claims.proofs.Moves.Delivering.{keeps-delivered}
 
 -- a cabinet's number in a step, less one
-pub named-below : (total : ℕ) (g : Group) (γ : Ghost) → Inv (g .n) total (view g) γ → (x : ℕ) → isCabinet g x ≡ true → (x - 1 < g .n) × (x - 1 < 8)
+pub named-below : (total : Party → ℕ) (g : Group) (γ : Ghost) → Inv (g .n) total (view g) γ → (x : ℕ) → isCabinet g x ≡ true → (x - 1 < g .n) × (x - 1 < 8)
 named-below total g γ i x e =
     let u = and-true {s = leb 1 x} e in
     let lo = leb-true 1 x (u .0) in
     let hi = leb-true x (g .n) (u .1) in
     (omega arith, omega (arith, i .core .ground .most))
 
-module _ (total : ℕ) (g : Group) (h : History) (γ : Ghost) (w : Fit g) (i : Inv (g .n) total (view g) γ) (past : Past (g .n) (view g) γ h)
+module _ (total : Party → ℕ) (g : Group) (h : History) (γ : Ghost) (w : Fit g) (i : Inv (g .n) total (view g) γ) (past : Past (g .n) (view g) γ h)
     (reports : Reports (view g)) where
   -- what a step owes if it is taken
   abbrev Owed : Step → Outcome → Type 0

@@ -11,6 +11,7 @@ use native.Mathlib.Omega.{arith}
 use native.Mathlib.Decide.{ℕ-discrete, decLt}
 use Rattle.marks.specs.Marks.{marked, lowest}
 use Rattle.marks.specs.MarksLaws.{lowest-marked, lowest-le-marked}
+use Rattle.outlet.specs.declared.Party.{Party}
 use Rattle.state.specs.declared.State.{State}
 use Rattle.state.specs.declared.State.the-variants.{Failed, Normal, CheckpBegin, Checkpointing, Checkpointed, Error, Recovering, Recovered, Crashed}
 use Rattle.state.specs.declared.Version.{Version}
@@ -197,7 +198,7 @@ noted-said h g g′ i d r l said e fits = go (g .settled) refl
 
 -- ---- a taken step
 
-module _ (total : ℕ) (g : Group) (p : History) (u : Runs total g p) (g′ : Group) (p′ : History) (u′ : Runs total g′ p′) (h : Account) (said : Said g h) (heeds : Heeds g (u .ghost) h)
+module _ (total : Party → ℕ) (g : Group) (p : History) (u : Runs total g p) (g′ : Group) (p′ : History) (u′ : Runs total g′ p′) (h : Account) (said : Said g h) (heeds : Heeds g (u .ghost) h)
     (t : ℕ) (d e : Bool) (no-end : Goes (view g) (u .ghost) (view g′) (u′ .ghost) → (j : ℕ) → works (stateOf g j) ≡ true → ends g g′ j ≡ true → ⊥)
     (fate : Goes (view g) (u .ghost) (view g′) (u′ .ghost) ⊎ Ended total g g′ p′ (u′ .ghost)) (count : g′ .n ≡ g .n) where
   abbrev v : ℕ → Own
@@ -419,10 +420,10 @@ watch-tells h g g′ (Unsure a) = refl
 -- ---- one operation
 
 -- the account of a world: where it runs, what the next step needs
-abbrev Going : ℕ → World → Account → Type 0
+abbrev Going : (Party → ℕ) → World → Account → Type 0
 Going total w h = (isCrashed (w .group) ≡ true) ⊎ ((u : Runs total (w .group) (w .history)) × Heeds (w .group) (u .ghost) h)
 
-abbrev Tells : ℕ → World → Account → Type 0
+abbrev Tells : (Party → ℕ) → World → Account → Type 0
 Tells total w h = Said (w .group) h × Going total w h
 
 crash-note : (g : Group) → crashAll g .settled ≡ g .settled
@@ -448,7 +449,7 @@ not-taken g r c = go (decode r)
         let ten : orRefuse (entryRefusal g s) g (perform g s) .answer ≡ 10 = ap (λ (t : Bool). orRefuse (need (not t) 10 (need (isCabinet g (firstOf s) && isCabinet g (secondOf s)) 11 (need (actorWorks g s) 12 0))) g (perform g s) .answer) c in
         omega arith
 
-module _ (total : ℕ) (w : World) (h : Account) (said : Said (w .group) h) where
+module _ (total : Party → ℕ) (w : World) (h : Account) (said : Said (w .group) h) where
   abbrev g₀ : Group
   g₀ = w .group
 
@@ -563,7 +564,7 @@ module _ (total : ℕ) (w : World) (h : Account) (said : Said (w .group) h) wher
 
 -- ---- every list
 
-tells-run : (total : ℕ) (xs : List Operation) (w : World) (h : Account) → AllOctets xs → Good total w → Tells total w h → Tells total (run w xs) (account h w xs)
+tells-run : (total : Party → ℕ) (xs : List Operation) (w : World) (h : Account) → AllOctets xs → Good total w → Tells total w h → Tells total (run w xs) (account h w xs)
 unfolding run account
 tells-run total [] w h o good t = t
 tells-run total (x ∷ xs) w h o good t =

@@ -10,6 +10,7 @@ use native.Mathlib.Omega.{arith}
 use native.Mathlib.Decide.{ℕ-discrete}
 use Rattle.marks.specs.Marks.{marked}
 use Rattle.marks.specs.Reach.{Rows, struck, connected}
+use Rattle.outlet.specs.declared.Party.{Party}
 use Rattle.packet.specs.declared.Payload.{Payload}
 use Rattle.packet.specs.declared.Check.{Check}
 use Rattle.packet.specs.declared.Place.{Place}
@@ -72,7 +73,7 @@ sound-lines g rs c d = refl
 
 -- ---- the step
 
-module _ (total : ℕ) (g : Group) (h : History) (γ : Ghost) (w : Fit g) (i : Inv (g .n) total (view g) γ) (past : Past (g .n) (view g) γ h)
+module _ (total : Party → ℕ) (g : Group) (h : History) (γ : Ghost) (w : Fit g) (i : Inv (g .n) total (view g) γ) (past : Past (g .n) (view g) γ h)
     (a b : ℕ) (la : a < 8) (lb : b < 8) (up : works (stateOf g b) ≡ true) (full : isEmpty (oldest (line g a b)) ≡ false) where
   abbrev v : View
   v = view g

@@ -7,6 +7,7 @@ use mathlib.Core.List.{[]}
 use lib.Dec.{eqb}
 use borrow.Author.Tests.{eqb-true}
 use native.Mathlib.Omega.{arith}
+use Rattle.outlet.specs.declared.Party.{Party}
 use Rattle.packet.specs.declared.Place.{Place}
 use Rattle.packet.specs.declared.Place.the-variants.{Tripped as AtTripped}
 use Rattle.packet.specs.Packet.{samePlace}
@@ -32,7 +33,7 @@ pub record Ready (v : View) (a : ℕ) : Type 0 where
   pub past : (c d : ℕ) → 8 ≤ c → v .lines c d ≡ []
   pub alone : used (v .side a a) ≡ false
 
-module _ (total : ℕ) (g : Group) (γ : Ghost) (w : Fit g) (i : Inv (g .n) total (view g) γ) where
+module _ (total : Party → ℕ) (g : Group) (γ : Ghost) (w : Fit g) (i : Inv (g .n) total (view g) γ) where
   pub works-below : (c : ℕ) → works (stateOf g c) ≡ true → c < 8
   works-below c up = omega (arith, i .core .ground .within c (i .core .nodes c .placed up), i .core .ground .most)
 

@@ -5,6 +5,7 @@ use mathlib.Core.Bool.{Bool, true, false, not, _&&_}
 use mathlib.Core.List.{List}
 use lib.Dec.{eqb, ltb}
 use Rattle.marks.specs.Marks.{marked, covers}
+use Rattle.outlet.specs.declared.Party.{Party}
 use Rattle.packet.specs.declared.Packet.{Packet}
 use Rattle.state.specs.declared.State.the-variants.{Normal, Checkpointing, Checkpointed, Error, Recovering, Recovered}
 use Rattle.state.specs.declared.Version.{Version}
@@ -35,7 +36,7 @@ use Rattle.claims.proofs.Fifo.Unbounded.{Idle, Unbounded, idle-same, id
 use Rattle.claims.proofs.Fifo.Puts.{puts-join, puts-resume, puts-recover, puts-cut}
 use Rattle.claims.proofs.Fifo.Rooms.{works-below, works-room}
 
-module _ (total : ℕ) (g : Group) (γ : Ghost) (w : Fit g) (i : Inv (g .n) total (view g) γ) where
+module _ (total : Party → ℕ) (g : Group) (γ : Ghost) (w : Fit g) (i : Inv (g .n) total (view g) γ) where
   abbrev v : View
   v = view g
 

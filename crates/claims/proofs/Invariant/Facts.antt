@@ -7,6 +7,7 @@ use mathlib.Core.Bool.{Bool, true, false, cond, not, _&&_, _||_}
 use mathlib.Core.List.{List, [], _∷_, _++_}
 use lib.ListN.{length, getD, take, drop}
 use lib.Dec.{eqb}
+use Rattle.outlet.specs.declared.Party.{Party}
 use Rattle.packet.specs.declared.Check.{Check}
 use Rattle.packet.specs.declared.OwnCheck.the-variants.{Unchecked}
 use Rattle.packet.specs.declared.Payload.{Payload}
@@ -22,6 +23,7 @@ use Rattle.cabinet.specs.declared.Alarm.the-variants.{Fault as At}
 use Rattle.image.specs.declared.Image.{Image}
 use Rattle.state.specs.State.{isIn, works, inRecovery, inSaving, isUnknown, bitOf}
 use Rattle.image.specs.Image.{booked}
+use Rattle.image.proofs.Laws.{share}
 use Rattle.table.specs.Table.{isAt}
 use Rattle.claims.proofs.State.View.{Own, Side, used}
 use Rattle.claims.proofs.State.Shape.{Pictured}
@@ -44,9 +46,9 @@ pub record Big : Type 0 where
   pub begun : Bool
   -- some cabinet that is aware of the fault has known its version
   pub frozen : Bool
-  -- no damage and no loss, and no damage to a normal packet, since the last recovery's end
+  -- no damage and no loss, and no damage to a normal packet of a party, since the last recovery's end
   pub calm : Bool
-  pub clean : Bool
+  pub clean : Party → Bool
 
 -- of a cabinet
 pub record Mind : Type 0 where
@@ -71,9 +73,9 @@ pub record Wire : Type 0 where
   pub sent : List Payload
   pub taken : List Payload
   pub ver : ℕ
-  -- the amperes sent and taken since the images of `base` were
-  pub out : ℕ
-  pub got : ℕ
+  -- each party's amperes sent and taken since the images of `base` were
+  pub out : Party → ℕ
+  pub got : Party → ℕ
   -- a normal packet of the line was hurt, damaged or lost, since the last recovery's end
   pub hurt : Bool
   -- the link was in use at the last recovery's end
@@ -198,10 +200,18 @@ unfoldable pub Fitting : List Payload → Type 0
 Fitting [] = Unit {0}
 Fitting (p ∷ l) = (fits p ≡ true) × Fitting l
 
--- the amounts of a log, added up
-unfoldable pub amount : List Payload → ℕ
-amount [] = 0
-amount (p ∷ l) = p .amount + amount l
+-- the part of a packet's amount that is a party's: all of it or nothing
+abbrev pub part : Party → Payload → ℕ
+part y p = share y (p .outlet) (p .amount)
+
+-- a party's amounts of a log, added up
+unfoldable pub amount : Party → List Payload → ℕ
+amount y [] = 0
+amount y (p ∷ l) = part y p + amount y l
+
+-- nothing, for either party
+abbrev pub nothing : Party → ℕ
+nothing y = 0
 
 -- what damage leaves of a packet: another amount for the same outlet where it carries no check, and else one that does not fit
 pub data Hurt : Payload → Payload → Type 0 where
@@ -225,7 +235,7 @@ pub record Stream (waiting hurt : Bool) (put took : Check) (w : Wire) (l : List 
   pub writes : put ≡ cond waiting startCheck (checkOf (drop (w .ver) (w .sent)))
   pub carries : (v : Check) (k : List Packet) → l ≡ k ++ (Checkp v ∷ []) → v ≡ checkOf (drop (w .ver) (w .sent))
   -- D8: the amperes that are not taken are on the way, unless a packet is hurt
-  pub onWay : hurt ≡ false → w .out ≡ w .got + amount (amountsIn l)
+  pub onWay : hurt ≡ false → (y : Party) → w .out y ≡ w .got y + amount y (amountsIn l)
   -- the mark tells of all that was hurt since the last recovery's end
   pub tells : hurt ≡ w .hurt
 
@@ -249,7 +259,7 @@ pub record Pair (b : Big) (c d : ℕ) (o : Own) (m : Mind) (p : Own) (n : Mind) 
   pub closedEqual : linked m n w ≡ true → closed b p n t ≡ true → b .alive ≡ true → (w .sent ≡ w .taken) × (w .out ≡ w .got) × (w .hurt ≡ false)
   pub closedEmpty : linked m n w ≡ true → closed b p n t ≡ true → unaware b o ≡ true → l ≡ []
   -- D3
-  pub apart : linked m n w ≡ false → (w .sent ≡ []) × (w .taken ≡ []) × (w .out ≡ 0) × (w .got ≡ 0) × (w .hurt ≡ false)
+  pub apart : linked m n w ≡ false → (w .sent ≡ []) × (w .taken ≡ []) × (w .out ≡ nothing) × (w .got ≡ nothing) × (w .hurt ≡ false)
   -- F1, F2, F4
   pub owes : s .owed ≡ true → (n .wrote ≡ true) × (n .told ≡ false) × (unaware b o ≡ true)
   pub owesHome : s .owed ≡ true → p .home ≡ c
@@ -286,8 +296,8 @@ pub record Pair (b : Big) (c d : ℕ) (o : Own) (m : Mind) (p : Own) (n : Mind) 
   -- G8, and what damage and loss have not touched
   pub sound : b .calm ≡ true → count isInvalid l ≡ 0
   pub unhurt : b .calm ≡ true → unaware b p ≡ true → t .hurt ≡ false
-  -- W: no more is taken or on the way than was sent; a loss leaves less
-  pub noMore : b .clean ≡ true → w .got + amount (amountsIn l) ≤ w .out
+  -- W: of a party no more is taken or on the way than was sent; a loss leaves less
+  pub noMore : (y : Party) → b .clean y ≡ true → w .got y + amount y (amountsIn l) ≤ w .out y
   pub small : Amounts (w .sent) × (Amounts (w .taken) × Amounts (amountsIn l))
   -- G10
   pub fit : Fitting (w .sent) × Fitting (w .taken)
@@ -357,11 +367,11 @@ pub record Lead (b : Big) (c : ℕ) (o : Own) : Type 0 where
   -- a version with no old one is that of a cabinet that is aware, and of the coordinator where that is lost
   pub blank : works (o .state) ≡ true → o .version ≡ Lost → (aware b o ≡ true) × (b .alive ≡ false → c ≡ b .chief)
 
--- ---- what a cabinet has booked; out is the sum of what it sent since `base`, got that of what it took
+-- ---- what a cabinet has booked for each party; out is the sum of what it sent since `base`, got that of what it took
 
-pub record Books (b : Big) (o : Own) (m : Mind) (out got : ℕ) : Type 0 where
+pub record Books (b : Big) (o : Own) (m : Mind) (out got : Party → ℕ) : Type 0 where
   -- D4
-  pub bounded : out ≤ booked (m .base) + got
-  pub live : unaware b o ≡ true → (k : ℕ) × (booked (o .image) + out + 65536 * k ≡ booked (m .base) + got)
+  pub bounded : (y : Party) → out y ≤ booked y (m .base) + got y
+  pub live : unaware b o ≡ true → (y : Party) → (k : ℕ) × (booked y (o .image) + out y + 65536 * k ≡ booked y (m .base) + got y)
   -- D5
-  pub atCut : b .alive ≡ true → m .done ≡ true → (k : ℕ) × (booked (m .cut) + out + 65536 * k ≡ booked (m .base) + got)
+  pub atCut : b .alive ≡ true → m .done ≡ true → (y : Party) → (k : ℕ) × (booked y (m .cut) + out y + 65536 * k ≡ booked y (m .base) + got y)

@@ -6,12 +6,13 @@ use mathlib.Core.Logic.{_≢_}
 use mathlib.Core.Bool.{Bool, true, not, _&&_}
 use mathlib.Core.List.{List}
 use native.Mathlib.Decide.{ℕ-discrete}
+use Rattle.outlet.specs.declared.Party.{Party}
 use Rattle.packet.specs.declared.Packet.{Packet}
 use Rattle.image.specs.declared.Image.{Image}
 use Rattle.state.specs.State.{works, inRecovery, isUnknown}
 use Rattle.protocol.specs.History.{upd}
 use Rattle.state.specs.declared.State.{State}
-use Rattle.claims.proofs.State.Fun.{upd-elim, upd-same, upd-other, sum-cong, upd-id, kept, kept-at}
+use Rattle.claims.proofs.State.Fun.{upd-elim, upd-same, upd-other, sum-cong, upd-id, kept, kept-at, same-at}
 use Rattle.claims.proofs.State.View.{View, Own, Side, used}
 use Rattle.claims.proofs.Invariant.Facts.{Big, Mind, Wire, Ghost, Pair, Node, Books, Lead, aware, unaware}
 use Rattle.claims.proofs.Invariant.Words.{lead-same}
@@ -77,10 +78,10 @@ module _ (v : View) (γ : Ghost) (b : Big) (c : ℕ) (o : Own) (m : Mind) (s : �
 
 -- sums over the lines, where what was sent and taken stays
 pub out-kept : (γ δ : Ghost) (c : ℕ) → ((d : ℕ) → δ .wire c d .out ≡ γ .wire c d .out) → outOf δ c ≡ outOf γ c
-out-kept γ δ c e = sum-cong _ _ 8 (λ d l. e d)
+out-kept γ δ c e = fun-ext (λ y. sum-cong _ _ 8 (λ d l. same-at (e d) y))
 
 pub got-kept : (γ δ : Ghost) (c : ℕ) → ((d : ℕ) → δ .wire d c .got ≡ γ .wire d c .got) → gotOf δ c ≡ gotOf γ c
-got-kept γ δ c e = sum-cong _ _ 8 (λ d l. e d)
+got-kept γ δ c e = fun-ext (λ y. sum-cong _ _ 8 (λ d l. same-at (e d) y))
 
 -- ---- facts about the whole group, where the functions that they read stay
 
@@ -116,7 +117,7 @@ module _ (v : View) (γ : Ghost) (c : ℕ) (o : Own) (m : Mind) (s : ℕ → Sid
         lk-kept,
       ) p
 
-pub move-sums : (total : ℕ) (γ : Ghost) (b : Big) (c : ℕ) (m : Mind) (w : ℕ → ℕ → Wire) → b .adopted ≡ γ .big .adopted
+pub move-sums : (total : Party → ℕ) (γ : Ghost) (b : Big) (c : ℕ) (m : Mind) (w : ℕ → ℕ → Wire) → b .adopted ≡ γ .big .adopted
     → m .base ≡ γ .mind c .base → m .top ≡ γ .mind c .top → m .prev ≡ γ .mind c .prev → SumsOf total γ → SumsOf total (minded γ b c m w)
 move-sums total γ b c m w adopted base top prev h =
     rw (
@@ -175,7 +176,7 @@ abbrev pub SameMind : Mind → Mind → Type 0
 SameMind m k =
     (m .tab ≡ k .tab) × (m .joined ≡ k .joined) × (m .done ≡ k .done) × (m .wrote ≡ k .wrote) × (m .base ≡ k .base) × (m .top ≡ k .top) × (m .prev ≡ k .prev)
 
-module _ (n total : ℕ) (v : View) (γ : Ghost) (i : Inv n total v γ) (c : ℕ) (o : Own) (m : Mind) (s : ℕ → Side) (l : ℕ → ℕ → List Packet)
+module _ (n : ℕ) (total : Party → ℕ) (v : View) (γ : Ghost) (i : Inv n total v γ) (c : ℕ) (o : Own) (m : Mind) (s : ℕ → Side) (l : ℕ → ℕ → List Packet)
     (z : ℕ → Bool → Image) (w : ℕ → ℕ → Wire) (e : SameOwn o (v .own c)) (f : SameMind m (γ .mind c)) (links : (a d : ℕ) → w a d .lk ≡ γ .wire a d .lk)
     (uses : (d : ℕ) → used (s d) ≡ used (v .side c d)) where
   work : works (o .state) ≡ works (v .own c .state)

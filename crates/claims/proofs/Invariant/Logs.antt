@@ -10,6 +10,7 @@ use Rattle.crc.specs.Crc.{crcFrom}
 use Rattle.crc.proofs.Laws.{from-append, one-differs}
 use Rattle.outlet.specs.declared.Outlet.{Outlet}
 use Rattle.outlet.specs.Outlet.{octetOf}
+use Rattle.outlet.specs.declared.Party.{Party}
 use Rattle.packet.specs.declared.OwnCheck.{OwnCheck}
 use Rattle.packet.specs.declared.OwnCheck.the-variants.{Unchecked}
 use Rattle.packet.specs.declared.Check.{Check}
@@ -22,7 +23,7 @@ use Rattle.packet.specs.declared.Place.{Place}
 use Rattle.state.specs.declared.Version.{Version}
 use Rattle.state.specs.declared.Version.the-variants.{Known}
 use Rattle.claims.proofs.State.Fun.{never}
-use Rattle.claims.proofs.Invariant.Facts.{amountsIn, isCheckp, count, resumeFirst, checkFrom, checkOf, Amounts, Fitting, amount-changed, unfit, Differ, same, here, missing, later, Alarms, amount, isFault, isSafe, isInvalid, checkpLast}
+use Rattle.claims.proofs.Invariant.Facts.{amountsIn, isCheckp, count, resumeFirst, checkFrom, checkOf, Amounts, Fitting, amount-changed, unfit, Differ, same, here, missing, later, Alarms, amount, isFault, isSafe, isInvalid, checkpLast, part}
 
 -- ---- one packet more
 
@@ -48,10 +49,10 @@ pub count-none : (f : Packet → Bool) → count f [] ≡ 0
 unfolding count
 count-none f = refl
 
-pub amount-snoc : (l : List Payload) (q : Payload) → amount (l ++ (q ∷ [])) ≡ amount l + q .amount
+pub amount-snoc : (y : Party) (l : List Payload) (q : Payload) → amount y (l ++ (q ∷ [])) ≡ amount y l + part y q
 unfolding amount
-amount-snoc [] q = omega arith
-amount-snoc (p ∷ l) q = omega (arith, amount-snoc l q)
+amount-snoc y [] q = omega arith
+amount-snoc y (p ∷ l) q = omega (arith, amount-snoc y l q)
 
 pub small-snoc : (l : List Payload) (q : Payload) → Amounts l → q .amount < 65536 → Amounts (l ++ (q ∷ []))
 unfolding Amounts
@@ -132,15 +133,15 @@ amounts-rest (Fault q) k e = refl
 amounts-rest Invalid k e = refl
 
 -- without one packet there is no more on the way
-pub amount-rest : (p : Packet) (k : List Packet) → amount (amountsIn k) ≤ amount (amountsIn (p ∷ k))
+pub amount-rest : (y : Party) (p : Packet) (k : List Packet) → amount y (amountsIn k) ≤ amount y (amountsIn (p ∷ k))
 unfolding amountsIn amount
-amount-rest Empty k = omega arith
-amount-rest (NormalPacket q) k = omega arith
-amount-rest (Checkp v) k = omega arith
-amount-rest Resume k = omega arith
-amount-rest (Recover v) k = omega arith
-amount-rest (Fault q) k = omega arith
-amount-rest Invalid k = omega arith
+amount-rest y Empty k = omega arith
+amount-rest y (NormalPacket q) k = omega arith
+amount-rest y (Checkp v) k = omega arith
+amount-rest y Resume k = omega arith
+amount-rest y (Recover v) k = omega arith
+amount-rest y (Fault q) k = omega arith
+amount-rest y Invalid k = omega arith
 
 pub small-rest : (p : Packet) (k : List Packet) → Amounts (amountsIn (p ∷ k)) → Amounts (amountsIn k)
 unfolding amountsIn Amounts

@@ -2,6 +2,7 @@
 use Prim.Native.Nat.{ℕ}
 use mathlib.Core.Path.{_≡_, refl, sym, ap, _∙_, subst}
 use mathlib.Core.Option.{some}
+use Rattle.outlet.specs.declared.Party.{Party}
 use Rattle.image.specs.declared.Image.{Image}
 use Rattle.image.specs.Image.{booked}
 use Rattle.protocol.specs.History.{History, latest, newest, upd}
@@ -13,7 +14,7 @@ use Rattle.claims.proofs.Invariant.Past.{Past, HeldIn}
 use Rattle.claims.proofs.Invariant.Frame.{same-ghost, moved, minded, move-pairs, move-nodes, move-books, quiet-inv}
 
 -- the pairs in which cabinet h's side towards a is read, from h and to h
-module _ (n total : ℕ) (v : View) (γ : Ghost) (i : Inv n total v γ) (h a : ℕ) (f : Side) (uses : used f ≡ used (v .side h a))
+module _ (n : ℕ) (total : Party → ℕ) (v : View) (γ : Ghost) (i : Inv n total v γ) (h a : ℕ) (f : Side) (uses : used f ≡ used (v .side h a))
     (from : (t : Side) → Pair (γ .big) h a (v .own h) (γ .mind h) (v .own a) (γ .mind a) (v .side h a) t (v .lines h a) (γ .wire h a)
     → Pair (γ .big) h a (v .own h) (γ .mind h) (v .own a) (γ .mind a) f t (v .lines h a) (γ .wire h a))
     (to : (s : Side) → Pair (γ .big) a h (v .own a) (γ .mind a) (v .own h) (γ .mind h) s (v .side h a) (v .lines a h) (γ .wire a h)
@@ -76,7 +77,7 @@ module _ (n : ℕ) (v : View) (γ : Ghost) (h : History) (p : Past n v γ h) (a 
     balanced = p .balanced;
     present = λ c t. p .present c (sym (tab-at c) ∙ t);
     gone = λ c l t. p .gone c l (sym (tab-at c) ∙ t) ∙ ap some (sym (top-at c));
-    beyond = λ c l. ap booked (top-at c) ∙ p .beyond c l;
+    beyond = λ y c l. ap (booked y) (top-at c) ∙ p .beyond y c l;
     below = λ e.
         let x = p .below e in (
           x .0,

@@ -29,12 +29,14 @@ use Rattle.load.specs.Load.{feederTotal}
 use Rattle.load.specs.Starts.{Starts}
 use Rattle.protocol.specs.History.{Cut, atStart, bareCut}
 use Rattle.marks.proofs.Lists.{getD-in}
+use Rattle.outlet.specs.declared.Party.{Party}
+use Rattle.outlet.specs.declared.Party.the-variants.{Buses, Workshop}
 use Rattle.claims.proofs.State.Fun.{never, and-true, sum-zero, sum-tail}
 use Rattle.claims.proofs.State.View.{Own, Side, view, content}
 use Rattle.claims.proofs.State.Shape.{Pictured}
 use Rattle.claims.proofs.State.Sim.{Fit}
 use Rattle.claims.proofs.State.Methods.{no-marks, all-start}
-use Rattle.claims.proofs.Invariant.Facts.{Big, Mind, Wire, Ghost, Pair, Node, Stream, unaware, behind, closed, amountsIn, count, checkpLast, Amounts, Fitting, amount, same, isCheckp}
+use Rattle.claims.proofs.Invariant.Facts.{Big, Mind, Wire, Ghost, Pair, Node, Stream, unaware, behind, closed, amountsIn, count, checkpLast, Amounts, Fitting, amount, same, isCheckp, nothing}
 use Rattle.claims.proofs.Invariant.Whole.{Inv, PairAt, NodeAt, BooksAt, LeadAt, GroundOf, PlacesOf, ChainOf, workOf, outOf, gotOf}
 use Rattle.claims.proofs.Invariant.Past.{Past, bare-balanced, quiet-of}
 use Rattle.claims.proofs.Invariant.Logs.{check-none, no-checkp-end, count-none}
@@ -47,13 +49,13 @@ use Rattle.claims.proofs.State.Leading.{next-one}
 -- ---- the ghost at the start
 
 abbrev b₀ : Big
-b₀ = record { faulted = false; topv = false; adopted = true; chief = 0; heir = 1; alive = true; begun = false; frozen = false; calm = true; clean = true }
+b₀ = record { faulted = false; topv = false; adopted = true; chief = 0; heir = 1; alive = true; begun = false; frozen = false; calm = true; clean = λ y. true }
 
 abbrev m₀ : Bool → Image → Mind
 m₀ t x = record { tab = t; joined = false; done = false; wrote = false; told = false; ready = false; cut = x; base = x; top = x; prev = x }
 
 abbrev w₀ : Bool → Wire
-w₀ t = record { sent = []; taken = []; ver = 0; out = 0; got = 0; hurt = false; lk = t }
+w₀ t = record { sent = []; taken = []; ver = 0; out = nothing; got = nothing; hurt = false; lk = t }
 
 -- a cabinet at the start: in normal with version 0, or no cabinet at all
 record Ready (tab : Bool) (o : Own) : Type 0 where
@@ -99,7 +101,7 @@ module _ (c d : ℕ) (o p : Own) (x y : Image) (s t : Side) (to td lk : Bool) (r
     reads = ct .took ∙ sym check-none;
     writes = cs .put ∙ sym check-none;
     carries = λ v k e. absurd (no-checkp-end [] v k (count-none isCheckp) e);
-    onWay = λ e. refl;
+    onWay = λ e y. refl;
     tells = ct .hurt;
   }
 
@@ -150,7 +152,7 @@ module _ (c d : ℕ) (o p : Own) (x y : Image) (s t : Side) (to td lk : Bool) (r
     room = λ u. omega arith;
     sound = λ e. refl;
     unhurt = λ e u. ct .hurt;
-    noMore = λ e. omega arith;
+    noMore = λ y e. omega arith;
     small = (tt, (tt, tt));
     fit = (tt, tt);
   }
@@ -273,16 +275,16 @@ module _ (f : List ℕ) (g : Group) (st : Starts f g) (fit : Fit g) where
   nodes₀ : (c : ℕ) → NodeAt (view g) γ₀ c
   nodes₀ c = start-node c (view g .own c) (cabinet g c .image) (tab₀ c) (slot g c) (ready₀ c) (slots₀ c) (fit .cabs c .image)
 
-  nothing-out : (c : ℕ) → outOf γ₀ c ≡ 0
-  nothing-out c = sum-zero (λ d. 0) 8 (λ j l. refl)
+  nothing-out : (c : ℕ) (y : Party) → outOf γ₀ c y ≡ 0
+  nothing-out c y = sum-zero (λ d. 0) 8 (λ j l. refl)
 
-  nothing-got : (c : ℕ) → gotOf γ₀ c ≡ 0
-  nothing-got c = sum-zero (λ d. 0) 8 (λ j l. refl)
+  nothing-got : (c : ℕ) (y : Party) → gotOf γ₀ c y ≡ 0
+  nothing-got c y = sum-zero (λ d. 0) 8 (λ j l. refl)
 
   books₀ : (c : ℕ) → BooksAt (view g) γ₀ c
   books₀ c = record {
-    bounded = omega (arith, nothing-out c);
-    live = λ u. (0, omega (arith, nothing-out c, nothing-got c));
+    bounded = λ y. omega (arith, nothing-out c y);
+    live = λ u y. (0, omega (arith, nothing-out c y, nothing-got c y));
     atCut = λ a e. absurd (false≢true e);
   }
 
@@ -345,11 +347,12 @@ module _ (f : List ℕ) (g : Group) (st : Starts f g) (fit : Fit g) where
     company = λ j d w x. (j, d, w, inl (ap (λ (y : Version). not (isUnknown y)) (ready₀ j .version)));
   }
 
-  image-past : (c : ℕ) → g .n ≤ c → booked (cabinet g c .image) ≡ 0
-  image-past c l = ap (λ (x : Cabinet). booked (x .image)) (st .past c l)
+  image-past : (y : Party) (c : ℕ) → g .n ≤ c → booked y (cabinet g c .image) ≡ 0
+  image-past Buses c l = ap (λ (x : Cabinet). booked Buses (x .image)) (st .past c l)
+  image-past Workshop c l = ap (λ (x : Cabinet). booked Workshop (x .image)) (st .past c l)
 
-  total₀ : sum (λ c. booked (cabinet g c .image)) 8 ≡ feederTotal f
-  total₀ = sum-tail (λ c. booked (cabinet g c .image)) (g .n) 8 (st .most) image-past ∙ st .total
+  total₀ : (y : Party) → sum (λ c. booked y (cabinet g c .image)) 8 ≡ feederTotal f y
+  total₀ y = sum-tail (λ c. booked y (cabinet g c .image)) (g .n) 8 (st .most) (image-past y) ∙ st .total y
 
   pub starts-inv : Inv (g .n) (feederTotal f) (view g) γ₀
   starts-inv = record {
@@ -360,7 +363,7 @@ module _ (f : List ℕ) (g : Group) (st : Starts f g) (fit : Fit g) where
       leads = leads₀;
       ground = ground₀;
       chain = chain₀;
-      sums = record { least = omega (arith, st .total-most); bases = total₀; tops = total₀; prevs = λ e. absurd (true≢false e) };
+      sums = record { least = λ y. omega (arith, st .total-most y); bases = total₀; tops = total₀; prevs = λ e. absurd (true≢false e) };
     };
     places = places₀;
     meets = λ c d w u.
@@ -377,7 +380,7 @@ module _ (f : List ℕ) (g : Group) (st : Starts f g) (fit : Fit g) where
   starts-past = record {
     sent = λ c d. refl;
     taken = λ c d. refl;
-    damaged = refl;
+    damaged = λ y. refl;
     hurt = λ c d. refl;
     cuts = λ e c d. absurd (false≢true d);
     noCut = λ e b. absurd (false≢true b);

@@ -6,6 +6,7 @@ use mathlib.Core.Bool.{Bool, true, false, cond, not, _&&_, true≢false}
 use mathlib.Core.List.{List, [], _∷_}
 use mathlib.Core.Option.{Option, none, some}
 use native.Mathlib.Omega.{arith}
+use Rattle.outlet.specs.declared.Party.{Party}
 use Rattle.state.specs.declared.State.{State}
 use Rattle.state.specs.declared.State.the-variants.{Normal, Checkpointing, Checkpointed, Error}
 use Rattle.image.specs.declared.Image.{Image}
@@ -36,7 +37,7 @@ pub record Past (n : ℕ) (v : View) (γ : Ghost) (h : History) : Type 0 where
   -- the logs
   pub sent : (c d : ℕ) → h .sent c d ≡ γ .wire c d .sent
   pub taken : (c d : ℕ) → h .taken c d ≡ γ .wire c d .taken
-  pub damaged : h .damaged ≡ not (γ .big .clean)
+  pub damaged : (y : Party) → h .damaged y ≡ not (γ .big .clean y)
   pub hurt : (c d : ℕ) → h .hurt c d ≡ γ .wire c d .hurt
   -- D1: the logs at a cut are the logs now
   pub cuts : γ .big .alive ≡ true → (c : ℕ) → γ .mind c .done ≡ true → (x : Cut) × (h .cuts c ≡ some x) × (x .image ≡ γ .mind c .cut)
@@ -48,7 +49,7 @@ pub record Past (n : ℕ) (v : View) (γ : Ghost) (h : History) : Type 0 where
   pub balanced : Balanced (latest h)
   pub present : (c : ℕ) → γ .mind c .tab ≡ true → h .lost c ≡ none
   pub gone : (c : ℕ) → c < n → γ .mind c .tab ≡ false → h .lost c ≡ some (γ .mind c .top)
-  pub beyond : (c : ℕ) → n ≤ c → booked (γ .mind c .top) ≡ 0
+  pub beyond : (y : Party) (c : ℕ) → n ≤ c → booked y (γ .mind c .top) ≡ 0
   -- the one before it, wanted while the coordinator alone knows of the newest
   pub below : γ .big .adopted ≡ false → (x : Save) × (xs : List Save) × (h .saves ≡ x ∷ xs) × (x .by ≡ γ .big .chief)
       × ((j : ℕ) → j ≢ γ .big .chief → workOf v j ≡ true → newest xs (h .start) .known ≡ true)
@@ -76,7 +77,7 @@ bare-balanced images c d = none-taken (images d) ∙ sym (none-sent (images c))
     none-sent (some m) = refl
 
 -- a working cabinet has its cut in it
-pub cut-held : {n total : ℕ} {v : View} {γ : Ghost} {h : History} → Inv n total v γ → Past n v γ h → (c : ℕ) → workOf v c ≡ true
+pub cut-held : {n : ℕ} {total : Party → ℕ} {v : View} {γ : Ghost} {h : History} → Inv n total v γ → Past n v γ h → (c : ℕ) → workOf v c ≡ true
     → (y : Cut) × (latest h .cut c ≡ some y) × (y .image ≡ γ .mind c .top)
 cut-held i p c w =
     let t = i .core .nodes c .placed w in
@@ -85,9 +86,10 @@ cut-held i p c w =
     some-none : {m : Image} → some m ≡ none → ⊥
     some-none e = let z : _≡_ {A = ℕ} 0 1 = cc in omega arith
 
--- the images in it add up
-pub tops-add : {n total : ℕ} {v : View} {γ : Ghost} {h : History} → Inv n total v γ → Past n v γ h → sum (λ c. booked (γ .mind c .top)) n ≡ total
-tops-add {n} {γ} i p = sym (sum-tail (λ c. booked (γ .mind c .top)) n 8 (i .core .ground .most) (p .beyond)) ∙ i .core .sums .tops
+-- the images in it add up, for each party
+pub tops-add : {n : ℕ} {total : Party → ℕ} {v : View} {γ : Ghost} {h : History} → Inv n total v γ → Past n v γ h
+    → (y : Party) → sum (λ c. booked y (γ .mind c .top)) n ≡ total y
+tops-add {n} {γ} i p y = sym (sum-tail (λ c. booked y (γ .mind c .top)) n 8 (i .core .ground .most) (p .beyond y)) ∙ i .core .sums .tops y
 
 -- ---- what a taken step owes
 
@@ -95,7 +97,7 @@ tops-add {n} {γ} i p = sym (sum-tail (λ c. booked (γ .mind c .top)) n 8 (i .c
 abbrev pub after : History → Group → Group → Step → History
 after h g g′ s = noteCuts (observe h g g′ s) g g′
 
-pub record Kept (total : ℕ) (g : Group) (γ : Ghost) (g′ : Group) (h′ : History) : Type 0 where
+pub record Kept (total : Party → ℕ) (g : Group) (γ : Ghost) (g′ : Group) (h′ : History) : Type 0 where
   pub ghost : Ghost
   pub inv : Inv (g .n) total (view g′) ghost
   pub past : Past (g .n) (view g′) ghost h′
@@ -168,15 +170,15 @@ pub goes-not-normal : {v : View} {γ : Ghost} {w : View} {δ : Ghost} → Goes v
 goes-not-normal {w} {δ} o c a = aware-not-normal (δ .big) (w .own c) (o .on c a .0)
 
 -- nobody is in error without a fault
-pub quiet-of : {n total : ℕ} {v : View} {γ : Ghost} → Inv n total v γ → (c : ℕ) → γ .big .faulted ≡ false → isIn (v .own c .state) Error ≡ false
+pub quiet-of : {n : ℕ} {total : Party → ℕ} {v : View} {γ : Ghost} → Inv n total v γ → (c : ℕ) → γ .big .faulted ≡ false → isIn (v .own c .state) Error ≡ false
 quiet-of i c e = i .core .nodes c .quiet e .0
 
 -- nor is one in error that is not aware of a fault
-pub calm-error : {n total : ℕ} {v : View} {γ : Ghost} → Inv n total v γ → (c : ℕ) → unaware (γ .big) (v .own c) ≡ true → isIn (v .own c .state) Error ≡ false
+pub calm-error : {n : ℕ} {total : Party → ℕ} {v : View} {γ : Ghost} → Inv n total v γ → (c : ℕ) → unaware (γ .big) (v .own c) ≡ true → isIn (v .own c .state) Error ≡ false
 calm-error {v} {γ} i c un = is-false _ (λ e. un-not-aware (γ .big) (v .own c) un (error-aware v γ (quiet-of i) c e))
 
 -- a move of a cabinet that is not aware of a fault, and stays out of error
-pub calm-stays : {n total : ℕ} {v : View} {γ : Ghost} → Inv n total v γ → (w : View) (δ : Ghost) (c : ℕ) (o : Own) (s : ℕ → Side)
+pub calm-stays : {n : ℕ} {total : Party → ℕ} {v : View} {γ : Ghost} → Inv n total v γ → (w : View) (δ : Ghost) (c : ℕ) (o : Own) (s : ℕ → Side)
     → w .own ≡ upd (v .own) c o → w .side ≡ upd (v .side) c s → unaware (γ .big) (v .own c) ≡ true → isIn (o .state) Error ≡ false
     → Faults v γ δ → Stays v γ w δ
 calm-stays {v} {γ} i w δ c o s own side un out =
@@ -187,7 +189,7 @@ abbrev pub OnePlace : View → Type 0
 OnePlace v = (c d : ℕ) → workOf v c ≡ true → workOf v d ≡ true → v .own c .alarm ≡ v .own d .alarm
 
 -- what a step brings in which a recovery ends
-pub record Ended (total : ℕ) (g g′ : Group) (h′ : History) (δ : Ghost) : Type 0 where
+pub record Ended (total : Party → ℕ) (g g′ : Group) (h′ : History) (δ : Ghost) : Type 0 where
   pub restored : Restored (g .n) total h′ g′
   pub known : latest h′ .known ≡ true
   pub place : OnePlace (view g)
@@ -195,7 +197,7 @@ pub record Ended (total : ℕ) (g g′ : Group) (h′ : History) (δ : Ghost) : 
   pub who : (j : ℕ) × (works (stateOf g j) ≡ true) × (ends g g′ j ≡ true)
 
 -- what a step owes that may end a recovery, or be a report
-pub record Next (total : ℕ) (g : Group) (γ : Ghost) (g′ : Group) (h′ : History) (asks : Bool) : Type 0 where
+pub record Next (total : Party → ℕ) (g : Group) (γ : Ghost) (g′ : Group) (h′ : History) (asks : Bool) : Type 0 where
   pub ghost : Ghost
   pub inv : Inv (g .n) total (view g′) ghost
   pub past : Past (g .n) (view g′) ghost h′
@@ -204,18 +206,18 @@ pub record Next (total : ℕ) (g : Group) (γ : Ghost) (g′ : Group) (h′ : Hi
   pub fate : Goes (view g) γ (view g′) ghost ⊎ Ended total g g′ h′ ghost
 
 -- and one that ends none
-pub record Went (total : ℕ) (g : Group) (γ : Ghost) (g′ : Group) (h′ : History) : Type 0 where
+pub record Went (total : Party → ℕ) (g : Group) (γ : Ghost) (g′ : Group) (h′ : History) : Type 0 where
   pub ghost : Ghost
   pub inv : Inv (g .n) total (view g′) ghost
   pub past : Past (g .n) (view g′) ghost h′
   pub reports : Reports (view g′)
   pub goes : Goes (view g) γ (view g′) ghost
 
-pub went-next : {total : ℕ} {g : Group} {γ : Ghost} {g′ : Group} {h′ : History} {asks : Bool} → (asks ≡ false → Silent (view g) → Silent (view g′))
+pub went-next : {total : Party → ℕ} {g : Group} {γ : Ghost} {g′ : Group} {h′ : History} {asks : Bool} → (asks ≡ false → Silent (view g) → Silent (view g′))
     → Went total g γ g′ h′ → Next total g γ g′ h′ asks
 went-next s k = record { ghost = k .ghost; inv = k .inv; past = k .past; reports = k .reports; silent = s; fate = inl (k .goes) }
 
-pub kept-next : {total : ℕ} {g : Group} {γ : Ghost} {g′ : Group} {h′ : History} {asks : Bool} → Inv (g .n) total (view g) γ → Reports (view g)
+pub kept-next : {total : Party → ℕ} {g : Group} {γ : Ghost} {g′ : Group} {h′ : History} {asks : Bool} → Inv (g .n) total (view g) γ → Reports (view g)
     → Kept total g γ g′ h′ → Next total g γ g′ h′ asks
 kept-next {g} {γ} {g′} i r k = went-next (λ _. none-comes (view g) γ (view g′) (k .ghost) (k .stays)) (record {
   ghost = k .ghost;

@@ -1,5 +1,5 @@
 -- The points that stand beside a group and what the history has of them: four places, no name twice, and each point with the images
--- that the history has under its name, which add up to the feeder's total.
+-- that the history has under its name, which add up to the feeder's total for each party.
 use Prim.Native.Nat.{ℕ, zero, suc, _<_, _≤_}
 use mathlib.Core.Path.{_≡_, refl, sym, ap, _∙_}
 use mathlib.Core.Logic.{_≢_}
@@ -12,6 +12,7 @@ use lib.Dec.{eqb, ltb}
 use borrow.Author.Tests.{eqb-true, eq-eqb, ltb-true, lt-ltb}
 use native.Mathlib.Omega.{arith}
 use native.Mathlib.Decide.{ℕ-discrete, decLt}
+use Rattle.outlet.specs.declared.Party.{Party}
 use Rattle.image.specs.declared.Image.{Image}
 use Rattle.image.specs.Image.{booked}
 use Rattle.points.specs.declared.Point.{Point}
@@ -25,14 +26,14 @@ use Rattle.claims.proofs.State.Every.{getD-repeated}
 use Rattle.claims.proofs.State.Shape.{Pictured}
 
 -- a point p of the program, for the images that the history has of it
-pub record PointHeld (n total : ℕ) (images : ℕ → Option Image) (p : Point) : Type 0 where
+pub record PointHeld (n : ℕ) (total : Party → ℕ) (images : ℕ → Option Image) (p : Point) : Type 0 where
   pub eight : length (p .images) ≡ 8
   pub held : (c : ℕ) → c < n → images c ≡ some (imageAt p c)
-  pub beyond : (c : ℕ) → n ≤ c → booked (imageAt p c) ≡ 0
-  pub adds : sum (λ c. booked (imageAt p c)) 8 ≡ total
+  pub beyond : (y : Party) (c : ℕ) → n ≤ c → booked y (imageAt p c) ≡ 0
+  pub adds : (y : Party) → sum (λ c. booked y (imageAt p c)) 8 ≡ total y
   pub sized : (c : ℕ) → Pictured (imageAt p c)
 
-pub record PointsHeld (n total : ℕ) (ps : Points) (points : List ℕ → Option (ℕ → Option Image)) : Type 0 where
+pub record PointsHeld (n : ℕ) (total : Party → ℕ) (ps : Points) (points : List ℕ → Option (ℕ → Option Image)) : Type 0 where
   pub four : length (ps .places) ≡ 4
   pub names : (j k : ℕ) → pointAt ps j .kept ≡ true → pointAt ps k .kept ≡ true → pointAt ps j .name ≡ pointAt ps k .name → j ≡ k
   pub each : (k : ℕ) → pointAt ps k .kept ≡ true
@@ -91,7 +92,7 @@ module _ (ps : Points) (name : List ℕ) where
 
 -- ---- the points that stand
 
-module _ {n total : ℕ} {ps : Points} {points : List ℕ → Option (ℕ → Option Image)} (h : PointsHeld n total ps points) where
+module _ {n : ℕ} {total : Party → ℕ} {ps : Points} {points : List ℕ → Option (ℕ → Option Image)} (h : PointsHeld n total ps points) where
   kept-below : (k : ℕ) → pointAt ps k .kept ≡ true → k < 4
   unfolding pointAt
   kept-below k e = elim (decLt k 4) [
@@ -170,17 +171,17 @@ module _ {n total : ℕ} {ps : Points} {points : List ℕ → Option (ℕ → Op
 
 -- ---- the start, and what is claimed
 
-pub none-held : (n total : ℕ) → PointsHeld n total noPoints (λ name. none)
+pub none-held : (n : ℕ) (total : Party → ℕ) → PointsHeld n total noPoints (λ name. none)
 unfolding noPoints pointAt
 none-held n total =
     let empty : (k : ℕ) → pointAt noPoints k .kept ≡ false = λ k. getD-repeated (λ (p : Point). p .kept ≡ false) 4 k noPoint noPoint refl refl in
     record { four = refl; names = λ j k e. absurd (never e (empty j)); each = λ k e. absurd (never e (empty k)) }
 
-pub stands : {n total : ℕ} {ps : Points} {h : History} → PointsHeld n total ps (h .points) → n ≤ 8 → Stand n total ps h
+pub stands : {n : ℕ} {total : Party → ℕ} {ps : Points} {h : History} → PointsHeld n total ps (h .points) → n ≤ 8 → Stand n total ps h
 stands {n} {ps} p most = record {
   names = p .names;
   images = λ k e. let x = p .each k e in (x .0, x .1, x .2 .held);
-  adds = λ k e.
+  adds = λ k e y.
       let x = p .each k e .2 in
-      sym (sum-tail (λ c. booked (imageAt (pointAt ps k) c)) n 8 most (x .beyond)) ∙ x .adds;
+      sym (sum-tail (λ c. booked y (imageAt (pointAt ps k) c)) n 8 most (x .beyond y)) ∙ x .adds y;
 }

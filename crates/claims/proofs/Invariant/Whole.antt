@@ -5,6 +5,7 @@ use mathlib.Core.Path.{_≡_}
 use mathlib.Core.Logic.{_≢_, _⊎_}
 use mathlib.Core.Bool.{Bool, true, false, not, _&&_}
 use lib.Dec.{eqb}
+use Rattle.outlet.specs.declared.Party.{Party}
 use Rattle.packet.specs.declared.Place.{Place}
 use Rattle.packet.specs.declared.Place.the-variants.{Failed as AtFailed, Tripped as AtTripped, Link as AtLink}
 use Rattle.cabinet.specs.declared.Alarm.{Alarm}
@@ -64,13 +65,13 @@ pub record Chain (b : Big) (work calm tab joined done wrote known : ℕ → Bool
   pub company : (j : ℕ) → j ≢ b .chief → work j ≡ true → ((b .faulted ≡ false) × (b .adopted ≡ true)) ⊎ (b .alive ≡ false)
       → (c : ℕ) × (c ≢ b .chief) × (work c ≡ true) × ((known c ≡ true) ⊎ (joined c ≡ true))
 
--- ---- bookings add up (D6)
+-- ---- bookings add up, those of each party by themselves (D6)
 
-pub record Sums (total : ℕ) (adopted : Bool) (base top prev : ℕ → Image) : Type 0 where
-  pub least : total < 65536
-  pub bases : sum (λ c. booked (base c)) 8 ≡ total
-  pub tops : sum (λ c. booked (top c)) 8 ≡ total
-  pub prevs : adopted ≡ false → sum (λ c. booked (prev c)) 8 ≡ total
+pub record Sums (total : Party → ℕ) (adopted : Bool) (base top prev : ℕ → Image) : Type 0 where
+  pub least : (y : Party) → total y < 65536
+  pub bases : (y : Party) → sum (λ c. booked y (base c)) 8 ≡ total y
+  pub tops : (y : Party) → sum (λ c. booked y (top c)) 8 ≡ total y
+  pub prevs : adopted ≡ false → (y : Party) → sum (λ c. booked y (prev c)) 8 ≡ total y
 
 -- ---- the functions that these facts read
 
@@ -103,11 +104,11 @@ module _ (γ : Ghost) where
   abbrev pub lkOf : ℕ → ℕ → Bool
   lkOf c d = γ .wire c d .lk
 
-  abbrev pub outOf : ℕ → ℕ
-  outOf c = sum (λ d. γ .wire c d .out) 8
+  abbrev pub outOf : ℕ → Party → ℕ
+  outOf c y = sum (λ d. γ .wire c d .out y) 8
 
-  abbrev pub gotOf : ℕ → ℕ
-  gotOf c = sum (λ d. γ .wire d c .got) 8
+  abbrev pub gotOf : ℕ → Party → ℕ
+  gotOf c y = sum (λ d. γ .wire d c .got y) 8
 
 -- ---- the invariant
 
@@ -139,11 +140,11 @@ abbrev pub ChainOf : View → Ghost → Type 0
 ChainOf v γ =
     Chain (γ .big) (workOf v) (calmOf v γ) (tabOf γ) (λ c. γ .mind c .joined) (λ c. γ .mind c .done) (λ c. γ .mind c .wrote) (knownOf v)
 
-abbrev pub SumsOf : ℕ → Ghost → Type 0
+abbrev pub SumsOf : (Party → ℕ) → Ghost → Type 0
 SumsOf total γ = Sums total (γ .big .adopted) (λ c. γ .mind c .base) (λ c. γ .mind c .top) (λ c. γ .mind c .prev)
 
 -- what each move keeps by itself
-pub record Core (n total : ℕ) (v : View) (γ : Ghost) : Type 0 where
+pub record Core (n : ℕ) (total : Party → ℕ) (v : View) (γ : Ghost) : Type 0 where
   pub pairs : (c d : ℕ) → PairAt v γ c d
   pub nodes : (c : ℕ) → NodeAt v γ c
   pub books : (c : ℕ) → BooksAt v γ c
@@ -153,7 +154,7 @@ pub record Core (n total : ℕ) (v : View) (γ : Ghost) : Type 0 where
   pub sums : SumsOf total γ
 
 -- with the fault places, which a fail leaves open until every neighbour has entered error
-pub record Inv (n total : ℕ) (v : View) (γ : Ghost) : Type 0 where
+pub record Inv (n : ℕ) (total : Party → ℕ) (v : View) (γ : Ghost) : Type 0 where
   pub core : Core n total v γ
   pub places : PlacesOf v γ
   pub meets : MeetsOf v

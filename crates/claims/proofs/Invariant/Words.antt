@@ -6,11 +6,14 @@ use mathlib.Core.Bool.{Bool, true, false, cond, not, _&&_}
 use mathlib.Core.List.{List, [], _∷_, _++_}
 use lib.ListN.{length, List·getD-eq-default}
 use native.Mathlib.Omega.{arith}
+use Rattle.outlet.specs.declared.Party.{Party}
+use Rattle.outlet.specs.declared.Party.the-variants.{Buses, Workshop}
+use Rattle.outlet.specs.Outlet.{partyOf, sameParty}
 use Rattle.packet.specs.declared.Packet.{Packet}
 use Rattle.packet.specs.declared.Packet.the-variants.{Empty, Normal as NormalPacket, Checkp, Resume, Recover, Fault, Invalid}
 use Rattle.packet.specs.declared.Place.{Place}
 use Rattle.line.specs.declared.Cell.{Cell}
-use Rattle.packet.specs.Packet.{isNormal}
+use Rattle.packet.specs.Packet.{isOf}
 use Rattle.line.specs.Line.{normalsIn}
 use Rattle.state.specs.declared.Version.{Version}
 use Rattle.state.specs.declared.Version.the-variants.{Lost}
@@ -109,12 +112,12 @@ linked-back n v γ g c d e =
 -- ---- who coordinates
 
 -- the coordinator of a cabinet that is not aware of a fault
-pub chief-of : (n total : ℕ) (g : Group) (γ : Ghost) → Core n total (view g) γ → (a : ℕ) → unaware (γ .big) (view g .own a) ≡ true
+pub chief-of : (n : ℕ) (total : Party → ℕ) (g : Group) (γ : Ghost) → Core n total (view g) γ → (a : ℕ) → unaware (γ .big) (view g .own a) ≡ true
     → coordinator (cabinet g a) ≡ γ .big .chief
 chief-of n total g γ i a un = i .leads a .steady un
 
 -- one that is not aware of a fault is not lost
-pub chief-lives : (n total : ℕ) (v : View) (γ : Ghost) → Core n total v γ → unaware (γ .big) (v .own (γ .big .chief)) ≡ true → γ .big .alive ≡ true
+pub chief-lives : (n : ℕ) (total : Party → ℕ) (v : View) (γ : Ghost) → Core n total v γ → unaware (γ .big) (v .own (γ .big .chief)) ≡ true → γ .big .alive ≡ true
 chief-lives n total v γ i un = is-true (γ .big .alive) (λ e. never un (i .leads (γ .big .chief) .fallen refl e))
 
 -- who leads, where a cabinet knows of the same fault as before and its version is not lost anew
@@ -155,29 +158,37 @@ lead-lost b c o calm dead gone lead known = record {
 
 -- ---- a line has room
 
-counted-once : (p : Packet) (cs : List Cell) → length (content cs) ≤ count isSafe (content cs) + normalsIn cs
-    → length (packetOf p (content cs)) ≤ count isSafe (packetOf p (content cs)) + (cond (isNormal p) 1 0 + normalsIn cs)
+pub one-party : (x : Party) → cond (sameParty x Buses) 1 0 + cond (sameParty x Workshop) 1 0 ≡ 1
+one-party Buses = refl
+one-party Workshop = refl
+
+-- the normal packets of both parties
+abbrev bothIn : List Cell → ℕ
+bothIn cs = normalsIn Buses cs + normalsIn Workshop cs
+
+counted-once : (p : Packet) (cs : List Cell) → length (content cs) ≤ count isSafe (content cs) + bothIn cs
+    → length (packetOf p (content cs)) ≤ count isSafe (packetOf p (content cs)) + ((cond (isOf Buses p) 1 0 + normalsIn Buses cs) + (cond (isOf Workshop p) 1 0 + normalsIn Workshop cs))
 unfolding count
 counted-once Empty cs h = omega arith
-counted-once (NormalPacket q) cs h = omega arith
+counted-once (NormalPacket q) cs h = omega (arith, one-party (partyOf (q .outlet)))
 counted-once (Checkp v) cs h = omega arith
 counted-once Resume cs h = omega arith
 counted-once (Recover v) cs h = omega arith
 counted-once (Fault q) cs h = omega arith
 counted-once Invalid cs h = omega arith
 
--- every packet is fail-safe or normal
-pub all-counted : (cs : List Cell) → length (content cs) ≤ count isSafe (content cs) + normalsIn cs
+-- every packet is fail-safe or a normal one of a party
+pub all-counted : (cs : List Cell) → length (content cs) ≤ count isSafe (content cs) + bothIn cs
 unfolding content count
 all-counted [] = omega arith
 all-counted (c ∷ cs) = counted-once (c .packet) cs (all-counted cs)
 
 -- a fail-safe packet finds a free place on every line out of a cabinet that is not aware of a fault
-pub room-calm : (n total : ℕ) (g : Group) (γ : Ghost) → Fit g → Core n total (view g) γ → (c : ℕ) → unaware (γ .big) (view g .own c) ≡ true → Room (view g) c
+pub room-calm : (n : ℕ) (total : Party → ℕ) (g : Group) (γ : Ghost) → Fit g → Core n total (view g) γ → (c : ℕ) → unaware (γ .big) (view g .own c) ≡ true → Room (view g) c
 room-calm n total g γ w i c un d us =
     let few = w .lines c d .few in
     let safe = i .pairs c d .room un in
-    omega (arith, all-counted (line g c d .cells), most (γ .mind c .joined))
+    omega (arith, all-counted (line g c d .cells), few Buses, few Workshop, most (γ .mind c .joined))
   where
     most : (t : Bool) → cond t 1 0 ≤ 1
     most true = omega arith
@@ -193,7 +204,7 @@ alarms-short x q l a = rw (a .is) (go (a .faults) (a .recovers))
     go false false = omega arith
 
 -- and of one that is
-pub room-aware : (n total : ℕ) (v : View) (γ : Ghost) → Core n total v γ → (c : ℕ) → aware (γ .big) (v .own c) ≡ true → Room v c
+pub room-aware : (n : ℕ) (total : Party → ℕ) (v : View) (γ : Ghost) → Core n total v γ → (c : ℕ) → aware (γ .big) (v .own c) ≡ true → Room v c
 room-aware n total v γ i c aw d us =
     let q = i .nodes c .placeKnown aw in
     omega (arith, alarms-short _ _ _ (i .pairs c d .alarms aw (q .0) (q .1)))

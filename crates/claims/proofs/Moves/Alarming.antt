@@ -5,6 +5,7 @@ use mathlib.Core.Logic.{_≢_, _⊎_, inl, inr, ⊎-elim}
 use mathlib.Core.Bool.{Bool, true, false, not, _&&_, _||_}
 use native.Mathlib.Omega.{arith}
 use native.Mathlib.Decide.{ℕ-discrete}
+use Rattle.outlet.specs.declared.Party.{Party}
 use Rattle.packet.specs.declared.Place.{Place}
 use Rattle.table.specs.Table.{isAt}
 use Rattle.cabinet.specs.declared.Alarm.the-variants.{Fault as At}
@@ -35,7 +36,7 @@ abbrev pub gSaid : Ghost → Bool → Ghost
 gSaid γ t = gBig γ (bFrozen (γ .big) t)
 
 -- the neighbours of a below k have entered error
-pub record Alarmed (n total k a : ℕ) (q : Place) (v : View) (γ : Ghost) (w : View) : Type 0 where
+pub record Alarmed (n : ℕ) (total : Party → ℕ) (k a : ℕ) (q : Place) (v : View) (γ : Ghost) (w : View) : Type 0 where
   pub said : Bool
   pub core : Core n total w (gSaid γ said)
   pub told : (i : ℕ) → i < k → near v a i ≡ true
@@ -44,7 +45,7 @@ pub record Alarmed (n total k a : ℕ) (q : Place) (v : View) (γ : Ghost) (w : 
   pub sound : w .sound ≡ v .sound
   pub worked : (i : ℕ) → workOf w i ≡ workOf v i
 
-module _ (n total a : ℕ) (q : Place) (v : View) (γ : Ghost) (faulted : γ .big .faulted ≡ true)
+module _ (n : ℕ) (total : Party → ℕ) (a : ℕ) (q : Place) (v : View) (γ : Ghost) (faulted : γ .big .faulted ≡ true)
     (none : (c : ℕ) → near v a c ≡ true → (inRecovery (v .own c .state) ≡ false) × (isAt q c ≡ false))
     (meets : (c d : ℕ) → workOf v c ≡ true → used (sAlarmed q c d (v .side c d)) ≡ true → workOf v d ≡ true) where
   pub alarm-start : Core n total v γ → Alarmed n total 0 a q v γ v
@@ -122,7 +123,7 @@ module _ (n total a : ℕ) (q : Place) (v : View) (γ : Ghost) (faulted : γ .bi
       }
 
 -- the group after the alarm
-module _ (n total a : ℕ) (q : Place) (g : Group) (fit : Fit g) (γ : Ghost) (i : Core n total (view g) γ) (faulted : γ .big .faulted ≡ true)
+module _ (n : ℕ) (total : Party → ℕ) (a : ℕ) (q : Place) (g : Group) (fit : Fit g) (γ : Ghost) (i : Core n total (view g) γ) (faulted : γ .big .faulted ≡ true)
     (none : (c : ℕ) → near (view g) a c ≡ true → (inRecovery (view g .own c .state) ≡ false) × (isAt q c ≡ false))
     (meets : (c d : ℕ) → workOf (view g) c ≡ true → used (sAlarmed q c d (view g .side c d)) ≡ true → workOf (view g) d ≡ true) where
   pub alarm-all : (k : ℕ) → k ≤ 8 → Alarmed n total k a q (view g) γ (view (alarmTo k g a q))

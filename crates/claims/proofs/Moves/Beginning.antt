@@ -13,6 +13,7 @@ use native.Mathlib.Omega.{arith}
 use native.Mathlib.Decide.{ℕ-discrete, decLt}
 use Rattle.marks.specs.Marks.{marked, covers}
 use Rattle.marks.specs.MarksLaws.{covers-has}
+use Rattle.outlet.specs.declared.Party.{Party}
 use Rattle.packet.specs.declared.Check.{Check}
 use Rattle.packet.specs.declared.Packet.{Packet}
 use Rattle.packet.specs.declared.Packet.the-variants.{Checkp}
@@ -30,7 +31,7 @@ use Rattle.protocol.specs.Moves.{join, cutIfAll, takeCheckp}
 use Rattle.protocol.specs.Receive.{joinIf}
 use Rattle.protocol.specs.Kinds.{beginRefusal}
 use Rattle.protocol.specs.History.{upd, Cut, History, withCuts, withBegun, observe, noteCuts, cutIn}
-use Rattle.claims.proofs.State.Fun.{never, is-true, and-true, upd-elim, upd-same, upd-other, upd-id, kept-at, kept-pair, is-false}
+use Rattle.claims.proofs.State.Fun.{never, is-true, and-true, upd-elim, upd-same, upd-other, upd-id, kept-at, kept-pair, is-false, same-at}
 use Rattle.claims.proofs.State.Every.{passed, with-cabinet, with-line, ok-join}
 use Rattle.claims.proofs.State.View.{View, Own, Side, used, content, view, setLine}
 use Rattle.claims.proofs.State.Shape.{Shaped, Lined, Pictured, shaped}
@@ -65,7 +66,7 @@ module _ (n : ℕ) (v : View) (γ δ : Ghost) (h : History)
   past-ghost cuts′ cuts noCut p = record {
     sent = λ c d. p .sent c d ∙ sym (sent c d);
     taken = λ c d. p .taken c d ∙ sym (taken c d);
-    damaged = p .damaged ∙ sym (ap not clean);
+    damaged = λ y. p .damaged y ∙ sym (ap not (same-at clean y));
     hurt = λ c d. p .hurt c d ∙ sym (hurt c d);
     cuts = cuts;
     noCut = noCut;
@@ -74,7 +75,7 @@ module _ (n : ℕ) (v : View) (γ δ : Ghost) (h : History)
     balanced = p .balanced;
     present = λ c e. p .present c (sym (tab c) ∙ e);
     gone = λ c l e. p .gone c l (sym (tab c) ∙ e) ∙ ap some (sym (top c));
-    beyond = λ c l. ap booked (top c) ∙ p .beyond c l;
+    beyond = λ y c l. ap (booked y) (top c) ∙ p .beyond y c l;
     below = λ e. let b = p .below (sym adopted ∙ e) in
         (b .0, b .1, b .2, b .3 ∙ sym chief, (λ j d k. b .4 j (λ q. d (q ∙ sym chief)) k), (λ c l. rw (prev c) (b .5 c l)), b .6);
     begun = ⊎-elim begins (λ e. p .begun (inr (sym adopted ∙ e)));
@@ -116,7 +117,7 @@ past-begun p = record {
 }
 
 -- a new save begins: no cabinet has a cut in it
-pub past-begin : (n total : ℕ) (v : View) (γ : Ghost) (h : History) (c : ℕ) → Inv n total v γ → γ .big .begun ≡ false → Past n v γ h
+pub past-begin : (n : ℕ) (total : Party → ℕ) (v : View) (γ : Ghost) (h : History) (c : ℕ) → Inv n total v γ → γ .big .begun ≡ false → Past n v γ h
     → (g g′ : Group) → Past n v (gJoin γ c) (observe h g g′ (Begin (suc c)))
 past-begin n total v γ h c i fresh p g g′ =
     past-ghost n v γ (gJoin γ c) (withBegun h true) (λ x y. refl) (λ x y. refl) (λ x y. refl) refl refl refl refl (one (λ m. m .tab) refl) (one (λ m. m .top) refl)
@@ -142,7 +143,7 @@ past-compare n v γ h a b p =
 
 -- ---- the cut, if all checkps have come
 
-module _ (total : ℕ) (g₀ : Group) (γ₀ : Ghost) (h : History) (g : Group) (w : Fit g) (γ : Ghost) (i : Inv (g₀ .n) total (view g) γ)
+module _ (total : Party → ℕ) (g₀ : Group) (γ₀ : Ghost) (h : History) (g : Group) (w : Fit g) (γ : Ghost) (i : Inv (g₀ .n) total (view g) γ)
     (past : Past (g₀ .n) (view g) γ h) (stays : Stays (view g₀) γ₀ (view g) γ) (c : ℕ) (lc : c < 8) (begins : stateOf g c ≡ CheckpBegin)
     (before : (d : ℕ) → isIn (stateOf g d) Checkpointing ≡ true → isIn (stateOf g₀ d) Checkpointing ≡ true)
     (uncut : isIn (stateOf g₀ c) Checkpointing ≡ false) where
@@ -257,7 +258,7 @@ module _ (total : ℕ) (g₀ : Group) (γ₀ : Ghost) (h : History) (g : Group) 
 
 -- ---- 3 begin
 
-module _ (total : ℕ) (g : Group) (h : History) (γ : Ghost) (w : Fit g) (i : Inv (g .n) total (view g) γ) (past : Past (g .n) (view g) γ h)
+module _ (total : Party → ℕ) (g : Group) (h : History) (γ : Ghost) (w : Fit g) (i : Inv (g .n) total (view g) γ) (past : Past (g .n) (view g) γ h)
     (a : ℕ) (la : a < 8) (fine : beginRefusal g a ≡ 0) where
   asked : (isIn (stateOf g a) Normal ≡ true) × (eqb (coordinator (cabinet g a)) a ≡ true)
   asked = and-true {s = isIn (stateOf g a) Normal} (passed (isIn (stateOf g a) Normal && eqb (coordinator (cabinet g a)) a) 13 0 fine .0)
@@ -336,7 +337,7 @@ module _ (v : View) (a b : ℕ) (k : List Packet) (other : b ≢ a) where
   }
 
 -- in checkp-begin: u is the view with the packet still in the line
-module _ (total : ℕ) (g₀ : Group) (γ₀ : Ghost) (h : History) (g : Group) (w : Fit g) (γ : Ghost) (u : View)
+module _ (total : Party → ℕ) (g₀ : Group) (γ₀ : Ghost) (h : History) (g : Group) (w : Fit g) (γ : Ghost) (u : View)
     (i : Inv (g₀ .n) total u γ) (past : Past (g₀ .n) u γ h) (went : Stays (view g₀) γ₀ u γ) (a b : ℕ) (la : a < 8) (lb : b < 8) (x : Check) (k : List Packet)
     (first : u .lines a b ≡ Checkp x ∷ k) (off : view g ≡ setLine u a b k) (begins : u .own b .state ≡ CheckpBegin)
     (equal : x ≡ u .side b a .took) (others : (d : ℕ) → d ≢ b → u .own d .state ≡ stateOf g₀ d)
@@ -367,7 +368,7 @@ module _ (total : ℕ) (g₀ : Group) (γ₀ : Ghost) (h : History) (g : Group) 
         | no n ↦ ap (λ (s : State). isIn s Checkpointing) (sym (compared-state d ∙ others d n)) ∙ e
       ]) uncut
 
-module _ (total : ℕ) (g : Group) (h : History) (γ : Ghost) (w : Fit g) (i : Inv (g .n) total (view g) γ) (past : Past (g .n) (view g) γ h)
+module _ (total : Party → ℕ) (g : Group) (h : History) (γ : Ghost) (w : Fit g) (i : Inv (g .n) total (view g) γ) (past : Past (g .n) (view g) γ h)
     (a b : ℕ) (la : a < 8) (lb : b < 8) (x : Check) (first : oldest (line g a b) ≡ Checkp x) where
   -- the packet is off the line
   abbrev g₁ : Group

@@ -4,6 +4,7 @@ use mathlib.Core.Path.{_≡_, refl, sym, ap, _∙_}
 use mathlib.Core.Logic.{_≢_, _⊎_, inl, inr}
 use mathlib.Core.Bool.{Bool, true, false, cond, not, false≢true}
 use borrow.Author.Tests.{ne-eqb}
+use Rattle.outlet.specs.declared.Party.{Party}
 use Rattle.state.specs.declared.State.{State}
 use Rattle.state.specs.declared.State.the-variants.{Failed, Normal, CheckpBegin, Checkpointing, Checkpointed, Error, Recovering, Recovered, Crashed}
 use Rattle.state.specs.declared.Version.{Version}
@@ -170,10 +171,10 @@ module _ (b : Big) (c : ℕ) (o : Own) (m : Mind) (z : Bool → Image) (h : Node
         sizes = new-sizes;
       }
 
-pub commit-books : (b : Big) (o : Own) (m : Mind) (out got : ℕ) → Books b o m out got → Books (bCommit b) o (mCommit m) out got
+pub commit-books : (b : Big) (o : Own) (m : Mind) (out got : Party → ℕ) → Books b o m out got → Books (bCommit b) o (mCommit m) out got
 commit-books b o m out got h = record { bounded = h .bounded; live = h .live; atCut = λ a e. absurd (false≢true e) }
 
-pub chief-books : (b : Big) (o : Own) (m : Mind) (out got : ℕ) (x : Version) → unaware b o ≡ true → Books b o m out got → Books (bCommit b) (oResumed o x) (mCommit m) out got
+pub chief-books : (b : Big) (o : Own) (m : Mind) (out got : Party → ℕ) (x : Version) → unaware b o ≡ true → Books b o m out got → Books (bCommit b) (oResumed o x) (mCommit m) out got
 chief-books b o m out got x un h = record { bounded = h .bounded; live = λ u. h .live un; atCut = λ a e. absurd (false≢true e) }
 
 -- who leads does not hang on the save

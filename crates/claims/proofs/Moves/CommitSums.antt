@@ -1,4 +1,4 @@
--- The commit: what was sent is what was taken, so over all cabinets the bookings of the cuts add up to what those at the last recovery's
+-- The commit: what was sent is what was taken, so over all cabinets a party's bookings of the cuts add up to what those at the last recovery's
 -- end add up to.
 use Prim.Native.Nat.{ℕ, zero, suc, _+_, _*_, _<_}
 use mathlib.Core.Path.{_≡_, refl}

@@ -5,6 +5,7 @@ use mathlib.Core.Logic.{_≢_, ⊎-elim, inl}
 use mathlib.Core.Bool.{Bool, true, false, cond, not, false≢true}
 use mathlib.Core.List.{List, [], _∷_, _++_}
 use native.Mathlib.Omega.{arith}
+use Rattle.outlet.specs.declared.Party.{Party}
 use Rattle.packet.specs.declared.Packet.{Packet}
 use Rattle.packet.specs.declared.Packet.the-variants.{Resume}
 use Rattle.state.specs.declared.State.the-variants.{Checkpointed}
@@ -13,7 +14,7 @@ use Rattle.state.specs.State.{works}
 use Rattle.image.specs.Image.{booked}
 use Rattle.protocol.specs.History.{upd}
 use Rattle.group.specs.Group.{sum}
-use Rattle.claims.proofs.State.Fun.{never, is-false, and-true, upd-same, upd-other, sum-cong, sum-zero, kept-at, sum-swap}
+use Rattle.claims.proofs.State.Fun.{never, is-false, and-true, upd-same, upd-other, sum-cong, sum-zero, kept-at, sum-swap, same-at}
 use Rattle.claims.proofs.State.View.{View, Own, Side, used}
 use Rattle.claims.proofs.State.Methods.{sCleared}
 use Rattle.claims.proofs.State.ViewMoves.{vPut, vBroadcast, vResumed}
@@ -32,7 +33,7 @@ use Rattle.claims.proofs.Moves.CommitSums.{sum-exact}
 abbrev pub vCommit : View → Ghost → View
 vCommit v γ = vBroadcast (vResumed v (γ .big .chief) (Known (not (γ .big .topv)))) (γ .big .chief) Resume
 
-module _ (n total : ℕ) (v : View) (γ : Ghost) (i : Inv n total v γ) (un : unaware (γ .big) (v .own (γ .big .chief)) ≡ true)
+module _ (n : ℕ) (total : Party → ℕ) (v : View) (γ : Ghost) (i : Inv n total v γ) (un : unaware (γ .big) (v .own (γ .big .chief)) ≡ true)
     (all : (c : ℕ) → γ .mind c .tab ≡ true → (γ .mind c .wrote ≡ true) × (γ .mind c .told ≡ true)) where
   abbrev k : ℕ
   k = γ .big .chief
@@ -129,16 +130,16 @@ module _ (n total : ℕ) (v : View) (γ : Ghost) (i : Inv n total v γ) (un : un
 
   -- ---- bookings
 
-  out-got : sum (λ c. outOf γ c) 8 ≡ sum (λ c. gotOf γ c) 8
-  out-got =
-      sum-cong (λ c. outOf γ c) (λ c. sum (λ d. γ .wire c d .got) 8) 8 (λ c l. sum-cong _ _ 8 (λ d q. equal c d .1))
-      ∙ sum-swap (λ c d. γ .wire c d .got) 8 8
+  out-got : (y : Party) → sum (λ c. outOf γ c y) 8 ≡ sum (λ c. gotOf γ c y) 8
+  out-got y =
+      sum-cong (λ c. outOf γ c y) (λ c. sum (λ d. γ .wire c d .got y) 8) 8 (λ c l. sum-cong _ _ 8 (λ d q. same-at (equal c d .1) y))
+      ∙ sum-swap (λ c d. γ .wire c d .got y) 8 8
 
   -- a cabinet that is not in use sent nothing and took nothing
-  idle : (c : ℕ) → γ .mind c .tab ≡ false → (outOf γ c ≡ 0) × (gotOf γ c ≡ 0)
-  idle c t = (
-    sum-zero _ 8 (λ d l. i .core .pairs c d .apart (off-from d) .2),
-    sum-zero _ 8 (λ d l. i .core .pairs d c .apart (off-to d) .3),
+  idle : (c : ℕ) → γ .mind c .tab ≡ false → (y : Party) → (outOf γ c y ≡ 0) × (gotOf γ c y ≡ 0)
+  idle c t y = (
+    sum-zero _ 8 (λ d l. same-at (i .core .pairs c d .apart (off-from d) .2) y),
+    sum-zero _ 8 (λ d l. same-at (i .core .pairs d c .apart (off-to d) .3) y),
   )
     where
       off-from : (d : ℕ) → linked (γ .mind c) (γ .mind d) (γ .wire c d) ≡ false
@@ -147,13 +148,13 @@ module _ (n total : ℕ) (v : View) (γ : Ghost) (i : Inv n total v γ) (un : un
       off-to : (d : ℕ) → linked (γ .mind d) (γ .mind c) (γ .wire d c) ≡ false
       off-to d = is-false _ (λ e. never (and-true {s = γ .mind d .tab} (and-true {s = γ .wire d c .lk} e .1) .1) t)
 
-  one-book : (c : ℕ) → (x : ℕ) × (booked (mCommit (γ .mind c) .top) + outOf γ c + 65536 * x ≡ booked (γ .mind c .base) + gotOf γ c)
-  one-book c = go (γ .mind c .tab) refl
+  one-book : (y : Party) (c : ℕ) → (x : ℕ) × (booked y (mCommit (γ .mind c) .top) + outOf γ c y + 65536 * x ≡ booked y (γ .mind c .base) + gotOf γ c y)
+  one-book y c = go (γ .mind c .tab) refl
     where
       go : (t : Bool) → γ .mind c .tab ≡ t
-          → (x : ℕ) × (booked (cond t (γ .mind c .cut) (γ .mind c .top)) + outOf γ c + 65536 * x ≡ booked (γ .mind c .base) + gotOf γ c)
-      go true e = i .core .books c .atCut lives (through c e .1)
-      go false e = (0, omega (arith, idle c e .0, idle c e .1, ap booked (i .core .nodes c .gone e .0)))
+          → (x : ℕ) × (booked y (cond t (γ .mind c .cut) (γ .mind c .top)) + outOf γ c y + 65536 * x ≡ booked y (γ .mind c .base) + gotOf γ c y)
+      go true e = i .core .books c .atCut lives (through c e .1) y
+      go false e = let z = idle c e y in (0, omega (arith, z .0, z .1, ap (booked y) (i .core .nodes c .gone e .0)))
 
   commit-sums : SumsOf total δ
   commit-sums =
@@ -161,8 +162,8 @@ module _ (n total : ℕ) (v : View) (γ : Ghost) (i : Inv n total v γ) (un : un
       record {
         least = s .least;
         bases = s .bases;
-        tops = sum-exact (λ c. booked (mCommit (γ .mind c) .top)) (λ c. outOf γ c) (λ c. booked (γ .mind c .base)) (λ c. gotOf γ c) 8 total (s .least) (s .bases) out-got
-            (λ c l. one-book c);
+        tops = λ y. sum-exact (λ c. booked y (mCommit (γ .mind c) .top)) (λ c. outOf γ c y) (λ c. booked y (γ .mind c .base)) (λ c. gotOf γ c y) 8 (total y) (s .least y) (s .bases y) (out-got y)
+            (λ c l. one-book y c);
         prevs = λ e. s .tops;
       }
 

@@ -1,7 +1,7 @@
 -- A checkp compared: where its value is that of the receiver's register, all that was sent so far is what was taken, and where it is
 -- not, a packet of the line was hurt.
 use Prim.Native.Nat.{ℕ, zero, suc}
-use mathlib.Core.Path.{_≡_, refl, sym, ap, _∙_, subst}
+use mathlib.Core.Path.{_≡_, refl, sym, ap, _∙_, subst, fun-ext}
 use mathlib.Core.Logic.{_≢_, inl, ⊎-elim}
 use mathlib.Core.Bool.{Bool, true, false, not, _&&_, false≢true}
 use mathlib.Core.List.{List, [], _∷_, _++_, append-nil, nil≢cons}
@@ -9,6 +9,7 @@ use lib.ListN.{length, take, drop, take-append-drop}
 use lib.Seq.{drop-length}
 use native.Mathlib.Omega.{arith}
 use native.Mathlib.Decide.{ℕ-discrete}
+use Rattle.outlet.specs.declared.Party.{Party}
 use Rattle.packet.specs.declared.Check.{Check}
 use Rattle.packet.specs.declared.Payload.{Payload}
 use Rattle.packet.specs.declared.Packet.{Packet}
@@ -19,7 +20,7 @@ use Rattle.state.specs.declared.State.the-variants.{CheckpBegin, Recovered}
 use Rattle.image.specs.declared.Image.{Image}
 use Rattle.state.specs.State.{isIn, works}
 use Rattle.protocol.specs.History.{upd}
-use Rattle.claims.proofs.State.Fun.{never, is-true, is-false, and-true, and-intro, upd-elim, upd-same, upd-other, or-right, upd-id, kept-at, kept-pair}
+use Rattle.claims.proofs.State.Fun.{never, is-true, is-false, and-true, and-intro, upd-elim, upd-same, upd-other, or-right, upd-id, kept-at, kept-pair, same-at}
 use Rattle.claims.proofs.State.View.{View, Own, Side, used, setLine}
 use Rattle.claims.proofs.State.Methods.{sCompared}
 use Rattle.claims.proofs.State.ViewMoves.{vCompare}
@@ -87,12 +88,15 @@ module _ (b : Big) (c d : ℕ) (o : Own) (m : Mind) (p : Own) (n : Mind) (s t : 
         ∙ (ap checkOf (differ-none (subst (λ (y : Bool). Differ y (drop (w .ver) (w .sent)) (drop (w .ver) (w .taken))) f differing))
         ∙ sym (stream .reads))))
 
-    -- an equal one: what was sent is what was taken
+    -- an equal one: none was, and what was sent is what was taken
+    pub equal-pair : x ≡ t .took → (t .hurt ≡ false) × (drop (w .ver) (w .sent) ≡ drop (w .ver) (w .taken))
+    equal-pair equal =
+        equal-checks (t .hurt) _ _ differing (amounts-drop (w .ver) (w .sent) (h .small .0)) (amounts-drop (w .ver) (w .taken) (h .small .1 .0)) (fitting-drop (w .ver) (w .taken) (h .fit .1))
+        (sym sent-value ∙ (equal ∙ stream .reads))
+
     module _ (equal : x ≡ t .took) (begins : p .state ≡ CheckpBegin) (joined : n .joined ≡ true) where
       unhurt-equal : (t .hurt ≡ false) × (drop (w .ver) (w .sent) ≡ drop (w .ver) (w .taken))
-      unhurt-equal =
-          equal-checks (t .hurt) _ _ differing (amounts-drop (w .ver) (w .sent) (h .small .0)) (amounts-drop (w .ver) (w .taken) (h .small .1 .0)) (fitting-drop (w .ver) (w .taken) (h .fit .1))
-          (sym sent-value ∙ (equal ∙ stream .reads))
+      unhurt-equal = equal-pair equal
 
       pub equal-logs : w .sent ≡ w .taken
       equal-logs =
@@ -103,7 +107,10 @@ module _ (b : Big) (c d : ℕ) (o : Own) (m : Mind) (p : Own) (n : Mind) (s t : 
       -- nothing is on the way, and nothing was hurt
       pub equal-sums : (w .out ≡ w .got) × (w .hurt ≡ false)
       unfolding amountsIn amount
-      equal-sums = (omega (arith, stream .onWay (unhurt-equal .0), ap amount (ap amountsIn checkp-end)), sym (stream .tells) ∙ unhurt-equal .0)
+      equal-sums = (
+        fun-ext (λ y. omega (arith, stream .onWay (unhurt-equal .0) y, ap (amount y) (ap amountsIn checkp-end))),
+        sym (stream .tells) ∙ unhurt-equal .0,
+      )
 
       not-come : t .come ≡ false
       not-come = is-false (t .come) (λ e. never (comes e) checkp-open)
@@ -132,7 +139,7 @@ covered-stream w e f u = record {
   reads = sym (ap checkOf ended ∙ check-none);
   writes = sym (ap checkOf (drop-length (w .sent)) ∙ check-none);
   carries = λ v k x. absurd (no-checkp-end [] v k (count-none isCheckp) x);
-  onWay = λ x. omega arith;
+  onWay = λ x y. omega (arith, same-at f y);
   tells = sym u;
 }
   where
@@ -190,7 +197,7 @@ module _ (b : Big) (c d : ℕ) (o : Own) (m : Mind) (p : Own) (n : Mind) (s t : 
     room = λ u. omega arith;
     sound = λ e. refl;
     unhurt = λ e u. refl;
-    noMore = λ e. omega (arith, h .noMore e);
+    noMore = λ y e. omega (arith, h .noMore y e);
     small = (h .small .0, (h .small .1 .0, tt));
     fit = h .fit;
   }
@@ -206,7 +213,7 @@ compare-back b c d o m p n s t l w h =
 
 -- ---- together
 
-module _ (n total : ℕ) (v : View) (γ : Ghost) (i : Inv n total v γ) (a b : ℕ) (x : Check) (k : List Packet) (here : v .lines a b ≡ Checkp x ∷ k)
+module _ (n : ℕ) (total : Party → ℕ) (v : View) (γ : Ghost) (i : Inv n total v γ) (a b : ℕ) (x : Check) (k : List Packet) (here : v .lines a b ≡ Checkp x ∷ k)
     (un : unaware (γ .big) (v .own b) ≡ true) where
   abbrev pub Between : List Packet → Type 0
   Between l = Pair (γ .big) a b (v .own a) (γ .mind a) (v .own b) (γ .mind b) (v .side a b) (v .side b a) l (γ .wire a b)
@@ -217,6 +224,14 @@ module _ (n total : ℕ) (v : View) (γ : Ghost) (i : Inv n total v γ) (a b : �
   -- a checkp whose value is another
   pub unequal-hurt : x ≢ v .side b a .took → v .side b a .hurt ≡ true
   unequal-hurt = unequal-pair _ _ _ _ _ _ _ _ _ _ _ _ between _ (i .core .nodes a) un
+
+  -- one whose value is the register's
+  pub equal-unhurt : x ≡ v .side b a .took → v .side b a .hurt ≡ false
+  equal-unhurt e = equal-pair _ _ _ _ _ _ _ _ _ _ _ _ between _ (i .core .nodes a) un e .0
+
+  -- and the mark tells of all that was hurt since the last recovery's end
+  pub mark-tells : v .side b a .hurt ≡ γ .wire a b .hurt
+  mark-tells = stream _ _ _ _ _ _ _ _ _ _ _ _ between _ (i .core .nodes a) un .tells
 
   -- the ends of a line with a checkp are two
   pub checkp-other : b ≢ a

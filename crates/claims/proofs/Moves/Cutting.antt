@@ -7,6 +7,7 @@ use lib.Dec.{eqb}
 use borrow.Author.Tests.{eqb-true, eqb-false, eq-eqb}
 use native.Mathlib.Omega.{arith}
 use native.Mathlib.Decide.{ℕ-discrete}
+use Rattle.outlet.specs.declared.Party.{Party}
 use Rattle.packet.specs.declared.Packet.{Packet}
 use Rattle.state.specs.declared.State.{State}
 use Rattle.state.specs.declared.State.the-variants.{Normal, CheckpBegin, Checkpointing, Checkpointed, Recovered}
@@ -205,12 +206,12 @@ module _ (b : Big) (c : ℕ) (o : Own) (m : Mind) (z : Bool → Image) (h : Node
     sizes = (whole, h .sizes .1);
   }
 
-cut-books : (b : Big) (o : Own) (m : Mind) (out got : ℕ) → unaware b o ≡ true → Books b o m out got → Books b (oCut o) (mCut m (o .image)) out got
+cut-books : (b : Big) (o : Own) (m : Mind) (out got : Party → ℕ) → unaware b o ≡ true → Books b o m out got → Books b (oCut o) (mCut m (o .image)) out got
 cut-books b o m out got un h = record { bounded = h .bounded; live = λ u. h .live un; atCut = λ a e. h .live un }
 
 -- ---- together
 
-module _ (n total : ℕ) (v : View) (γ : Ghost) (i : Inv n total v γ) (c : ℕ) (un : unaware (γ .big) (v .own c) ≡ true)
+module _ (n : ℕ) (total : Party → ℕ) (v : View) (γ : Ghost) (i : Inv n total v γ) (c : ℕ) (un : unaware (γ .big) (v .own c) ≡ true)
     (begins : v .own c .state ≡ CheckpBegin) (whole : Pictured (v .own c .image))
     (all : (d : ℕ) → used (v .side c d) ≡ true → v .side c d .come ≡ true) where
   abbrev o′ : Own

@@ -1,13 +1,16 @@
 -- Kind 11, damage: a packet on a line is hurt while nobody recovers. A fail-safe packet becomes invalid; a normal one has another amount,
 -- and the receiver's hurt mark says so.
-use Prim.Native.Nat.{ℕ, zero, suc, _+_, _<_}
+use Prim.Native.Nat.{ℕ, zero, suc, _+_, _<_, _≤_}
 use mathlib.Core.Path.{_≡_, refl, sym, ap, _∙_, subst}
 use mathlib.Core.Logic.{_≢_}
-use mathlib.Core.Bool.{Bool, true, false, cond, not, false≢true, true≢false}
+use mathlib.Core.Bool.{Bool, true, false, cond, not, false≢true, true≢false, _||_}
 use mathlib.Core.List.{List, [], _∷_, _++_, nil≢cons}
 use lib.ListN.{getD, set}
 use native.Mathlib.Omega.{arith}
 use Rattle.marks.specs.Reach.{mark}
+use Rattle.outlet.specs.declared.Outlet.{Outlet}
+use Rattle.outlet.specs.declared.Party.{Party}
+use Rattle.outlet.specs.Outlet.{partyOf, sameParty}
 use Rattle.packet.specs.declared.PacketVersion.{PacketVersion}
 use Rattle.packet.specs.declared.OwnCheck.{OwnCheck}
 use Rattle.packet.specs.declared.OwnCheck.the-variants.{Unchecked, Checked}
@@ -16,7 +19,7 @@ use Rattle.packet.specs.declared.Payload.{Payload}
 use Rattle.packet.specs.declared.Check.{Check}
 use Rattle.packet.specs.declared.Packet.{Packet}
 use Rattle.packet.specs.declared.Packet.the-variants.{Empty, Normal as NormalPacket, Checkp, Resume, Recover, Fault, Invalid}
-use Rattle.packet.specs.Packet.{fits, isEmpty, isNormal, patternRight, hurtBy, damaged}
+use Rattle.packet.specs.Packet.{fits, isEmpty, isNormal, patternRight, hurtBy, damaged, isOf}
 use Rattle.packet.proofs.Bursts.{bursts-seen, amounts-change, outlet-kept, bounded}
 use Rattle.line.specs.Line.{packetAt, replaced}
 use Rattle.state.specs.declared.State.{State}
@@ -32,7 +35,7 @@ use Rattle.claims.proofs.State.View.{View, content, view, setLine}
 use Rattle.claims.proofs.State.Cells.{content-set}
 use Rattle.claims.proofs.State.Shape.{Shaped, Lined, Pictured, shaped}
 use Rattle.claims.proofs.State.Sim.{Fit, view-line}
-use Rattle.claims.proofs.Invariant.Facts.{Wire, Ghost, amountOf, amountsIn, count, isFault, isCheckp, isSafe, checkpLast, resumes, resumeFirst, Amounts, Fitting, Hurt, amount-changed, unfit, Differ, here, amount}
+use Rattle.claims.proofs.Invariant.Facts.{Wire, Ghost, amountOf, amountsIn, count, isFault, isCheckp, isSafe, checkpLast, resumes, resumeFirst, Amounts, Fitting, Hurt, amount-changed, unfit, Differ, here, amount, part}
 use Rattle.claims.proofs.Invariant.Whole.{Inv}
 use Rattle.claims.proofs.Invariant.Past.{Past, Kept, no-cuts, past-same}
 use Rattle.claims.proofs.Invariant.Logs.{head-eq, tail-eq}
@@ -40,7 +43,7 @@ use Rattle.claims.proofs.Invariant.Words.{nobody-recovers}
 use Rattle.claims.proofs.Invariant.Staying.{stays-none}
 use Rattle.claims.proofs.Invariant.States.{error-recovers}
 use Rattle.claims.proofs.Moves.Sending.{wire-kept}
-use Rattle.claims.proofs.Moves.Hurting.{Hit, resumes-later, differ-later, small-later, gUncalm, wHurt, vHit, gHit, hurt-inv, seen-mark, note-hit, hit-past}
+use Rattle.claims.proofs.Moves.Hurting.{Hit, resumes-later, differ-later, small-later, gUncalm, wHurt, vHit, gHit, hurt-inv, seen-mark, note-hit, hit-past, less-later}
 
 -- ---- a line with one packet damaged
 
@@ -131,6 +134,28 @@ amounts-hit [] k q e = refl
 amounts-hit (x ∷ l) zero q e = plain-amount x q (amountsIn l) e
 amounts-hit (x ∷ l) (suc k) q e = ap (amountOf x) (amounts-hit l k q e)
 
+-- damage leaves the outlet, so it leaves the amounts of the other party
+module _ (y : Party) (q : Pattern) where
+  no-part : (p : Payload) → sameParty (partyOf (p .outlet)) y ≡ false → part y p ≡ 0
+  no-part p e = rw e
+
+  first-less : (x : Packet) (r : List Payload) → isOf y x ≡ false → amount y (amountOf (damaged x q) r) ≤ amount y (amountOf x r)
+  unfolding amount
+  first-less Empty r e = omega arith
+  first-less (NormalPacket p) r e =
+      omega (arith, no-part p e, no-part (hurtBy p q) (ap (λ (o : Outlet). sameParty (partyOf o) y) (sym (outlet-kept p q)) ∙ e))
+  first-less (Checkp v) r e = omega arith
+  first-less Resume r e = omega arith
+  first-less (Recover v) r e = omega arith
+  first-less (Fault p) r e = omega arith
+  first-less Invalid r e = omega arith
+
+  less-hit : (l : List Packet) (k : ℕ) → isOf y (getD l k Empty) ≡ false → amount y (amountsIn (hit l k q)) ≤ amount y (amountsIn l)
+  unfolding amountsIn
+  less-hit [] k e = omega arith
+  less-hit (x ∷ l) zero e = first-less x (amountsIn l) e
+  less-hit (x ∷ l) (suc k) e = less-later y x (amountsIn (hit l k q)) (amountsIn l) (less-hit l k e)
+
 -- what damage that is taken leaves of a packet that fitted
 hurts : (v : PacketVersion) (p : Payload) (q : Pattern) → q .mask < 65536 → patternRight v q ≡ true → fits p ≡ true → Hurt p (hurtBy p q)
 hurts v p q s r f = go (p .own) refl
@@ -213,9 +238,13 @@ still-clean : (t c : Bool) → cond t false c ≡ true → (t ≡ false) × (c �
 still-clean true c e = absurd (false≢true e)
 still-clean false c e = (refl, e)
 
+damaged-now : (t c d : Bool) → d ≡ not c → (t || d) ≡ not (cond t false c)
+damaged-now true c d e = refl
+damaged-now false c d e = e
+
 -- ---- the step
 
-module _ (total : ℕ) (g : Group) (h : History) (γ : Ghost) (w : Fit g) (i : Inv (g .n) total (view g) γ) (past : Past (g .n) (view g) γ h)
+module _ (total : Party → ℕ) (g : Group) (h : History) (γ : Ghost) (w : Fit g) (i : Inv (g .n) total (view g) γ) (past : Past (g .n) (view g) γ h)
     (a b p : ℕ) (q : Pattern) (la : a < 8) (lb : b < 8) (lq : q .mask < 65536) (fine : damageRefusal g a b p q ≡ 0) (still : some (recoveringOnes g) ≡ false) where
   abbrev old : Packet
   old = packetAt (line g a b) p
@@ -239,8 +268,11 @@ module _ (total : ℕ) (g : Group) (h : History) (γ : Ghost) (w : Fit g) (i : I
   full-there : isEmpty (getD (v .lines a b) p Empty) ≡ false
   full-there = ap isEmpty (lined .1) ∙ met .0
 
+  abbrev there : Packet
+  there = getD (v .lines a b) p Empty
+
   abbrev normal : Bool
-  normal = isNormal (getD (v .lines a b) p Empty)
+  normal = isNormal there
 
   not-twice : normal ≡ true → v .side b a .hurt ≡ false
   not-twice e = is-false (v .side b a .hurt) (λ f. never (and-intro (ap isNormal (sym (lined .1)) ∙ e) f) (met .2))
@@ -248,9 +280,9 @@ module _ (total : ℕ) (g : Group) (h : History) (γ : Ghost) (w : Fit g) (i : I
   hits : Hit normal (v .lines a b) (hit (v .lines a b) p q)
   hits = damage-hits (g .packets) (v .lines a b) p q lq (met .1) full-there
 
-  -- no longer clean where the packet is normal
-  abbrev clean′ : Bool → Bool
-  clean′ t = cond t false (γ .big .clean)
+  -- no longer clean for the party of the packet, where it is normal
+  abbrev clean′ : Packet → Party → Bool
+  clean′ x y = cond (isOf y x) false (γ .big .clean y)
 
   abbrev g1 : Group
   g1 = withLine g a b (replaced (line g a b) p (damaged old q))
@@ -273,26 +305,37 @@ module _ (total : ℕ) (g : Group) (h : History) (γ : Ghost) (w : Fit g) (i : I
   state-kept : (c : ℕ) → view g′ .own c .state ≡ v .own c .state
   state-kept c = ap (λ (x : View). x .own c .state) seen
 
-  abbrev δ : Bool → Ghost
-  δ t = gHit (gUncalm γ (clean′ t)) a b t
+  abbrev δ : Packet → Ghost
+  δ x = gHit (gUncalm γ (clean′ x)) a b (isNormal x)
 
-  kept-inv : Inv (g .n) total (vHit v a b (isNormal old) (hit (v .lines a b) p q)) (δ (isNormal old))
+  kept-inv : Inv (g .n) total (vHit v a b (isNormal old) (hit (v .lines a b) p q)) (δ old)
   kept-inv =
-      subst (λ (t : Bool). Inv (g .n) total (vHit v a b t (hit (v .lines a b) p q)) (δ t)) (ap isNormal (lined .1))
-      (hurt-inv (g .n) total v γ i (nobody-recovers g w still) a b normal (clean′ normal) _ hits not-twice
-      (λ e. still-clean normal (γ .big .clean) e .1) (λ e. omega (arith, ap amount (amounts-hit (v .lines a b) p q (still-clean normal (γ .big .clean) e .0)))))
+      subst (λ (x : Packet). Inv (g .n) total (vHit v a b (isNormal x) (hit (v .lines a b) p q)) (δ x)) (lined .1)
+      (hurt-inv (g .n) total v γ i (nobody-recovers g w still) a b normal (clean′ there) _ hits not-twice
+      (λ y e. still-clean (isOf y there) (γ .big .clean y) e .1) (λ y e. less-hit y q (v .lines a b) p (still-clean (isOf y there) (γ .big .clean y) e .0)))
 
-  past-mark : (t : Bool) → Past (g .n) (view g′) (δ t) (noteDamage t h a b)
-  past-mark true = hit-past (past-same state-kept past) a b true false true _ refl (note-hit past a b)
-  past-mark false =
+  -- a fail-safe packet is of no party
+  past-safe : Past (g .n) (view g′) (δ Invalid) h
+  past-safe =
       hit-past (past-same state-kept past) a b false (γ .big .clean) (h .damaged) (h .hurt) (past .damaged)
       (λ c d. past .hurt c d ∙ sym (wire-kept (λ (y : Wire). y .hurt) γ a b (wHurt false (γ .wire a b)) refl c d))
 
-  pub keeps-damage : Kept total g γ g′ (noteCuts (noteDamage (isNormal (packetAt (line g a b) p)) h a b) g g′)
+  past-mark : (x : Packet) → Past (g .n) (view g′) (δ x) (noteDamage x h a b)
+  past-mark Empty = past-safe
+  past-mark (NormalPacket r) =
+      hit-past (past-same state-kept past) a b true (clean′ (NormalPacket r)) (noteDamage (NormalPacket r) h a b .damaged) _
+      (λ y. damaged-now (isOf y (NormalPacket r)) (γ .big .clean y) (h .damaged y) (past .damaged y)) (note-hit past a b)
+  past-mark (Checkp c) = past-safe
+  past-mark Resume = past-safe
+  past-mark (Recover c) = past-safe
+  past-mark (Fault c) = past-safe
+  past-mark Invalid = past-safe
+
+  pub keeps-damage : Kept total g γ g′ (noteCuts (noteDamage (packetAt (line g a b) p) h a b) g g′)
   keeps-damage = record {
-    ghost = δ (isNormal old);
-    inv = subst (λ (x : View). Inv (g .n) total x (δ (isNormal old))) (sym seen) kept-inv;
-    past = rw (no-cuts (noteDamage (isNormal old) h a b) g g′ (λ c e. ap (λ (s : State). isIn s Checkpointing) (sym (state-kept c)) ∙ e)) (past-mark (isNormal old));
-    stays = stays-none v γ (view g′) (δ (isNormal old)) (nobody-recovers g w still) (λ c e. ap works (state-kept c) ∙ e)
+    ghost = δ old;
+    inv = subst (λ (x : View). Inv (g .n) total x (δ old)) (sym seen) kept-inv;
+    past = rw (no-cuts (noteDamage old h a b) g g′ (λ c e. ap (λ (s : State). isIn s Checkpointing) (sym (state-kept c)) ∙ e)) (past-mark old);
+    stays = stays-none v γ (view g′) (δ old) (nobody-recovers g w still) (λ c e. ap works (state-kept c) ∙ e)
         (λ c e. absurd (never (error-recovers (v .own c .state) (ap (λ (s : State). isIn s Error) (sym (state-kept c)) ∙ e)) (nobody-recovers g w still c)));
   }

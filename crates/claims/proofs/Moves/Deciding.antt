@@ -8,6 +8,7 @@ use mathlib.Core.Bool.{Bool, true, false, cond, not, _&&_, false≢true}
 use lib.Dec.{eqb}
 use borrow.Author.Tests.{eqb-true, eqb-false, ne-eqb}
 use native.Mathlib.Omega.{arith}
+use Rattle.outlet.specs.declared.Party.{Party}
 use Rattle.packet.specs.declared.Place.{Place}
 use Rattle.packet.specs.declared.Place.the-variants.{Tripped as AtTripped}
 use Rattle.state.specs.declared.State.the-variants.{Error}
@@ -32,7 +33,7 @@ chief γ = γ .big .chief
 
 -- ---- a cabinet whose fault was its coordinator
 
-module _ (n total : ℕ) (v : View) (γ : Ghost) (i : Inv n total v γ) (c : ℕ) (aw : awareOf v γ c ≡ true) (was : v .own c .former ≡ true) where
+module _ (n : ℕ) (total : Party → ℕ) (v : View) (γ : Ghost) (i : Inv n total v γ) (c : ℕ) (aw : awareOf v γ c ≡ true) (was : v .own c .former ≡ true) where
   abbrev place : (q : Place) × (v .own c .alarm ≡ At q)
   place = i .core .nodes c .placeKnown aw
 
@@ -56,7 +57,7 @@ module _ (n total : ℕ) (v : View) (γ : Ghost) (i : Inv n total v γ) (c : ℕ
   led-on = i .core .leads c .moved aw (place .0) (place .1) .1 ∙ ap (λ (t : Bool). cond t (γ .big .heir) (chief γ)) at-chief
 
 -- who is another, and works
-module _ (n total : ℕ) (v : View) (γ : Ghost) (i : Inv n total v γ) (lost : γ .big .alive ≡ false) where
+module _ (n : ℕ) (total : Party → ℕ) (v : View) (γ : Ghost) (i : Inv n total v γ) (lost : γ .big .alive ≡ false) where
   -- the home of the lost one
   another : (y : ℕ) × (y < 8) × (y ≢ chief γ) × (tabOf γ y ≡ true)
   another =
@@ -79,7 +80,7 @@ module _ (n total : ℕ) (v : View) (γ : Ghost) (i : Inv n total v γ) (lost : 
 
 -- ---- the old version names the save that the rule gives
 
-module _ (n total : ℕ) (v : View) (γ : Ghost) (i : Inv n total v γ) (chief-lost : γ .big .alive ≡ false)
+module _ (n : ℕ) (total : Party → ℕ) (v : View) (γ : Ghost) (i : Inv n total v γ) (chief-lost : γ .big .alive ≡ false)
     (is-unsure : (c : ℕ) → workOf v c ≡ true → isUnknown (v .own c .version) ≡ true) (a : ℕ) (a-works : workOf v a ≡ true) (not-chief : a ≢ γ .big .chief) where
   -- another than the coordinator has its old version
   old-one : (c : ℕ) → workOf v c ≡ true → c ≢ chief γ → (x : Bool) × (v .own c .version ≡ Unknown x)
@@ -119,7 +120,7 @@ module _ (n total : ℕ) (v : View) (γ : Ghost) (i : Inv n total v γ) (chief-l
 -- ---- it goes on with it
 
 -- a coordinator that is not unaware commits nothing
-freeze-core : (n total : ℕ) (v : View) (γ : Ghost) → Core n total v γ → unaware (γ .big) (v .own (γ .big .chief)) ≡ false → Core n total v (gFrozen γ)
+freeze-core : (n : ℕ) (total : Party → ℕ) (v : View) (γ : Ghost) → Core n total v γ → unaware (γ .big) (v .own (γ .big .chief)) ≡ false → Core n total v (gFrozen γ)
 freeze-core n total v γ i e = record {
   pairs = λ c d. frozen-pair _ _ _ _ _ _ _ _ _ _ _ _ (i .pairs c d);
   nodes = λ c. frozen-node _ _ _ _ _ _ (λ f. refl) (i .nodes c);
@@ -130,7 +131,7 @@ freeze-core n total v γ i e = record {
   sums = i .sums;
 }
 
-pub decided-inv : (n total : ℕ) (v : View) (γ : Ghost) → Inv n total v γ → γ .big .alive ≡ false → (a : ℕ) → awareOf v γ a ≡ true → v .own a .state ≡ Error
+pub decided-inv : (n : ℕ) (total : Party → ℕ) (v : View) (γ : Ghost) → Inv n total v γ → γ .big .alive ≡ false → (a : ℕ) → awareOf v γ a ≡ true → v .own a .state ≡ Error
     → Inv n total (vRecover v a (γ .big .topv)) (gFrozen γ)
 decided-inv n total v γ i lost a aw error =
     recover-inv n total v (gFrozen γ)

@@ -8,6 +8,7 @@ use lib.ListN.{getD}
 use native.Mathlib.Omega.{arith}
 use Rattle.marks.specs.Marks.{marked}
 use Rattle.marks.specs.Reach.{struck, connected}
+use Rattle.outlet.specs.declared.Party.{Party}
 use Rattle.packet.specs.declared.Payload.{Payload}
 use Rattle.packet.specs.declared.Check.{Check}
 use Rattle.packet.specs.declared.Place.{Place}
@@ -69,7 +70,7 @@ some-invalid : (l : List Packet) → count isInvalid (Invalid ∷ l) ≡ 0 → �
 unfolding count
 some-invalid l e = omega arith
 
-module _ (total : ℕ) (g : Group) (h : History) (γ : Ghost) (w : Fit g) (i : Inv (g .n) total (view g) γ) (past : Past (g .n) (view g) γ h)
+module _ (total : Party → ℕ) (g : Group) (h : History) (γ : Ghost) (w : Fit g) (i : Inv (g .n) total (view g) γ) (past : Past (g .n) (view g) γ h)
     (a b : ℕ) (la : a < 8) (lb : b < 8) (full : isEmpty (oldest (line g a b)) ≡ false) where
   abbrev p : Packet
   p = oldest (line g a b)

@@ -8,6 +8,7 @@ use mathlib.Core.List.{List, [], _∷_, _++_, nil≢cons}
 use lib.ListN.{drop}
 use native.Mathlib.Omega.{arith}
 use native.Mathlib.Decide.{ℕ-discrete}
+use Rattle.outlet.specs.declared.Party.{Party}
 use Rattle.packet.specs.declared.Payload.{Payload}
 use Rattle.packet.specs.declared.Packet.{Packet}
 use Rattle.packet.specs.declared.Packet.the-variants.{Recover}
@@ -44,7 +45,7 @@ module _ (b : Big) (c d : ℕ) (o : Own) (m : Mind) (p : Own) (n : Mind) (s t : 
         reads = f .reads;
         writes = f .writes;
         carries = λ v r e. f .carries v (x ∷ r) (ap (λ (y : List Packet). x ∷ y) e);
-        onWay = λ e. omega (arith, f .onWay e, ap amount (amounts-rest x k plain));
+        onWay = λ e y. omega (arith, f .onWay e y, ap (amount y) (amounts-rest x k plain));
         tells = f .tells;
       }
 
@@ -85,7 +86,7 @@ module _ (b : Big) (c d : ℕ) (o : Own) (m : Mind) (p : Own) (n : Mind) (s t : 
     room = λ u. omega (arith, h .room u);
     sound = λ e. count-rest isInvalid x k (h .sound e);
     unhurt = h .unhurt;
-    noMore = λ e. omega (arith, h .noMore e, amount-rest x k);
+    noMore = λ y e. omega (arith, h .noMore y e, amount-rest y x k);
     small = (h .small .0, (h .small .1 .0, small-rest x k (h .small .1 .1)));
     fit = h .fit;
   }
@@ -93,7 +94,7 @@ module _ (b : Big) (c d : ℕ) (o : Own) (m : Mind) (p : Own) (n : Mind) (s t : 
 -- ---- the group
 
 -- a line may be changed where its pair is told anew: no other fact reads it
-module _ (n total : ℕ) (v : View) (γ : Ghost) (i : Inv n total v γ) (a b : ℕ) (k : List Packet)
+module _ (n : ℕ) (total : Party → ℕ) (v : View) (γ : Ghost) (i : Inv n total v γ) (a b : ℕ) (k : List Packet)
     (here : Pair (γ .big) a b (v .own a) (γ .mind a) (v .own b) (γ .mind b) (v .side a b) (v .side b a) k (γ .wire a b)) where
   line-pairs : (c d : ℕ) → PairAt (setLine v a b k) γ c d
   line-pairs c d = elim (ℕ-discrete c a) [
@@ -111,7 +112,7 @@ module _ (n total : ℕ) (v : View) (γ : Ghost) (i : Inv n total v γ) (a b : �
     meets = i .meets;
   }
 
-module _ (n total : ℕ) (v : View) (γ : Ghost) (i : Inv n total v γ) (a b : ℕ) (p : Packet) (k : List Packet) (e : v .lines a b ≡ p ∷ k) where
+module _ (n : ℕ) (total : Party → ℕ) (v : View) (γ : Ghost) (i : Inv n total v γ) (a b : ℕ) (p : Packet) (k : List Packet) (e : v .lines a b ≡ p ∷ k) where
   -- the pair as the packet still stands on its line
   pub head-pair : Pair (γ .big) a b (v .own a) (γ .mind a) (v .own b) (γ .mind b) (v .side a b) (v .side b a) (p ∷ k) (γ .wire a b)
   head-pair =
@@ -126,7 +127,7 @@ module _ (n total : ℕ) (v : View) (γ : Ghost) (i : Inv n total v γ) (a b : �
 
 -- ---- the step
 
-module _ (total : ℕ) (g : Group) (h : History) (γ : Ghost) (w : Fit g) (i : Inv (g .n) total (view g) γ) (past : Past (g .n) (view g) γ h)
+module _ (total : Party → ℕ) (g : Group) (h : History) (γ : Ghost) (w : Fit g) (i : Inv (g .n) total (view g) γ) (past : Past (g .n) (view g) γ h)
     (a b : ℕ) (la : a < 8) (lb : b < 8) (full : isEmpty (oldest (line g a b)) ≡ false) where
   abbrev g′ : Group
   g′ = withLine g a b (rest (line g a b))

@@ -7,6 +7,7 @@ use mathlib.Core.List.{List, []}
 use lib.Dec.{eqb, ltb}
 use borrow.Author.Tests.{eqb-true, eq-eqb, ltb-false}
 use native.Mathlib.Omega.{arith}
+use Rattle.outlet.specs.declared.Party.{Party}
 use Rattle.packet.specs.declared.Packet.{Packet}
 use Rattle.protocol.specs.History.{upd}
 use Rattle.claims.proofs.State.Fun.{never, is-false, and-true, cond-elim, upd-same, upd-other}
@@ -14,7 +15,7 @@ use Rattle.claims.proofs.State.View.{View}
 use Rattle.claims.proofs.Invariant.Facts.{Ghost}
 use Rattle.claims.proofs.Invariant.Whole.{Core, workOf}
 
-module _ (n total : ℕ) (v : View) (γ : Ghost) (i : Core n total v γ) (a : ℕ) (row : ℕ → List Packet) where
+module _ (n : ℕ) (total : Party → ℕ) (v : View) (γ : Ghost) (i : Core n total v γ) (a : ℕ) (row : ℕ → List Packet) where
   abbrev lines′ : ℕ → ℕ → List Packet
   lines′ c d = cond (ltb c 8 && eqb d a) [] (upd (v .lines) a row c d)
 

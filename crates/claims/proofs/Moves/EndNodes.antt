@@ -12,7 +12,7 @@ use Rattle.state.specs.State.{isIn, works, isUnknown, bitOf}
 use Rattle.claims.proofs.State.Fun.{never}
 use Rattle.claims.proofs.State.View.{Own}
 use Rattle.claims.proofs.Invariant.States.{failed-state, other-state}
-use Rattle.claims.proofs.Invariant.Facts.{Big, Mind, Node, Books, Lead, aware, unaware}
+use Rattle.claims.proofs.Invariant.Facts.{Big, Mind, Node, Books, Lead, aware, unaware, nothing}
 use Rattle.claims.proofs.Invariant.Words.{un-works}
 use Rattle.claims.proofs.Moves.Rousing.{oResumed}
 use Rattle.claims.proofs.Moves.EndPairs.{bEnd, mEnd}
@@ -144,10 +144,10 @@ module _ (b : Big) (k x c : ℕ) (o : Own) (m : Mind) (z : Bool → Image) (h : 
   }
 
   -- the books start anew, from the image of the save
-  pub ended-books : (p : Own) → p .image ≡ o .image → (unaware b′ p ≡ true → works (o .state) ≡ true) → Books b′ p m′ 0 0
+  pub ended-books : (p : Own) → p .image ≡ o .image → (unaware b′ p ≡ true → works (o .state) ≡ true) → Books b′ p m′ nothing nothing
   ended-books p e wo = record {
-    bounded = omega arith;
-    live = λ u. (0, rw (e, h .restored (knows (wo u)) (rec (wo u)) .0) (omega arith));
+    bounded = λ y. omega arith;
+    live = λ u y. (0, rw (e, h .restored (knows (wo u)) (rec (wo u)) .0) (omega arith));
     atCut = λ a x. absurd (false≢true x);
   }
 

@@ -18,14 +18,14 @@ use Rattle.state.specs.State.{isIn, works, inSaving}
 use Rattle.claims.proofs.State.Fun.{never, and-true, and-intro}
 use Rattle.claims.proofs.State.View.{Own, Side, used}
 use Rattle.claims.proofs.State.Methods.{hitsCabinet, hitsLink}
-use Rattle.claims.proofs.Invariant.Facts.{Big, Mind, Wire, Pair, Stream, Alarms, aware, unaware, linked, behind, closed, amountsIn, count, isFault, Amounts, Fitting, same, amount}
+use Rattle.claims.proofs.Invariant.Facts.{Big, Mind, Wire, Pair, Stream, Alarms, aware, unaware, linked, behind, closed, amountsIn, count, isFault, Amounts, Fitting, same, amount, nothing}
 use Rattle.claims.proofs.Invariant.Logs.{check-none, Short, Bare, short-bare, no-checkp-end}
 use Rattle.claims.proofs.Invariant.Words.{un-works, un-not-aware}
 
 -- ---- the ghost as a recovery's end leaves it
 
 abbrev pub bEnd : Big → ℕ → ℕ → Big
-bEnd b k x = record { faulted = false; topv = b .topv; adopted = true; chief = k; heir = x; alive = true; begun = false; frozen = false; calm = true; clean = true }
+bEnd b k x = record { faulted = false; topv = b .topv; adopted = true; chief = k; heir = x; alive = true; begun = false; frozen = false; calm = true; clean = λ y. true }
 
 abbrev pub mEnd : Mind → Bool → Mind
 mEnd m t = record {
@@ -42,7 +42,7 @@ mEnd m t = record {
 }
 
 abbrev pub wEnd : Bool → Wire
-wEnd t = record { sent = []; taken = []; ver = 0; out = 0; got = 0; hurt = false; lk = t }
+wEnd t = record { sent = []; taken = []; ver = 0; out = nothing; got = nothing; hurt = false; lk = t }
 
 -- ---- what is left on a line: at most a recover
 
@@ -137,7 +137,7 @@ module _ (b : Big) (k x : ℕ) (q : Place) (c d : ℕ) (o : Own) (m : Mind) (p :
         reads = e .1 ∙ sym check-none;
         writes = f .0 ∙ sym check-none;
         carries = λ x j y. absurd (no-checkp-end l x j (bare .checkps) y);
-        onWay = λ x. omega (arith, ap amount (bare .none));
+        onWay = λ x y. omega (arith, ap (amount y) (bare .none));
         tells = e .2;
       }
 
@@ -178,7 +178,7 @@ module _ (b : Big) (k x : ℕ) (q : Place) (c d : ℕ) (o : Own) (m : Mind) (p :
     room = λ u. omega (arith, bare .safe);
     sound = λ e. bare .invalids;
     unhurt = λ e u. fresh-back (p-works u) .2;
-    noMore = λ e. omega (arith, ap amount (bare .none));
+    noMore = λ y e. omega (arith, ap (amount y) (bare .none));
     small = (tt, (tt, small-line));
     fit = (tt, tt);
   }

@@ -1,7 +1,7 @@
 -- The end of a recovery: with restored reports of all in its table the coordinator finds every working cabinet recovered, for one
 -- fault place and with one table; from then on the group is as at the start, from the images of the save that the rule gives.
 use Prim.Native.Nat.{ℕ, _<_}
-use mathlib.Core.Path.{_≡_, refl, sym, ap, _∙_, subst}
+use mathlib.Core.Path.{_≡_, refl, sym, ap, _∙_, subst, fun-ext}
 use mathlib.Core.Logic.{_≢_, inl}
 use mathlib.Core.Bool.{Bool, true, false, not, _&&_, _||_, true≢false, false≢true}
 use mathlib.Core.List.{List}
@@ -9,6 +9,7 @@ use lib.Dec.{eqb}
 use borrow.Author.Tests.{eqb-true, eq-eqb, ne-eqb}
 use native.Mathlib.Omega.{arith}
 use native.Mathlib.Decide.{decLt}
+use Rattle.outlet.specs.declared.Party.{Party}
 use Rattle.packet.specs.declared.Place.{Place}
 use Rattle.packet.specs.declared.Place.the-variants.{Failed as AtFailed, Link as AtLink}
 use Rattle.packet.specs.declared.Packet.{Packet}
@@ -25,7 +26,7 @@ use Rattle.claims.proofs.State.View.{View, Own, Side, used}
 use Rattle.claims.proofs.State.Leading.{nextOver}
 use Rattle.claims.proofs.State.Methods.{sCleared, hitsCabinet, hitsLink}
 use Rattle.claims.proofs.Answers.Tests.{fault-for}
-use Rattle.claims.proofs.Invariant.Facts.{Big, Mind, Ghost, Pair, Books, unaware}
+use Rattle.claims.proofs.Invariant.Facts.{Big, Mind, Ghost, Pair, Books, unaware, nothing}
 use Rattle.claims.proofs.Invariant.Whole.{Ground, Place-of, failed, tripped, faulty, Places, Inv, PairAt, NodeAt, BooksAt, LeadAt, workOf, awareOf, alarmOf, outOf, gotOf, GroundOf, PlacesOf, MeetsOf, ChainOf, SumsOf}
 use Rattle.claims.proofs.Invariant.Logs.{resumedBy}
 use Rattle.claims.proofs.Invariant.Words.{un-works, aware-works, used-linked}
@@ -70,7 +71,7 @@ hits-link x y = rw (eq-eqb x x refl, eq-eqb y y refl)
 hits-back : (x y : ℕ) → x < y → hitsLink (AtLink x y) y x ≡ true
 hits-back x y l = rw (ne-eqb y x (omega arith), eq-eqb x x refl, eq-eqb y y refl)
 
-module _ (n total : ℕ) (v : View) (γ : Ghost) (i : Inv n total v γ) (k : ℕ) (aw : awareOf v γ k ≡ true)
+module _ (n : ℕ) (total : Party → ℕ) (v : View) (γ : Ghost) (i : Inv n total v γ) (k : ℕ) (aw : awareOf v γ k ≡ true)
     (all : (j : ℕ) → v .side k j .cab ≡ true → v .side k j .restored ≡ true) where
   abbrev b : Big
   b = γ .big
@@ -249,23 +250,23 @@ module _ (n total : ℕ) (v : View) (γ : Ghost) (i : Inv n total v γ) (k : ℕ
 
   -- ---- all facts together
 
-  nothing-out : (c : ℕ) → outOf γ′ c ≡ 0
-  nothing-out c = sum-zero (λ d. 0) 8 (λ j l. refl)
+  nothing-out : (c : ℕ) → outOf γ′ c ≡ nothing
+  nothing-out c = fun-ext (λ y. sum-zero (λ d. 0) 8 (λ j l. refl))
 
-  nothing-got : (c : ℕ) → gotOf γ′ c ≡ 0
-  nothing-got c = sum-zero (λ d. 0) 8 (λ j l. refl)
+  nothing-got : (c : ℕ) → gotOf γ′ c ≡ nothing
+  nothing-got c = fun-ext (λ y. sum-zero (λ d. 0) 8 (λ j l. refl))
 
-  ended-book : (c : ℕ) → Books (bEnd b k x′) (upd (v .own) k o′ c) (γ′ .mind c) 0 0
+  ended-book : (c : ℕ) → Books (bEnd b k x′) (upd (v .own) k o′ c) (γ′ .mind c) nothing nothing
   ended-book c =
-      upd-elim (λ (p : Own). Books (bEnd b k x′) p (γ′ .mind c) 0 0) (v .own) k o′ c
-      (λ e. subst (λ (j : ℕ). Books (bEnd b k x′) o′ (γ′ .mind j) 0 0) (sym e)
+      upd-elim (λ (p : Own). Books (bEnd b k x′) p (γ′ .mind c) nothing nothing) (v .own) k o′ c
+      (λ e. subst (λ (j : ℕ). Books (bEnd b k x′) o′ (γ′ .mind j) nothing nothing) (sym e)
       (ended-books b k x′ k (v .own k) (γ .mind k) (v .slots k) (i .core .nodes k) (all-aware k) (all-recovered k) o′ refl (λ u. wk)))
       (λ n. ended-books b k x′ c (v .own c) (γ .mind c) (v .slots c) (i .core .nodes c) (all-aware c) (all-recovered c) (v .own c) refl (un-works (bEnd b k x′) (v .own c)))
 
   ended-bookss : (c : ℕ) → BooksAt v′ γ′ c
   ended-bookss c =
-      subst (λ (x : ℕ). Books (bEnd b k x′) (upd (v .own) k o′ c) (γ′ .mind c) x (gotOf γ′ c)) (sym (nothing-out c))
-      (subst (λ (x : ℕ). Books (bEnd b k x′) (upd (v .own) k o′ c) (γ′ .mind c) 0 x) (sym (nothing-got c)) (ended-book c))
+      subst (λ (x : Party → ℕ). Books (bEnd b k x′) (upd (v .own) k o′ c) (γ′ .mind c) x (gotOf γ′ c)) (sym (nothing-out c))
+      (subst (λ (x : Party → ℕ). Books (bEnd b k x′) (upd (v .own) k o′ c) (γ′ .mind c) nothing x) (sym (nothing-got c)) (ended-book c))
 
   work-same : workOf v′ ≡ workOf v
   work-same = kept (λ (x : Own). works (x .state)) (v .own) k o′ (sym wk)

@@ -7,6 +7,7 @@ use mathlib.Core.List.{List, [], _∷_}
 use borrow.Author.Tests.{ne-eqb, eq-eqb, eqb-true}
 use native.Mathlib.Omega.{arith}
 use native.Mathlib.Decide.{ℕ-discrete}
+use Rattle.outlet.specs.declared.Party.{Party}
 use Rattle.packet.specs.declared.Place.{Place}
 use Rattle.packet.specs.declared.Place.the-variants.{Failed as AtFailed, Tripped as AtTripped, Link as AtLink}
 use Rattle.packet.specs.declared.Packet.{Packet}
@@ -100,7 +101,7 @@ module _ (b : Big) (c d : ℕ) (o : Own) (m : Mind) (p : Own) (n : Mind) (s t : 
         room = no;
         sound = λ e. erred-sound (o .version) q (used s′);
         unhurt = h .unhurt;
-        noMore = λ e. omega (arith, h .noMore e, ap amount (erred-bare (o .version) q (used s′)));
+        noMore = λ y e. omega (arith, h .noMore y e, ap (amount y) (erred-bare (o .version) q (used s′)));
         small = (h .small .0, (h .small .1 .0, rw (erred-bare (o .version) q (used s′)) tt));
         fit = h .fit;
       }
@@ -172,7 +173,7 @@ module _ (b : Big) (c d : ℕ) (o : Own) (m : Mind) (p : Own) (n : Mind) (s t : 
 pub frozen-node : (b : Big) (k : Bool) (c : ℕ) (o : Own) (m : Mind) (z : Bool → Image) → (b .frozen ≡ true → k ≡ true) → Node b c o m z → Node (bFrozen b k) c o m z
 frozen-node b k c o m z f h = let kn : aware b o ≡ true → isUnknown (o .version) ≡ false → k ≡ true = λ a e. f (h .knows a e) in search
 
-pub frozen-books : (b : Big) (k : Bool) (o : Own) (m : Mind) (out got : ℕ) → Books b o m out got → Books (bFrozen b k) o m out got
+pub frozen-books : (b : Big) (k : Bool) (o : Own) (m : Mind) (out got : Party → ℕ) → Books b o m out got → Books (bFrozen b k) o m out got
 frozen-books b k o m out got h = record { bounded = h .bounded; live = h .live; atCut = h .atCut }
 
 module _ (b : Big) (c : ℕ) (o : Own) (m : Mind) (z : Bool → Image) (h : Node b c o m z) (fault : b .faulted ≡ true) (un : unaware b o ≡ true) (q : Place) (y : ℕ) where
@@ -249,12 +250,12 @@ module _ (b : Big) (c : ℕ) (o : Own) (m : Mind) (z : Bool → Image) (h : Node
       no : {A : Type 0} → unaware b (oErred o q y) ≡ true → A
       no = not-calm b fault o q y
 
-  erred-books : (out got : ℕ) → Books b o m out got → Books (bFrozen b (b .frozen || not (isUnknown (o .version)))) (oErred o q y) m out got
+  erred-books : (out got : Party → ℕ) → Books b o m out got → Books (bFrozen b (b .frozen || not (isUnknown (o .version)))) (oErred o q y) m out got
   erred-books out got k = record { bounded = k .bounded; live = λ u. not-calm b fault o q y u; atCut = k .atCut }
 
 -- ---- together
 
-module _ (n total : ℕ) (v : View) (γ : Ghost) (i : Core n total v γ) (c : ℕ) (un : unaware (γ .big) (v .own c) ≡ true) (fault : γ .big .faulted ≡ true) (q : Place)
+module _ (n : ℕ) (total : Party → ℕ) (v : View) (γ : Ghost) (i : Core n total v γ) (c : ℕ) (un : unaware (γ .big) (v .own c) ≡ true) (fault : γ .big .faulted ≡ true) (q : Place)
     (other : isAt q c ≡ false) (meets : (d : ℕ) → used (sAlarmed q c d (v .side c d)) ≡ true → workOf v d ≡ true) where
   abbrev y′ : ℕ
   y′ = leadAfter v c q
@@ -460,7 +461,7 @@ module _ (v : View) (γ : Ghost) (c : ℕ) (un : unaware (γ .big) (v .own c) �
   error-places-at = subst (λ (u : View). PlacesOf (setSound u sound) ε) (sym (error-seen v c q)) erred-places
 
 -- a cabinet that is not in error, recovering or recovered enters error
-pub enter-core : (n total : ℕ) (v : View) (γ : Ghost) → Core n total v γ → (γ .big .faulted ≡ false → (j : ℕ) → inRecovery (v .own j .state) ≡ false)
+pub enter-core : (n : ℕ) (total : Party → ℕ) (v : View) (γ : Ghost) → Core n total v γ → (γ .big .faulted ≡ false → (j : ℕ) → inRecovery (v .own j .state) ≡ false)
     → (c : ℕ) → works (v .own c .state) ≡ true → inRecovery (v .own c .state) ≡ false → (q : Place) → isAt q c ≡ false
     → ((d : ℕ) → used (sAlarmed q c d (v .side c d)) ≡ true → workOf v d ≡ true) → Core n total (vError v c q) (gError (gFaulted γ) (v .own c))
 enter-core n total v γ i first c w r q other meets =

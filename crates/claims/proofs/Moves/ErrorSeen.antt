@@ -6,6 +6,7 @@ use mathlib.Core.Bool.{Bool, true, false, cond, not, _&&_, false≢true}
 use mathlib.Core.List.{List, [], _∷_, _++_}
 use lib.ListN.{length}
 use native.Mathlib.Omega.{arith}
+use Rattle.outlet.specs.declared.Party.{Party}
 use Rattle.packet.specs.declared.Place.{Place}
 use Rattle.packet.specs.declared.Packet.{Packet}
 use Rattle.packet.specs.declared.Packet.the-variants.{Recover, Fault}
@@ -253,7 +254,7 @@ sim-error g w c q l = go (cabinet g c .phase .version)
     go (Unknown x) = sim-raise g w c q l
     go Lost = sim-raise g w c q l
 
-pub sim-recover′ : (n total : ℕ) (g : Group) (γ : Ghost) → Fit g → Core n total (view g) γ → (c : ℕ) (x : Bool) → c < 8
+pub sim-recover′ : (n : ℕ) (total : Party → ℕ) (g : Group) (γ : Ghost) → Fit g → Core n total (view g) γ → (c : ℕ) (x : Bool) → c < 8
     → aware (γ .big) (view g .own c) ≡ true → view (recoverWith g c x) ≡ vRecover (view g) c x
 sim-recover′ n total g γ w i c x l aw = sim-recover g w c x l (λ b e. room-aware n total (view g) γ i c aw b (plain b e))
   where

@@ -7,6 +7,7 @@ use lib.Dec.{eqb}
 use borrow.Author.Tests.{eqb-false, eq-eqb, ne-eqb}
 use native.Mathlib.Omega.{arith}
 use native.Mathlib.Decide.{ℕ-discrete}
+use Rattle.outlet.specs.declared.Party.{Party}
 use Rattle.packet.specs.declared.Place.{Place}
 use Rattle.packet.specs.declared.Place.the-variants.{Failed as AtFailed}
 use Rattle.cabinet.specs.declared.Alarm.the-variants.{Fault as At}
@@ -42,7 +43,7 @@ struck-not a i d s e q =
     never (and-true {s = s .link && true} e .1) (and-not (s .cab) (eqb d a) (eq-eqb d a q))
 
 -- a was working, others too, and nobody knew of a fault
-module _ (n total a : ℕ) (v : View) (γ : Ghost) (i : Inv n total v γ) (unfaulted : γ .big .faulted ≡ false) (up : workOf v a ≡ true)
+module _ (n : ℕ) (total : Party → ℕ) (a : ℕ) (v : View) (γ : Ghost) (i : Inv n total v γ) (unfaulted : γ .big .faulted ≡ false) (up : workOf v a ≡ true)
     (other : (j : ℕ) × (j ≢ a) × (workOf v j ≡ true)) (none : (c : ℕ) → inRecovery (v .own c .state) ≡ false) where
   pub below-eight : (c : ℕ) → workOf v c ≡ true → c < 8
   below-eight c e = omega (arith, i .core .ground .within c (i .core .nodes c .placed e), i .core .ground .most)

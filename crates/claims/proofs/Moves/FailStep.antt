@@ -13,6 +13,7 @@ use native.Mathlib.Omega.{arith}
 use native.Mathlib.Decide.{ℕ-discrete}
 use Rattle.marks.specs.Marks.{marked}
 use Rattle.marks.specs.Reach.{connected}
+use Rattle.outlet.specs.declared.Party.{Party}
 use Rattle.packet.specs.declared.Place.the-variants.{Failed as AtFailed}
 use Rattle.table.specs.Table.{isAt}
 use Rattle.state.specs.declared.State.{State}
@@ -25,7 +26,7 @@ use Rattle.group.specs.Group.{cabinet, stateOf, rowsOf, working, some, recoveri
 use Rattle.protocol.specs.Moves.{markFailed, alarmTo}
 use Rattle.protocol.specs.Kinds.{failCrashes}
 use Rattle.protocol.specs.History.{Save, History, newest, passesOver, passOver, withSaves, withStanding, notePassed, noteCuts}
-use Rattle.claims.proofs.State.Fun.{never, is-false, and-true, and-not}
+use Rattle.claims.proofs.State.Fun.{never, is-false, and-true, and-not, same-at}
 use Rattle.claims.proofs.State.Methods.{sAlarmed}
 use Rattle.claims.proofs.State.Every.{ok-markFailed}
 use Rattle.claims.proofs.State.View.{View, Own, used, view, Side}
@@ -56,7 +57,7 @@ pub past-big : (n : ℕ) (v w : View) (γ : Ghost) (b : Big) (h : History) → b
 past-big n v w γ b h clean adopted chief begun alive fewer wait p = record {
   sent = p .sent;
   taken = p .taken;
-  damaged = p .damaged ∙ ap not (sym clean);
+  damaged = λ y. p .damaged y ∙ ap not (sym (same-at clean y));
   hurt = p .hurt;
   cuts = λ a. p .cuts (alive a);
   noCut = λ a e. p .noCut (alive a) (sym begun ∙ e);
@@ -117,7 +118,7 @@ module _ (n : ℕ) (v : View) (γ : Ghost) (h : History) (p : Past n v γ h) (a 
       rw (mine-goes a (h .saves) (x .1) (x .0) (x .2) (x .3 ∙ sym chief) unknown) (record {
         sent = p .sent;
         taken = p .taken;
-        damaged = p .damaged ∙ ap not (sym clean);
+        damaged = λ y. p .damaged y ∙ ap not (sym (same-at clean y));
         hurt = p .hurt;
         cuts = λ e. absurd (never e dead);
         noCut = λ e. absurd (never e dead);
@@ -126,7 +127,7 @@ module _ (n : ℕ) (v : View) (γ : Ghost) (h : History) (p : Past n v γ h) (a 
         balanced = x .6;
         present = p .present;
         gone = λ c l e. p .gone c l e ∙ ap (λ (m : Image). just m) (sym (same c e));
-        beyond = λ c l. ap booked (same c (is-false (γ .mind c .tab) (λ e. omega (arith, within c e)))) ∙ p .beyond c l;
+        beyond = λ y c l. ap (booked y) (same c (is-false (γ .mind c .tab) (λ e. omega (arith, within c e)))) ∙ p .beyond y c l;
         below = λ e. absurd (never adopted e);
         begun = λ _. p .begun (inr fresh);
         waits = λ c s e. absurd (never (placed c (ap works (in-state (w .own c .state) Checkpointed .0 s))) e);
@@ -162,7 +163,7 @@ split-or false true z e = absurd (true≢false e)
 split-or false false true e = (refl, refl, refl)
 split-or false false false e = absurd (true≢false e)
 
-module _ (total : ℕ) (g : Group) (h : History) (γ : Ghost) (fit : Fit g) (i : Inv (g .n) total (view g) γ) (past : Past (g .n) (view g) γ h)
+module _ (total : Party → ℕ) (g : Group) (h : History) (γ : Ghost) (fit : Fit g) (i : Inv (g .n) total (view g) γ) (past : Past (g .n) (view g) γ h)
     (a : ℕ) (la : a < 8) (an : a < g .n) (up : workOf (view g) a ≡ true) (fine : failCrashes g a ≡ false) where
   abbrev v : View
   v = view g

@@ -9,6 +9,7 @@ use lib.Dec.{eqb}
 use borrow.Author.Tests.{eqb-false, ne-eqb}
 use native.Mathlib.Omega.{arith}
 use native.Mathlib.Decide.{ℕ-discrete}
+use Rattle.outlet.specs.declared.Party.{Party}
 use Rattle.packet.specs.declared.Packet.{Packet}
 use Rattle.state.specs.declared.State.the-variants.{Failed}
 use Rattle.state.specs.declared.Version.the-variants.{Lost}
@@ -73,7 +74,7 @@ module _ (b : Big) (c d : ℕ) (o : Own) (m : Mind) (p : Own) (n : Mind) (s t : 
     room = λ u. omega arith;
     sound = λ e. refl;
     unhurt = h .unhurt;
-    noMore = λ e. omega (arith, h .noMore e);
+    noMore = λ y e. omega (arith, h .noMore y e);
     small = (h .small .0, (h .small .1 .0, search));
     fit = h .fit;
   }
@@ -110,7 +111,7 @@ module _ (b : Big) (c d : ℕ) (o : Own) (m : Mind) (p : Own) (n : Mind) (s t : 
     room = λ u. omega arith;
     sound = λ e. refl;
     unhurt = λ e u. absurd (false≢true u);
-    noMore = λ e. omega (arith, h .noMore e);
+    noMore = λ y e. omega (arith, h .noMore y e);
     small = (h .small .0, (h .small .1 .0, search));
     fit = h .fit;
   }
@@ -162,7 +163,7 @@ module _ (b : Big) (c : ℕ) (o : Own) (m : Mind) (z : Bool → Image) (h : Node
     sizes = h .sizes;
   }
 
-pub fail-books : (b : Big) (o : Own) (m : Mind) (out got : ℕ) → Books b o m out got → Books b (oFailed o) m out got
+pub fail-books : (b : Big) (o : Own) (m : Mind) (out got : Party → ℕ) → Books b o m out got → Books b (oFailed o) m out got
 fail-books b o m out got h = record { bounded = h .bounded; live = λ u. absurd (false≢true u); atCut = h .atCut }
 
 -- ---- the group with the failed cabinet
@@ -192,7 +193,7 @@ module _ (v : View) (a : ℕ) where
   pub none-recovers : ((c : ℕ) → inRecovery (v .own c .state) ≡ false) → (c : ℕ) → inRecovery (vFailed v a .own c .state) ≡ false
   none-recovers none c = upd-elim (λ (o : Own). inRecovery (o .state) ≡ false) (v .own) a (oFailed (v .own a)) c (λ e. refl) (λ d. none c)
 
-module _ (n total : ℕ) (v : View) (γ : Ghost) (i : Core n total v γ) (none : (c : ℕ) → inRecovery (v .own c .state) ≡ false)
+module _ (n : ℕ) (total : Party → ℕ) (v : View) (γ : Ghost) (i : Core n total v γ) (none : (c : ℕ) → inRecovery (v .own c .state) ≡ false)
     (faulted : γ .big .faulted ≡ true) (a : ℕ) (no-store : v .own a .store ≡ false) where
   abbrev lines′ : ℕ → ℕ → List Packet
   lines′ = vFailed v a .lines

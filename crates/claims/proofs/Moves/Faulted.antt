@@ -6,6 +6,7 @@ use mathlib.Core.Logic.{_≢_}
 use mathlib.Core.Bool.{Bool, true, false}
 use mathlib.Core.List.{List, _∷_}
 use borrow.Author.Tests.{ne-eqb}
+use Rattle.outlet.specs.declared.Party.{Party}
 use Rattle.table.specs.Table.{isAt}
 use Rattle.packet.specs.declared.Place.{Place}
 use Rattle.packet.specs.declared.Place.the-variants.{Failed as AtFailed, Link as AtLink}
@@ -41,7 +42,7 @@ use Rattle.claims.proofs.Moves.Recovering.{frozen-past}
 
 -- ---- entering error for a place that is one already
 
-module _ (n total : ℕ) (v : View) (γ : Ghost) (i : Inv n total v γ) (b : ℕ) (un : unaware (γ .big) (v .own b) ≡ true) (fault : γ .big .faulted ≡ true)
+module _ (n : ℕ) (total : Party → ℕ) (v : View) (γ : Ghost) (i : Inv n total v γ) (b : ℕ) (un : unaware (γ .big) (v .own b) ≡ true) (fault : γ .big .faulted ≡ true)
     (q : Place) (place : Place-of (workOf v) (tabOf γ) (awareOf v γ) (alarmOf v) (lkOf γ) (v .sound) q) where
   abbrev δ : Ghost
   δ = gError γ (v .own b)
@@ -122,7 +123,7 @@ off-after v a b q k d = λ t. record {
 
 -- ---- the step
 
-module _ (total : ℕ) (g : Group) (h : History) (γ : Ghost) (w : Fit g) (i : Inv (g .n) total (view g) γ) (past : Past (g .n) (view g) γ h)
+module _ (total : Party → ℕ) (g : Group) (h : History) (γ : Ghost) (w : Fit g) (i : Inv (g .n) total (view g) γ) (past : Past (g .n) (view g) γ h)
     (a b : ℕ) (la : a < 8) (lb : b < 8) (other : a ≢ b) (q : Place) (fault : oldest (line g a b) ≡ Fault q) (serves : serving (stateOf g b) ≡ true) where
   abbrev k : List Packet
   k = left-of g a b

@@ -8,6 +8,7 @@ use mathlib.Core.List.{List}
 use lib.Dec.{ltb}
 use borrow.Author.Tests.{ltb-true, ltb-false}
 use native.Mathlib.Omega.{arith}
+use Rattle.outlet.specs.declared.Party.{Party}
 use Rattle.packet.specs.declared.Packet.{Packet}
 use Rattle.state.specs.declared.State.{State}
 use Rattle.state.specs.declared.State.the-variants.{CheckpBegin, Checkpointing, Error, Recovering, Recovered}
@@ -41,7 +42,7 @@ use Rattle.claims.proofs.Moves.Adopting.{past-adopted}
 
 -- ---- the save that the rule gives is known to have been restored
 
-pub adopted-inv : (n total : ℕ) (v : View) (γ : Ghost) → γ .big .faulted ≡ true → Inv n total v γ → Inv n total v (gAdopted γ)
+pub adopted-inv : (n : ℕ) (total : Party → ℕ) (v : View) (γ : Ghost) → γ .big .faulted ≡ true → Inv n total v γ → Inv n total v (gAdopted γ)
 adopted-inv n total v γ faulted i = record {
   core = record {
     pairs = λ c d. adopted-pair _ _ _ _ _ _ _ _ _ _ _ (i .core .pairs c d);
@@ -90,13 +91,13 @@ module _ (b : Big) (c : ℕ) (o : Own) (m : Mind) (z : Bool → Image) (h : Node
       let sp : b .alive ≡ true → unaware b o ≡ true → o .state ≡ Checkpointing → SameTo (8 * k) (z (not (b .topv))) (m .cut) = λ a. no-calm in
       search
 
-  piece-books : (k : ℕ) (x : Image) (out got : ℕ) → Books b o m out got → Books b (oPiece o k x) m out got
+  piece-books : (k : ℕ) (x : Image) (out got : Party → ℕ) → Books b o m out got → Books b (oPiece o k x) m out got
   piece-books k x out got f = record { bounded = f .bounded; live = no-calm; atCut = f .atCut }
 
 abbrev pieced : View → ℕ → ℕ → Image → View
 pieced v c k x = setCabinet v c (oPiece (v .own c) k x) (v .side c)
 
-module _ (n total : ℕ) (v : View) (γ : Ghost) (i : Inv n total v γ) (c : ℕ) (aw : aware (γ .big) (v .own c) ≡ true)
+module _ (n : ℕ) (total : Party → ℕ) (v : View) (γ : Ghost) (i : Inv n total v γ) (c : ℕ) (aw : aware (γ .big) (v .own c) ≡ true)
     (state : v .own c .state ≡ Recovering) (k : ℕ) (x : Image) (l : k < 4) (e : SameTo (8 * k) x (γ .mind c .top)) where
   abbrev o′ : Own
   o′ = oPiece (v .own c) k x
@@ -284,13 +285,13 @@ module _ (b : Big) (c : ℕ) (o : Own) (m : Mind) (z : Bool → Image) (h : Node
         sizes = h .sizes;
       }
 
-  last-books : (out got : ℕ) → Books b o m out got → Books b (oLast o x) m out got
+  last-books : (out got : Party → ℕ) → Books b o m out got → Books b (oLast o x) m out got
   last-books out got f = record { bounded = f .bounded; live = none-calm; atCut = f .atCut }
 
 abbrev lasted : View → ℕ → Image → View
 lasted v c x = setCabinet v c (oLast (v .own c) x) (λ d. sFresh (v .side c d))
 
-module _ (n total : ℕ) (v : View) (γ : Ghost) (i : Inv n total v γ) (c : ℕ) (aw : aware (γ .big) (v .own c) ≡ true)
+module _ (n : ℕ) (total : Party → ℕ) (v : View) (γ : Ghost) (i : Inv n total v γ) (c : ℕ) (aw : aware (γ .big) (v .own c) ≡ true)
     (state : v .own c .state ≡ Recovering) (adopted : γ .big .adopted ≡ true) (x : Image) (same : x ≡ γ .mind c .top) where
   abbrev o″ : Own
   o″ = oLast (v .own c) x
@@ -337,7 +338,7 @@ module _ (n total : ℕ) (v : View) (γ : Ghost) (i : Inv n total v γ) (c : ℕ
 
 -- ---- the step
 
-module _ (total : ℕ) (g : Group) (h : History) (γ : Ghost) (w : Fit g) (i : Inv (g .n) total (view g) γ) (past : Past (g .n) (view g) γ h)
+module _ (total : Party → ℕ) (g : Group) (h : History) (γ : Ghost) (w : Fit g) (i : Inv (g .n) total (view g) γ) (past : Past (g .n) (view g) γ h)
     (a : ℕ) (la : a < 8) (fine : fetchRefusal g a ≡ 0) where
   abbrev v : View
   v = view g

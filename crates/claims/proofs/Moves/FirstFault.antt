@@ -5,6 +5,7 @@ use mathlib.Core.Path.{_≡_, refl, subst}
 use mathlib.Core.Logic.{inl, inr, ⊎-elim}
 use mathlib.Core.Bool.{Bool, true, false, not, _||_, true≢false}
 use mathlib.Core.List.{List}
+use Rattle.outlet.specs.declared.Party.{Party}
 use Rattle.packet.specs.declared.Packet.{Packet}
 use Rattle.state.specs.declared.State.the-variants.{CheckpBegin}
 use Rattle.image.specs.declared.Image.{Image}
@@ -151,7 +152,7 @@ flip-node b c o m z h r =
       sizes = h .sizes;
     }
 
-flip-books : (b : Big) (o : Own) (m : Mind) (out got : ℕ) → Books b o m out got → inRecovery (o .state) ≡ false → Books (bFaulted b) o m out got
+flip-books : (b : Big) (o : Own) (m : Mind) (out got : Party → ℕ) → Books b o m out got → inRecovery (o .state) ≡ false → Books (bFaulted b) o m out got
 flip-books b o m out got h r = record { bounded = h .bounded; live = λ u. h .live (calm-before b o r u); atCut = h .atCut }
 
 flip-lead : (b : Big) (c : ℕ) (o : Own) → Lead b c o → inRecovery (o .state) ≡ false → Lead (bFaulted b) c o
@@ -163,7 +164,7 @@ flip-lead b c o h r = record {
   blank = λ w e. none-before b o r (h .blank w e .0);
 }
 
-module _ (n total : ℕ) (v : View) (γ : Ghost) (i : Core n total v γ) (none : (c : ℕ) → inRecovery (v .own c .state) ≡ false) where
+module _ (n : ℕ) (total : Party → ℕ) (v : View) (γ : Ghost) (i : Core n total v γ) (none : (c : ℕ) → inRecovery (v .own c .state) ≡ false) where
   flip-calm : (c : ℕ) → calmOf v γ c ≡ false → calmOf v (gFaulted γ) c ≡ false
   flip-calm c e = is-false (calmOf v (gFaulted γ) c) (λ u. never (calm-before (γ .big) (v .own c) (none c) u) e)
 
@@ -189,7 +190,7 @@ module _ (n total : ℕ) (v : View) (γ : Ghost) (i : Core n total v γ) (none :
   }
 
 -- some cabinet is about to enter error: it is the first, or the fault is known already
-pub fault-core : (n total : ℕ) (v : View) (γ : Ghost) → Core n total v γ → (γ .big .faulted ≡ false → (j : ℕ) → inRecovery (v .own j .state) ≡ false)
+pub fault-core : (n : ℕ) (total : Party → ℕ) (v : View) (γ : Ghost) → Core n total v γ → (γ .big .faulted ≡ false → (j : ℕ) → inRecovery (v .own j .state) ≡ false)
     → Core n total v (gFaulted γ)
 fault-core n total v γ i first = go (γ .big .faulted) refl
   where

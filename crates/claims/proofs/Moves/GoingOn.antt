@@ -5,6 +5,7 @@ use mathlib.Core.Logic.{_≢_, inl, inr, ⊎-elim}
 use mathlib.Core.Bool.{Bool, true, false, cond, not, _&&_, false≢true}
 use mathlib.Core.List.{List, [], _∷_, _++_}
 use native.Mathlib.Omega.{arith}
+use Rattle.outlet.specs.declared.Party.{Party}
 use Rattle.packet.specs.declared.Place.{Place}
 use Rattle.packet.specs.declared.Packet.{Packet}
 use Rattle.packet.specs.declared.Packet.the-variants.{Recover, Fault}
@@ -93,7 +94,7 @@ module _ (b : Big) (c d : ℕ) (o : Own) (m : Mind) (p : Own) (n : Mind) (s t : 
     room = no;
     sound = λ e. goes-count isInvalid x l (used s) refl ∙ h .sound e;
     unhurt = h .unhurt;
-    noMore = λ e. rw (goes-amounts x l (used s)) (h .noMore e);
+    noMore = λ y e. rw (goes-amounts x l (used s)) (h .noMore y e);
     small = (h .small .0, (h .small .1 .0, rw (goes-amounts x l (used s)) (h .small .1 .1)));
     fit = h .fit;
   }
@@ -200,7 +201,7 @@ module _ (b : Big) (c : ℕ) (o : Own) (m : Mind) (z : Bool → Image) (h : Node
       no : {A : Type 0} → unaware b (oGoes o (b .topv)) ≡ true → A
       no = goes-not-calm b o (b .topv) aw
 
-module _ (n total : ℕ) (v : View) (γ : Ghost) (i : Core n total v γ) (c : ℕ) (aw : aware (γ .big) (v .own c) ≡ true) (err : v .own c .state ≡ Error)
+module _ (n : ℕ) (total : Party → ℕ) (v : View) (γ : Ghost) (i : Core n total v γ) (c : ℕ) (aw : aware (γ .big) (v .own c) ≡ true) (err : v .own c .state ≡ Error)
     (froze : γ .big .frozen ≡ true) (meets : (d : ℕ) → used (v .side c d) ≡ true → workOf v d ≡ true) where
   abbrev top : Bool
   top = γ .big .topv
@@ -232,7 +233,7 @@ module _ (n total : ℕ) (v : View) (γ : Ghost) (i : Core n total v γ) (c : �
   goes-work : works (goer .state) ≡ works (v .own c .state)
   goes-work = sym (aware-works (γ .big) (v .own c) aw)
 
-  goes-books : (out got : ℕ) → Books (γ .big) (v .own c) (γ .mind c) out got → Books (γ .big) goer (γ .mind c) out got
+  goes-books : (out got : Party → ℕ) → Books (γ .big) (v .own c) (γ .mind c) out got → Books (γ .big) goer (γ .mind c) out got
   goes-books out got k = record { bounded = k .bounded; live = λ u. goes-not-calm (γ .big) (v .own c) top aw u; atCut = k .atCut }
 
   recover-chain : ChainOf (gone-on v c top) γ

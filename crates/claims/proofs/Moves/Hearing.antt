@@ -7,6 +7,7 @@ use mathlib.Core.Bool.{Bool, true, false, cond, _&&_}
 use mathlib.Core.List.{List, [], _∷_, _++_, nil≢cons}
 use native.Mathlib.Omega.{arith}
 use native.Mathlib.Decide.{ℕ-discrete}
+use Rattle.outlet.specs.declared.Party.{Party}
 use Rattle.packet.specs.declared.Place.{Place}
 use Rattle.packet.specs.declared.Packet.{Packet}
 use Rattle.packet.specs.declared.Packet.the-variants.{Recover, Fault}
@@ -131,7 +132,7 @@ module _ (b : Big) (c d : ℕ) (o : Own) (m : Mind) (p : Own) (n : Mind) (s t : 
     room = no-calm;
     sound = λ e. invalid-left (h .sound e);
     unhurt = h .unhurt;
-    noMore = λ e. rw (← same-amounts) (h .noMore e);
+    noMore = λ y e. rw (← same-amounts) (h .noMore y e);
     small = (h .small .0, (h .small .1 .0, rw (← same-amounts) (h .small .1 .1)));
     fit = h .fit;
   }
@@ -145,7 +146,7 @@ hear-from b c d o m p n s t l w h = search
 abbrev pub vHeard : View → ℕ → ℕ → List Packet → View
 vHeard v a b k = setLine (vHear v a b) a b k
 
-module _ (n total : ℕ) (v : View) (γ : Ghost) (i : Inv n total v γ) (a b : ℕ) (other : a ≢ b) (q : Place) (k : List Packet)
+module _ (n : ℕ) (total : Party → ℕ) (v : View) (γ : Ghost) (i : Inv n total v γ) (a b : ℕ) (other : a ≢ b) (q : Place) (k : List Packet)
     (is : v .lines a b ≡ Fault q ∷ k) (up : aware (γ .big) (v .own b) ≡ true) (for-it : v .own b .alarm ≡ At q) where
   abbrev s′ : ℕ → Side
   s′ = upd (v .side b) a (sHeard (v .side b a))
@@ -215,7 +216,7 @@ module _ (g : Group) (a b : ℕ) where
 
 -- ---- the step
 
-module _ (total : ℕ) (g : Group) (h : History) (γ : Ghost) (w : Fit g) (i : Inv (g .n) total (view g) γ) (past : Past (g .n) (view g) γ h)
+module _ (total : Party → ℕ) (g : Group) (h : History) (γ : Ghost) (w : Fit g) (i : Inv (g .n) total (view g) γ) (past : Past (g .n) (view g) γ h)
     (a b : ℕ) (la : a < 8) (lb : b < 8) (other : a ≢ b) (q : Place) (fault : oldest (line g a b) ≡ Fault q)
     (restoring : inRecovery (stateOf g b) ≡ true) (for-it : isFor (cabinet g b .phase .alarm) q ≡ true) where
   abbrev g1 : Group

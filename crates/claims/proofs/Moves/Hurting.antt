@@ -8,6 +8,7 @@ use mathlib.Core.List.{List, [], _∷_, _++_}
 use lib.ListN.{drop}
 use native.Mathlib.Omega.{arith}
 use native.Mathlib.Decide.{ℕ-discrete}
+use Rattle.outlet.specs.declared.Party.{Party}
 use Rattle.packet.specs.declared.Payload.{Payload}
 use Rattle.packet.specs.declared.Check.{Check}
 use Rattle.packet.specs.declared.Packet.{Packet}
@@ -63,6 +64,16 @@ small-later (Recover v) r s f a = f a
 small-later (Fault p) r s f a = f a
 small-later Invalid r s f a = f a
 
+pub less-later : (y : Party) (x : Packet) (r s : List Payload) → amount y r ≤ amount y s → amount y (amountOf x r) ≤ amount y (amountOf x s)
+unfolding amount
+less-later y Empty r s h = h
+less-later y (NormalPacket p) r s h = omega arith
+less-later y (Checkp v) r s h = h
+less-later y Resume r s h = h
+less-later y (Recover v) r s h = h
+less-later y (Fault p) r s h = h
+less-later y Invalid r s h = h
+
 -- ---- nobody recovers
 
 not-recovered : (s : State) → inRecovery s ≡ false → isIn s Recovered ≡ false
@@ -74,7 +85,7 @@ not-recovered s = go (isIn s Error) (isIn s Recovering) (isIn s Recovered)
     go false false z e = e
 
 -- the ends of a line with a packet know of no fault, are linked, and are two
-line-runs : (n total : ℕ) (v : View) (γ : Ghost) → Inv n total v γ → ((c : ℕ) → inRecovery (v .own c .state) ≡ false)
+line-runs : (n : ℕ) (total : Party → ℕ) (v : View) (γ : Ghost) → Inv n total v γ → ((c : ℕ) → inRecovery (v .own c .state) ≡ false)
     → (a b : ℕ) → (v .lines a b ≡ [] → ⊥)
     → (unaware (γ .big) (v .own a) ≡ true) × (unaware (γ .big) (v .own b) ≡ true) × (linked (γ .mind a) (γ .mind b) (γ .wire a b) ≡ true) × (a ≢ b)
 line-runs n total v γ i nobody a b full =
@@ -88,9 +99,9 @@ line-runs n total v γ i nobody a b full =
       (λ e. never (and-true {s = γ .wire a b .lk} j .0) (ap (λ (x : ℕ). γ .wire a x .lk) (sym e) ∙ i .core .ground .linkOther a)),
     )
 
--- ---- the ghost: no longer calm, and clean as it is told
+-- ---- the ghost: no longer calm, and of each party clean as it is told
 
-abbrev bHurt : Big → Bool → Big
+abbrev bHurt : Big → (Party → Bool) → Big
 bHurt b x = record {
   faulted = b .faulted;
   topv = b .topv;
@@ -104,16 +115,16 @@ bHurt b x = record {
   clean = x;
 }
 
-abbrev pub gUncalm : Ghost → Bool → Ghost
+abbrev pub gUncalm : Ghost → (Party → Bool) → Ghost
 gUncalm γ x = record { big = bHurt (γ .big) x; mind = γ .mind; wire = γ .wire }
 
-module _ (b : Big) (x : Bool) (still : x ≡ true → b .clean ≡ true) where
+module _ (b : Big) (x : Party → Bool) (still : (y : Party) → x y ≡ true → b .clean y ≡ true) where
   stained : (c d : ℕ) (o : Own) (m : Mind) (p : Own) (n : Mind) (s t : Side) (l : List Packet) (w : Wire) → Pair b c d o m p n s t l w
       → Pair (bHurt b x) c d o m p n s t l w
   stained c d o m p n s t l w h =
       let so : false ≡ true → count isInvalid l ≡ 0 = λ e. absurd (false≢true e) in
       let un : false ≡ true → unaware b p ≡ true → t .hurt ≡ false = λ e. absurd (false≢true e) in
-      let nm : x ≡ true → w .got + amount (amountsIn l) ≤ w .out = λ e. h .noMore (still e) in
+      let nm : (y : Party) → x y ≡ true → w .got y + amount y (amountsIn l) ≤ w .out y = λ y e. h .noMore y (still y e) in
       search
 
   stained-node : (c : ℕ) (o : Own) (m : Mind) (z : Bool → Image) → inRecovery (o .state) ≡ false → Node b c o m z → Node (bHurt b x) c o m z
@@ -122,8 +133,8 @@ module _ (b : Big) (x : Bool) (still : x ≡ true → b .clean ≡ true) where
       = λ u e. absurd (never (ap inRecovery e) r) in
       search
 
-uncalm-inv : (n total : ℕ) (v : View) (γ : Ghost) → Inv n total v γ → ((c : ℕ) → inRecovery (v .own c .state) ≡ false)
-    → (x : Bool) → (x ≡ true → γ .big .clean ≡ true) → Inv n total v (gUncalm γ x)
+uncalm-inv : (n : ℕ) (total : Party → ℕ) (v : View) (γ : Ghost) → Inv n total v γ → ((c : ℕ) → inRecovery (v .own c .state) ≡ false)
+    → (x : Party → Bool) → ((y : Party) → x y ≡ true → γ .big .clean y ≡ true) → Inv n total v (gUncalm γ x)
 uncalm-inv n total v γ i nobody x still = record {
   core = record {
     pairs = λ c d. stained (γ .big) x still c d _ _ _ _ _ _ _ _ (i .core .pairs c d);
@@ -187,7 +198,8 @@ unhurt-both false y e = (refl, e)
 
 module _ (b : Big) (c d : ℕ) (o : Own) (m : Mind) (p : Own) (n : Mind) (s t : Side) (l : List Packet) (w : Wire) (h : Pair b c d o m p n s t l w)
     (upset : b .calm ≡ false) (un : unaware b o ≡ true) (up : unaware b p ≡ true) (joined : linked m n w ≡ true) (served : isIn (o .state) Recovered ≡ false)
-    (x : Bool) (l′ : List Packet) (hit : Hit x l l′) (once : x ≡ true → t .hurt ≡ false) (less : b .clean ≡ true → amount (amountsIn l′) ≤ amount (amountsIn l)) where
+    (x : Bool) (l′ : List Packet) (hit : Hit x l l′) (once : x ≡ true → t .hurt ≡ false)
+    (less : (y : Party) → b .clean y ≡ true → amount y (amountsIn l′) ≤ amount y (amountsIn l)) where
   not-aware : {A : Type 0} → aware b o ≡ true → A
   not-aware a = absurd (un-not-aware b o un a)
 
@@ -217,7 +229,7 @@ module _ (b : Big) (c d : ℕ) (o : Own) (m : Mind) (p : Own) (n : Mind) (s t : 
         reads = f .reads;
         writes = f .writes;
         carries = λ v r e. let y = hit .ended (h .lastCheckp un) v r e in f .carries v (y .0) (y .1);
-        onWay = λ e. let y = unhurt-both x (t .hurt) e in omega (arith, f .onWay (y .1), ap amount (hit .same (y .0)));
+        onWay = λ e y. let z = unhurt-both x (t .hurt) e in omega (arith, f .onWay (z .1) y, ap (amount y) (hit .same (z .0)));
         tells = ap (λ (y : Bool). cond x true y) (f .tells);
       }
 
@@ -252,7 +264,7 @@ module _ (b : Big) (c d : ℕ) (o : Own) (m : Mind) (p : Own) (n : Mind) (s t : 
     room = λ u. omega (arith, hit .safe, h .room u);
     sound = λ e. absurd (never e upset);
     unhurt = λ e u. absurd (never e upset);
-    noMore = λ e. omega (arith, h .noMore e, less e);
+    noMore = λ y e. omega (arith, h .noMore y e, less y e);
     small = (h .small .0, (h .small .1 .0, hit .small (h .small .1 .1)));
     fit = h .fit;
   }
@@ -264,7 +276,7 @@ hurt-from b c d o m p n s t l w h calm x =
     let f : aware b o ≡ true → isIn (o .state) Recovered ≡ true → (s .put ≡ startCheck) × (s .took ≡ startCheck) × (x ≡ false) = λ a. absurd (calm a) in
     search
 
-module _ (n total : ℕ) (v : View) (γ : Ghost) (i : Inv n total v γ) (a b : ℕ) (other : a ≢ b) (calm : aware (γ .big) (v .own b) ≡ true → ⊥)
+module _ (n : ℕ) (total : Party → ℕ) (v : View) (γ : Ghost) (i : Inv n total v γ) (a b : ℕ) (other : a ≢ b) (calm : aware (γ .big) (v .own b) ≡ true → ⊥)
     (x : Bool) (l : List Packet)
     (hit : Pair (γ .big) a b (v .own a) (γ .mind a) (v .own b) (γ .mind b) (v .side a b) (sHurt x (v .side b a)) l (wHurt x (γ .wire a b))) where
   abbrev toA : Side
@@ -330,9 +342,9 @@ module _ (n total : ℕ) (v : View) (γ : Ghost) (i : Inv n total v γ) (a b : �
 
 -- ---- together: a packet of the line from a to b is hurt
 
-module _ (n total : ℕ) (v : View) (γ : Ghost) (i : Inv n total v γ) (nobody : (c : ℕ) → inRecovery (v .own c .state) ≡ false) (a b : ℕ)
-    (x clean : Bool) (l : List Packet) (hit : Hit x (v .lines a b) l) (once : x ≡ true → v .side b a .hurt ≡ false)
-    (was : clean ≡ true → γ .big .clean ≡ true) (less : clean ≡ true → amount (amountsIn l) ≤ amount (amountsIn (v .lines a b))) where
+module _ (n : ℕ) (total : Party → ℕ) (v : View) (γ : Ghost) (i : Inv n total v γ) (nobody : (c : ℕ) → inRecovery (v .own c .state) ≡ false) (a b : ℕ)
+    (x : Bool) (clean : Party → Bool) (l : List Packet) (hit : Hit x (v .lines a b) l) (once : x ≡ true → v .side b a .hurt ≡ false)
+    (was : (y : Party) → clean y ≡ true → γ .big .clean y ≡ true) (less : (y : Party) → clean y ≡ true → amount y (amountsIn l) ≤ amount y (amountsIn (v .lines a b))) where
   pub hurt-inv : Inv n total (vHit v a b x l) (gHit (gUncalm γ clean) a b x)
   hurt-inv =
       let ε : Ghost = gUncalm γ clean in
@@ -361,7 +373,7 @@ seen-mark v g w a b la lb l e false =
 pub note-hit : {n : ℕ} {v : View} {γ : Ghost} {h : History} → Past n v γ h → (a b c d : ℕ) → noteHurt h a b .hurt c d ≡ gHit γ a b true .wire c d .hurt
 note-hit {γ} {h} p a b = pair-both (λ (y : Wire). y .hurt) (h .hurt) (γ .wire) a b true (wHurt true (γ .wire a b)) refl (p .hurt)
 
-pub hit-past : {n : ℕ} {v : View} {γ : Ghost} {h : History} → Past n v γ h → (a b : ℕ) (x clean damaged : Bool) (hurt : ℕ → ℕ → Bool) → damaged ≡ not clean
+pub hit-past : {n : ℕ} {v : View} {γ : Ghost} {h : History} → Past n v γ h → (a b : ℕ) (x : Bool) (clean damaged : Party → Bool) (hurt : ℕ → ℕ → Bool) → ((y : Party) → damaged y ≡ not (clean y))
     → ((c d : ℕ) → hurt c d ≡ gHit γ a b x .wire c d .hurt) → Past n v (gHit (gUncalm γ clean) a b x) (withHurt (withDamaged h damaged) hurt)
 hit-past {γ} p a b x clean damaged hurt e f = record {
   sent = λ c d. p .sent c d ∙ sym (kept (λ (y : Wire). y .sent) refl c d);

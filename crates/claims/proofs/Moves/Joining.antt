@@ -5,6 +5,7 @@ use mathlib.Core.Logic.{_≢_, _⊎_, inl, inr, ⊎-elim}
 use mathlib.Core.Bool.{Bool, true, false, cond, not, _&&_, false≢true, true≢false}
 use mathlib.Core.List.{List, [], _∷_, _++_}
 use native.Mathlib.Omega.{arith}
+use Rattle.outlet.specs.declared.Party.{Party}
 use Rattle.packet.specs.declared.Check.{Check}
 use Rattle.packet.specs.declared.Packet.{Packet}
 use Rattle.packet.specs.declared.Packet.the-variants.{Empty, Normal as NormalPacket, Checkp, Resume, Recover, Fault, Invalid}
@@ -179,7 +180,7 @@ module _ (b : Big) (c d : ℕ) (o : Own) (m : Mind) (p : Own) (n : Mind) (s t : 
         reads = f .reads;
         writes = rw (us, not-come up k);
         carries = λ v j e. same-last (s .put) v l j (rw us at e) ∙ (rw apart at (f .writes));
-        onWay = λ e. rw same-amounts (f .onWay e);
+        onWay = λ e y. rw same-amounts (f .onWay e y);
         tells = f .tells;
       }
 
@@ -214,7 +215,7 @@ module _ (b : Big) (c d : ℕ) (o : Own) (m : Mind) (p : Own) (n : Mind) (s t : 
     room = λ u. omega (arith, line-count isSafe 1 (omega arith), rw apart at (h .room un));
     sound = λ e. none-more isInvalid refl (h .sound e);
     unhurt = h .unhurt;
-    noMore = λ e. rw same-amounts (h .noMore e);
+    noMore = λ y e. rw same-amounts (h .noMore y e);
     small = (h .small .0, (h .small .1 .0, rw same-amounts (h .small .1 .1)));
     fit = h .fit;
   }
@@ -341,10 +342,10 @@ module _ (b : Big) (c : ℕ) (o : Own) (m : Mind) (z : Bool → Image) (h : Node
     sizes = h .sizes;
   }
 
-begun-books : (b : Big) (o : Own) (m : Mind) (out got : ℕ) → Books b o m out got → Books (bBegun b) o m out got
+begun-books : (b : Big) (o : Own) (m : Mind) (out got : Party → ℕ) → Books b o m out got → Books (bBegun b) o m out got
 begun-books b o m out got h = record { bounded = h .bounded; live = h .live; atCut = h .atCut }
 
-join-books : (b : Big) (o : Own) (m : Mind) (out got : ℕ) → unaware b o ≡ true → Books b o m out got → Books (bBegun b) (oBegun o) (mJoined m) out got
+join-books : (b : Big) (o : Own) (m : Mind) (out got : Party → ℕ) → unaware b o ≡ true → Books b o m out got → Books (bBegun b) (oBegun o) (mJoined m) out got
 join-books b o m out got un h = record { bounded = h .bounded; live = λ u. h .live un; atCut = h .atCut }
 
 -- who leads does not hang on the save
@@ -353,7 +354,7 @@ begun-lead b c o h = record { steady = h .steady; moved = h .moved; lives = h .l
 
 -- ---- together
 
-module _ (n total : ℕ) (v : View) (γ : Ghost) (i : Inv n total v γ) (c : ℕ) (un : unaware (γ .big) (v .own c) ≡ true)
+module _ (n : ℕ) (total : Party → ℕ) (v : View) (γ : Ghost) (i : Inv n total v γ) (c : ℕ) (un : unaware (γ .big) (v .own c) ≡ true)
     (normal : v .own c .state ≡ Normal) (joins : Joins (γ .big) c) where
   abbrev lines′ : ℕ → ℕ → List Packet
   lines′ = upd (v .lines) c (vPut v c (λ b. Checkp (v .side c b .put)))

@@ -13,6 +13,7 @@ use Rattle.table.specs.Table.{isAt}
 use Rattle.marks.specs.Marks.{marked}
 use Rattle.marks.specs.Reach.{Rows, mark, struck, connected}
 use Rattle.marks.specs.ReachLaws.{struck-there, struck-back, struck-other, length-struck}
+use Rattle.outlet.specs.declared.Party.{Party}
 use Rattle.packet.specs.declared.Place.{Place}
 use Rattle.packet.specs.declared.Place.the-variants.{Link as AtLink}
 use Rattle.packet.specs.declared.Payload.{Payload}
@@ -82,7 +83,7 @@ struck-unused a b s n = is-false _ (λ e. never (link-hit a b n) (no-hit (and-tr
 
 -- ---- nobody is on the way out of a recovery where a packet was damaged or lost
 
-upset-first : (n total : ℕ) (v : View) (γ : Ghost) → Core n total v γ → (γ .big .calm ≡ true → ⊥)
+upset-first : (n : ℕ) (total : Party → ℕ) (v : View) (γ : Ghost) → Core n total v γ → (γ .big .calm ≡ true → ⊥)
     → γ .big .faulted ≡ false → (j : ℕ) → inRecovery (v .own j .state) ≡ false
 upset-first n total v γ i upset calm j = go (v .own j .state) refl
   where
@@ -134,7 +135,7 @@ module _ (old sound : ℕ → ℕ → Bool) (a b : ℕ) (other : a ≢ b) (there
 
 -- ---- the group as the view sees it
 
-module _ (n total : ℕ) (v : View) (γ : Ghost) (i : Inv n total v γ) (a b : ℕ) (other : a ≢ b) (p : Packet) (k : List Packet) (here : v .lines a b ≡ p ∷ k)
+module _ (n : ℕ) (total : Party → ℕ) (v : View) (γ : Ghost) (i : Inv n total v γ) (a b : ℕ) (other : a ≢ b) (p : Packet) (k : List Packet) (here : v .lines a b ≡ p ∷ k)
     (wb : works (v .own b .state) ≡ true) (rb : inRecovery (v .own b .state) ≡ false) (uses : used (v .side b a) ≡ true)
     (upset : γ .big .calm ≡ true → ⊥) (sound : ℕ → ℕ → Bool) (there : sound a b ≡ false) (back : sound b a ≡ false)
     (elsewhere : (x y : ℕ) → ((x ≡ a) × (y ≡ b) → ⊥) → ((x ≡ b) × (y ≡ a) → ⊥) → sound x y ≡ v .sound x y) (reach : Reach (workOf v) sound) where
@@ -250,7 +251,7 @@ fit-sound g rs h = record {
   slots = h .slots;
 }
 
-module _ (total : ℕ) (g : Group) (h : History) (γ : Ghost) (w : Fit g) (i : Inv (g .n) total (view g) γ) (past : Past (g .n) (view g) γ h)
+module _ (total : Party → ℕ) (g : Group) (h : History) (γ : Ghost) (w : Fit g) (i : Inv (g .n) total (view g) γ) (past : Past (g .n) (view g) γ h)
     (a b : ℕ) (la : a < 8) (lb : b < 8) (other : a ≢ b) (full : isEmpty (oldest (line g a b)) ≡ false) (uses : marked (inUse (cabinet g b)) a ≡ true)
     (serves : serving (stateOf g b) ≡ true) where
   -- the packet is off the line

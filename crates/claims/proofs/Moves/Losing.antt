@@ -6,6 +6,7 @@ use mathlib.Core.List.{List, [], _∷_, _++_}
 use lib.ListN.{getD, take, drop}
 use native.Mathlib.Omega.{arith}
 use Rattle.marks.specs.Reach.{mark}
+use Rattle.outlet.specs.declared.Party.{Party}
 use Rattle.packet.specs.declared.Payload.{Payload}
 use Rattle.packet.specs.declared.Check.{Check}
 use Rattle.packet.specs.declared.Packet.{Packet}
@@ -32,7 +33,7 @@ use Rattle.claims.proofs.Invariant.Logs.{head-eq, tail-eq, amount-rest,
 use Rattle.claims.proofs.Invariant.Words.{nobody-recovers}
 use Rattle.claims.proofs.Invariant.Staying.{stays-none}
 use Rattle.claims.proofs.Invariant.States.{error-recovers}
-use Rattle.claims.proofs.Moves.Hurting.{Hit, resumes-later, differ-later, small-later, gUncalm, vHit, gHit, hurt-inv, seen-mark, note-hit, hit-past}
+use Rattle.claims.proofs.Moves.Hurting.{Hit, resumes-later, differ-later, small-later, gUncalm, vHit, gHit, hurt-inv, seen-mark, note-hit, hit-past, less-later}
 
 -- ---- a line without one packet
 
@@ -111,22 +112,12 @@ small-left (x ∷ l) zero a = small-rest x l a
 small-left (x ∷ l) (suc k) a = small-later x (amountsIn l) (amountsIn (left l k)) (small-left l k) a
 
 -- less is on the way
-less-later : (x : Packet) (r s : List Payload) → amount r ≤ amount s → amount (amountOf x r) ≤ amount (amountOf x s)
-unfolding amount
-less-later Empty r s h = h
-less-later (NormalPacket p) r s h = omega arith
-less-later (Checkp v) r s h = h
-less-later Resume r s h = h
-less-later (Recover v) r s h = h
-less-later (Fault p) r s h = h
-less-later Invalid r s h = h
-
-less-left : (l : List Packet) (k : ℕ) → amount (amountsIn (left l k)) ≤ amount (amountsIn l)
+less-left : (y : Party) (l : List Packet) (k : ℕ) → amount y (amountsIn (left l k)) ≤ amount y (amountsIn l)
 unfolding amountsIn
-less-left [] zero = omega arith
-less-left [] (suc k) = omega arith
-less-left (x ∷ l) zero = amount-rest x l
-less-left (x ∷ l) (suc k) = less-later x (amountsIn (left l k)) (amountsIn l) (less-left l k)
+less-left y [] zero = omega arith
+less-left y [] (suc k) = omega arith
+less-left y (x ∷ l) zero = amount-rest y x l
+less-left y (x ∷ l) (suc k) = less-later y x (amountsIn (left l k)) (amountsIn l) (less-left y l k)
 
 none-left : (f : Packet → Bool) (l : List Packet) (k : ℕ) → count f l ≡ 0 → count f (left l k) ≡ 0
 none-left f l k e = omega (arith, count-left f l k)
@@ -156,7 +147,7 @@ normal-full Invalid n = refl
 
 -- ---- the step
 
-module _ (total : ℕ) (g : Group) (h : History) (γ : Ghost) (w : Fit g) (i : Inv (g .n) total (view g) γ) (past : Past (g .n) (view g) γ h)
+module _ (total : Party → ℕ) (g : Group) (h : History) (γ : Ghost) (w : Fit g) (i : Inv (g .n) total (view g) γ) (past : Past (g .n) (view g) γ h)
     (a b p : ℕ) (la : a < 8) (lb : b < 8) (fine : loseRefusal g a b p ≡ 0) (still : some (recoveringOnes g) ≡ false) where
   abbrev old : Packet
   old = packetAt (line g a b) p
@@ -211,8 +202,8 @@ module _ (total : ℕ) (g : Group) (h : History) (γ : Ghost) (w : Fit g) (i : I
   keeps-lose = record {
     ghost = δ;
     inv = subst (λ (x : View). Inv (g .n) total x δ) (sym seen)
-        (hurt-inv (g .n) total v γ i (nobody-recovers g w still) a b true (γ .big .clean) _ (loss-hits (v .lines a b) p normal-there) (λ e. not-twice) (λ e. e)
-        (λ e. less-left (v .lines a b) p));
+        (hurt-inv (g .n) total v γ i (nobody-recovers g w still) a b true (γ .big .clean) _ (loss-hits (v .lines a b) p normal-there) (λ e. not-twice) (λ y e. e)
+        (λ y e. less-left y (v .lines a b) p));
     past = rw (no-cuts (noteHurt h a b) g g′ (λ c e. ap (λ (s : State). isIn s Checkpointing) (sym (state-kept c)) ∙ e))
         (hit-past (past-same state-kept past) a b true (γ .big .clean) (h .damaged) _ (past .damaged) (note-hit past a b));
     stays = stays-none v γ (view g′) δ (nobody-recovers g w still) (λ c e. ap works (state-kept c) ∙ e)

@@ -5,6 +5,7 @@ use mathlib.Core.Bool.{Bool, true, _&&_}
 use mathlib.Core.List.{List}
 use lib.Dec.{leb}
 use borrow.Author.Tests.{leb-true}
+use Rattle.outlet.specs.declared.Party.{Party}
 use Rattle.packet.specs.declared.Packet.{Packet}
 use Rattle.state.specs.declared.State.the-variants.{Normal, Recovering, Recovered}
 use Rattle.image.specs.declared.Image.{Image}
@@ -53,16 +54,16 @@ module _ (b : Big) (c : ℕ) (o : Own) (m : Mind) (z : Bool → Image) (h : Node
       let cu : b .alive ≡ true → m .done ≡ true → unaware b o ≡ true → x ≡ m .cut = λ a. no-done in
       search
 
-pub image-books : (b : Big) (o : Own) (m : Mind) (out got : ℕ) (x : Image) → booked x ≡ booked (o .image) → Books b o m out got → Books b (oImage o x) m out got
-image-books b o m out got x e h = record { bounded = h .bounded; live = λ u. (h .live u .0, rw e (h .live u .1)); atCut = h .atCut }
+pub image-books : (b : Big) (o : Own) (m : Mind) (out got : Party → ℕ) (x : Image) → ((y : Party) → booked y x ≡ booked y (o .image)) → Books b o m out got → Books b (oImage o x) m out got
+image-books b o m out got x e h = record { bounded = h .bounded; live = λ u y. (h .live u y .0, rw (e y) (h .live u y .1)); atCut = h .atCut }
 
 -- ---- together
 
 abbrev noted : View → ℕ → Image → View
 noted v c x = moved v c (oImage (v .own c) x) (v .side c) (v .lines) (v .slots)
 
-module _ (n total : ℕ) (v : View) (γ : Ghost) (c : ℕ) (x : Image) (i : Inv n total v γ) (un : unaware (γ .big) (v .own c) ≡ true)
-    (normal : v .own c .state ≡ Normal) (same : booked x ≡ booked (v .own c .image)) where
+module _ (n : ℕ) (total : Party → ℕ) (v : View) (γ : Ghost) (c : ℕ) (x : Image) (i : Inv n total v γ) (un : unaware (γ .big) (v .own c) ≡ true)
+    (normal : v .own c .state ≡ Normal) (same : (y : Party) → booked y x ≡ booked y (v .own c .image)) where
   abbrev o′ : Own
   o′ = oImage (v .own c) x
 
@@ -91,7 +92,7 @@ module _ (n total : ℕ) (v : View) (γ : Ghost) (c : ℕ) (x : Image) (i : Inv 
 
 -- ---- the step
 
-module _ (total : ℕ) (g : Group) (h : History) (γ : Ghost) (w : Fit g) (i : Inv (g .n) total (view g) γ) (past : Past (g .n) (view g) γ h)
+module _ (total : Party → ℕ) (g : Group) (h : History) (γ : Ghost) (w : Fit g) (i : Inv (g .n) total (view g) γ) (past : Past (g .n) (view g) γ h)
     (a p q : ℕ) (la : a < 8) (fine : noteRefusal g a p q ≡ 0) where
   normal : stateOf g a ≡ Normal
   normal = in-state (stateOf g a) Normal .0 (passed (isIn (stateOf g a) Normal) 13 _ fine .0)
@@ -118,7 +119,7 @@ module _ (total : ℕ) (g : Group) (h : History) (γ : Ghost) (w : Fit g) (i : I
     ghost = γ;
     inv = subst (λ (x : View). Inv (g .n) total x γ) (sym seen)
         (subst (λ (δ : Ghost). Inv (g .n) total (noted (view g) a (withOctet (cabinet g a .image) p q)) δ) (same-ghost γ a)
-        (noted-inv (g .n) total (view g) γ a (withOctet (cabinet g a .image) p q) i calm normal (booked-noted (cabinet g a .image) p q beyond)));
+        (noted-inv (g .n) total (view g) γ a (withOctet (cabinet g a .image) p q) i calm normal (λ y. booked-noted y (cabinet g a .image) p q beyond)));
     past = past-still g g′ state-kept past;
     stays = calm-stays i (view g′) γ a _ _ (ap (λ (u : View). u .own) seen) (ap (λ (u : View). u .side) seen) calm (rw normal) no-fault;
   }

@@ -3,9 +3,10 @@
 use Prim.Native.Nat.{ℕ, _<_}
 use mathlib.Core.Path.{_≡_, refl, sym, ap, _∙_, subst}
 use mathlib.Core.Logic.{⊎-elim}
-use mathlib.Core.Bool.{Bool, true, false, false≢true}
+use mathlib.Core.Bool.{Bool, true, false≢true}
 use mathlib.Core.List.{List, _∷_}
 use Rattle.marks.specs.Marks.{marked}
+use Rattle.outlet.specs.declared.Party.{Party}
 use Rattle.packet.specs.declared.Place.{Place}
 use Rattle.packet.specs.declared.Packet.{Packet}
 use Rattle.packet.specs.declared.Packet.the-variants.{Recover}
@@ -38,7 +39,7 @@ use Rattle.claims.proofs.Moves.Hearing.{off, left-of, off-fit, off-line
 
 -- ---- the packet comes off
 
-pub recover-off-inv : (n total : ℕ) (v : View) (γ : Ghost) → Inv n total v γ → (a b : ℕ) (x : Bool) (k : List Packet) → v .lines a b ≡ Recover x ∷ k
+pub recover-off-inv : (n : ℕ) (total : Party → ℕ) (v : View) (γ : Ghost) → Inv n total v γ → (a b : ℕ) (x : Bool) (k : List Packet) → v .lines a b ≡ Recover x ∷ k
     → Inv n total (setLine v a b k) γ
 unfolding resumeFirst
 recover-off-inv n total v γ i a b x k is =
@@ -48,7 +49,7 @@ recover-off-inv n total v γ i a b x k is =
 
 -- ---- the step, where the packet is dropped
 
-module _ (total : ℕ) (g : Group) (h : History) (γ : Ghost) (w : Fit g) (i : Inv (g .n) total (view g) γ) (past : Past (g .n) (view g) γ h)
+module _ (total : Party → ℕ) (g : Group) (h : History) (γ : Ghost) (w : Fit g) (i : Inv (g .n) total (view g) γ) (past : Past (g .n) (view g) γ h)
     (a b : ℕ) (la : a < 8) (lb : b < 8) (x : Bool) (recover : oldest (line g a b) ≡ Recover x) where
   abbrev k : List Packet
   k = left-of g a b
@@ -73,7 +74,7 @@ module _ (total : ℕ) (g : Group) (h : History) (γ : Ghost) (w : Fit g) (i : I
 
 -- ---- a cabinet in error goes on with the version of the save that the rule gives
 
-module _ (n total : ℕ) (v : View) (γ : Ghost) (i : Inv n total v γ) (c : ℕ) (aw : aware (γ .big) (v .own c) ≡ true) (error : v .own c .state ≡ Error)
+module _ (n : ℕ) (total : Party → ℕ) (v : View) (γ : Ghost) (i : Inv n total v γ) (c : ℕ) (aw : aware (γ .big) (v .own c) ≡ true) (error : v .own c .state ≡ Error)
     (frozen : γ .big .frozen ≡ true) where
   abbrev v′ : View
   v′ = vRecover v c (γ .big .topv)
@@ -100,7 +101,7 @@ pub frozen-past : (n : ℕ) (v : View) (γ : Ghost) (h : History) (t : Bool) →
 frozen-past n v γ h t p = search
 
 -- such a step; the view before it has the cabinets of g, but for marks
-module _ (total : ℕ) (g : Group) (h : History) (γ δ : Ghost) (g′ : Group) (v : View) (c : ℕ) (x : Bool) (same : v .own ≡ view g .own)
+module _ (total : Party → ℕ) (g : Group) (h : History) (γ δ : Ghost) (g′ : Group) (v : View) (c : ℕ) (x : Bool) (same : v .own ≡ view g .own)
     (faults : Faults (view g) γ δ) (aw : aware (γ .big) (view g .own c) ≡ true) (seen : view g′ ≡ vRecover v c x) where
   abbrev goes : ℕ → Own
   goes = upd (view g .own) c (oPhase (view g .own c) Recovering (Known x) (view g .own c .alarm))
@@ -142,7 +143,7 @@ pub recover-head : (x : Version) (q : Place) (y : Bool) (k : List Packet) → Al
 recover-head x q y k a =
     ⊎-elim (λ e. absurd (false≢true (ap isFault e))) (λ e. let same : e .0 ≡ y = cc in e .1 ∙ ap Known same) (alarm-first x q (Recover y) k a)
 
-module _ (total : ℕ) (g : Group) (h : History) (γ : Ghost) (w : Fit g) (i : Inv (g .n) total (view g) γ) (past : Past (g .n) (view g) γ h)
+module _ (total : Party → ℕ) (g : Group) (h : History) (γ : Ghost) (w : Fit g) (i : Inv (g .n) total (view g) γ) (past : Past (g .n) (view g) γ h)
     (a b : ℕ) (la : a < 8) (lb : b < 8) (x : Bool) (recover : oldest (line g a b) ≡ Recover x)
     (error : isIn (stateOf g b) Error ≡ true) (heard : marked (cabinet g b .noted .heard) a ≡ true) where
   abbrev v1 : View

@@ -7,6 +7,7 @@ use mathlib.Core.Bool.{Bool, true, false, not, false≢true}
 use mathlib.Core.List.{List}
 use native.Mathlib.Omega.{arith}
 use borrow.Author.Tests.{eqb-true}
+use Rattle.outlet.specs.declared.Party.{Party}
 use Rattle.packet.specs.declared.Place.{Place}
 use Rattle.packet.specs.declared.Place.the-variants.{Failed as AtFailed}
 use Rattle.packet.specs.declared.Packet.{Packet}
@@ -88,7 +89,7 @@ version-node b c o m z y gone tab h = record {
   sizes = h .sizes;
 }
 
-module _ (n total : ℕ) (v : View) (γ : Ghost) (i : Inv n total v γ) (x : ℕ) (y : Version) (gone : workOf v x ≡ false) (tab : γ .mind x .tab ≡ true) where
+module _ (n : ℕ) (total : Party → ℕ) (v : View) (γ : Ghost) (i : Inv n total v γ) (x : ℕ) (y : Version) (gone : workOf v x ≡ false) (tab : γ .mind x .tab ≡ true) where
   abbrev o′ : Own
   o′ = oVersion (v .own x) y
 
@@ -168,11 +169,11 @@ module _ (n total : ℕ) (v : View) (γ : Ghost) (i : Inv n total v γ) (x : ℕ
 -- ---- the group
 
 -- working cabinets have their versions as before, the failed one that of the coordinator
-pub record Remembered (n total : ℕ) (v : View) (γ : Ghost) (k : ℕ) (q : Place) (u : View) : Type 0 where
+pub record Remembered (n : ℕ) (total : Party → ℕ) (v : View) (γ : Ghost) (k : ℕ) (q : Place) (u : View) : Type 0 where
   pub inv : Inv n total u γ
   pub note : (c : ℕ) → hitsCabinet q c ≡ true → u .own c .version ≡ v .own k .version
 
-module _ (total : ℕ) (g : Group) (γ : Ghost) (w : Fit g) (i : Inv (g .n) total (view g) γ) (k : ℕ) where
+module _ (total : Party → ℕ) (g : Group) (γ : Ghost) (w : Fit g) (i : Inv (g .n) total (view g) γ) (k : ℕ) where
   abbrev y₀ : Version
   y₀ = cabinet g k .phase .version
 

@@ -3,6 +3,7 @@ use Prim.Native.Nat.{ℕ, _<_}
 use mathlib.Core.Path.{_≡_, refl, sym, ap, _∙_, subst}
 use mathlib.Core.Bool.{Bool, true, false, false≢true}
 use mathlib.Core.List.{List}
+use Rattle.outlet.specs.declared.Party.{Party}
 use Rattle.packet.specs.declared.Packet.{Packet}
 use Rattle.state.specs.declared.State.the-variants.{CheckpBegin}
 use Rattle.image.specs.declared.Image.{Image}
@@ -46,10 +47,10 @@ module _ (b : Big) (c d : ℕ) (o : Own) (m : Mind) (p : Own) (n : Mind) (s t : 
 told-node : (b : Big) (c : ℕ) (o : Own) (m : Mind) (z : Bool → Image) → m .wrote ≡ true → Node b c o m z → Node b c o (mTold m) z
 told-node b c o m z wrote h = let tw : _≡_ {A = Bool} true true → m .wrote ≡ true = λ e. wrote in search
 
-told-books : (b : Big) (o : Own) (m : Mind) (out got : ℕ) → Books b o m out got → Books b o (mTold m) out got
+told-books : (b : Big) (o : Own) (m : Mind) (out got : Party → ℕ) → Books b o m out got → Books b o (mTold m) out got
 told-books b o m out got h = record { bounded = h .bounded; live = h .live; atCut = h .atCut }
 
-module _ (n total : ℕ) (v : View) (γ : Ghost) (i : Inv n total v γ) (a : ℕ) (wrote : γ .mind a .wrote ≡ true) (bare : (c : ℕ) → v .side c a .owed ≡ false) where
+module _ (n : ℕ) (total : Party → ℕ) (v : View) (γ : Ghost) (i : Inv n total v γ) (a : ℕ) (wrote : γ .mind a .wrote ≡ true) (bare : (c : ℕ) → v .side c a .owed ≡ false) where
   abbrev m′ : Mind
   m′ = mTold (γ .mind a)
 
@@ -87,7 +88,7 @@ module _ (b : Big) (c d : ℕ) (o : Own) (m : Mind) (p : Own) (n : Mind) (s t : 
   saved-to : Pair b c d o m p n s (sSaved t) l w
   saved-to = search
 
-pub saved-inv : (n total : ℕ) (v : View) (γ : Ghost) → Inv n total v γ → (k a : ℕ) → γ .mind a .wrote ≡ true → γ .mind a .told ≡ true → inSaving (v .own k .state) ≡ true
+pub saved-inv : (n : ℕ) (total : Party → ℕ) (v : View) (γ : Ghost) → Inv n total v γ → (k a : ℕ) → γ .mind a .wrote ≡ true → γ .mind a .told ≡ true → inSaving (v .own k .state) ≡ true
     → Inv n total (vSaved v k a) γ
 saved-inv n total v γ i k a wrote told saves =
     mark-inv n total v γ i k a (sSaved (v .side k a)) refl (λ t p. saved-from _ _ _ _ _ _ _ _ _ _ _ p wrote told saves) (λ s p. saved-to _ _ _ _ _ _ _ _ _ _ _ p)
@@ -97,7 +98,7 @@ saved-inv n total v γ i k a wrote told saves =
 abbrev pub vReported : View → ℕ → ℕ → ℕ → View
 vReported v a h k = vSaved (vOwe v h a false) k a
 
-module _ (n total : ℕ) (v : View) (γ : Ghost) (i : Inv n total v γ) (a h k : ℕ) (owed : v .side h a .owed ≡ true) (saves : inSaving (v .own k .state) ≡ true) where
+module _ (n : ℕ) (total : Party → ℕ) (v : View) (γ : Ghost) (i : Inv n total v γ) (a h k : ℕ) (owed : v .side h a .owed ≡ true) (saves : inSaving (v .own k .state) ≡ true) where
   abbrev v1 : View
   v1 = vOwe v h a false
 

@@ -9,6 +9,7 @@ use native.Mathlib.Omega.{arith}
 use native.Mathlib.Decide.{ℕ-discrete, decLt}
 use Rattle.marks.specs.Marks.{Marks, marked, covers}
 use Rattle.marks.specs.MarksLaws.{covers-has}
+use Rattle.outlet.specs.declared.Party.{Party}
 use Rattle.packet.specs.declared.Place.{Place}
 use Rattle.cabinet.specs.declared.Alarm.the-variants.{Fault as At}
 use Rattle.state.specs.declared.State.{State}
@@ -50,7 +51,7 @@ use Rattle.claims.proofs.Moves.Ending.{the-place, one-place, tabs-at, o
 past-row : (m : Marks) (j : ℕ) → length m ≡ 8 → marked m j ≡ true → j < 8
 past-row m j e t = elim (decLt j 8) [ yes l ↦ l | no n ↦ absurd (never t (List·getD-eq-default m false {n = j} (omega arith))) ]
 
-module _ (total : ℕ) (g : Group) (h : History) (γ : Ghost) (w : Fit g) (i : Inv (g .n) total (view g) γ) (past : Past (g .n) (view g) γ h)
+module _ (total : Party → ℕ) (g : Group) (h : History) (γ : Ghost) (w : Fit g) (i : Inv (g .n) total (view g) γ) (past : Past (g .n) (view g) γ h)
     (reports : Reports (view g)) (a : ℕ) (la : a < 8) (works-a : works (stateOf g a) ≡ true) (fine : restoredRefusal g a ≡ 0) where
   abbrev k : ℕ
   k = coordinator (cabinet g a)
@@ -315,7 +316,7 @@ module _ (total : ℕ) (g : Group) (h : History) (γ : Ghost) (w : Fit g) (i : I
     past2 = record {
       sent = λ c d. refl;
       taken = λ c d. refl;
-      damaged = refl;
+      damaged = λ y. refl;
       hurt = λ c d. refl;
       cuts = λ y c d. absurd (false≢true d);
       noCut = λ y f. absurd (false≢true f);
@@ -340,17 +341,17 @@ module _ (total : ℕ) (g : Group) (h : History) (γ : Ghost) (w : Fit g) (i : I
     image-top : (c : ℕ) → workOf (view gN) c ≡ true → cabinet g2 c .image ≡ γ1 .mind c .top
     image-top c v = kept2 (λ (o : Own). o .image) refl c ∙ invN .core .nodes c .restored (aware-at c v) (recovered-at c v) .0
 
-    counts : (c : ℕ) → c < g .n → amperes (counted h2 g2 c) ≡ booked (γ1 .mind c .top)
-    counts c l = go (workOf (view gN) c) refl
+    counts : (y : Party) (c : ℕ) → c < g .n → amperes y (counted h2 g2 c) ≡ booked y (γ1 .mind c .top)
+    counts y c l = go (workOf (view gN) c) refl
       where
-        go : (t : Bool) → workOf (view gN) c ≡ t → amperes (counted h2 g2 c) ≡ booked (γ1 .mind c .top)
+        go : (t : Bool) → workOf (view gN) c ≡ t → amperes y (counted h2 g2 c) ≡ booked y (γ1 .mind c .top)
         go true v =
-            let y = cut-held invN pastN c v in
-            ap (λ (t : Bool). amperes (cond t (imageIn (latest h .cut c)) (h2 .lost c))) (work2 c ∙ v)
-            ∙ ap (λ (o : Option Cut). amperes (imageIn o)) (y .1) ∙ ap booked (y .2)
+            let x = cut-held invN pastN c v in
+            ap (λ (t : Bool). amperes y (cond t (imageIn (latest h .cut c)) (h2 .lost c))) (work2 c ∙ v)
+            ∙ ap (λ (o : Option Cut). amperes y (imageIn o)) (x .1) ∙ ap (booked y) (x .2)
         go false v =
-            ap (λ (t : Bool). amperes (cond t (imageIn (latest h .cut c)) (h2 .lost c))) (work2 c ∙ v)
-            ∙ ap amperes (lost-now c (γ1 .mind c .top) (pastN .tops c l) (work2 c ∙ v))
+            ap (λ (t : Bool). amperes y (cond t (imageIn (latest h .cut c)) (h2 .lost c))) (work2 c ∙ v)
+            ∙ ap (amperes y) (lost-now c (γ1 .mind c .top) (pastN .tops c l) (work2 c ∙ v))
 
     demand-three : Restored (g .n) total h2 g2
     demand-three = record {
@@ -362,7 +363,7 @@ module _ (total : ℕ) (g : Group) (h : History) (γ : Ghost) (w : Fit g) (i : I
           (y .0, y .1, image-top c u ∙ sym (y .2));
       balanced = pastN .balanced;
       lost = λ c l v. (γ1 .mind c .top, lost-now c (γ1 .mind c .top) (pastN .tops c l) v);
-      adds = sum-cong _ _ (g .n) (λ c l. counts c l) ∙ tops-add invN pastN;
+      adds = λ y. sum-cong _ _ (g .n) (λ c l. counts y c l) ∙ tops-add invN pastN y;
     }
 
     -- they were all in error for one place

@@ -3,6 +3,7 @@ use Prim.Native.Nat.{ℕ}
 use mathlib.Core.Path.{_≡_, refl, subst}
 use mathlib.Core.Bool.{Bool, true}
 use mathlib.Core.List.{List}
+use Rattle.outlet.specs.declared.Party.{Party}
 use Rattle.packet.specs.declared.Packet.{Packet}
 use Rattle.state.specs.declared.State.the-variants.{Recovered}
 use Rattle.image.specs.declared.Image.{Image}
@@ -47,7 +48,7 @@ ready-node : (b : Big) (c : ℕ) (o : Own) (m : Mind) (z : Bool → Image) → a
 ready-node b c o m z a r h =
     let one : mReady m .ready ≡ true → (aware b o ≡ true) × (o .state ≡ Recovered) = λ e. (a, r) in search
 
-module _ (n total : ℕ) (v : View) (γ : Ghost) (i : Inv n total v γ) (a : ℕ) (aw : awareOf v γ a ≡ true) (rec : v .own a .state ≡ Recovered)
+module _ (n : ℕ) (total : Party → ℕ) (v : View) (γ : Ghost) (i : Inv n total v γ) (a : ℕ) (aw : awareOf v γ a ≡ true) (rec : v .own a .state ≡ Recovered)
     (heard : (d : ℕ) → used (v .side a d) ≡ true → v .side a d .heard ≡ true) where
   abbrev m′ : Mind
   m′ = mReady (γ .mind a)
@@ -70,7 +71,7 @@ module _ (n total : ℕ) (v : View) (γ : Ghost) (i : Inv n total v γ) (a : ℕ
       (ready-node _ _ _ _ _ aw rec (i .core .nodes a)))
       (move-books v γ (γ .big) a (v .own a) m′ (v .side a) (v .lines) (v .slots) (γ .wire) (λ j. refl) (λ j. refl) (λ j n. i .core .books j) (ready-books (i .core .books a))))
     where
-      ready-books : {x y : ℕ} → Books (γ .big) (v .own a) (γ .mind a) x y → Books (γ .big) (v .own a) m′ x y
+      ready-books : {x y : Party → ℕ} → Books (γ .big) (v .own a) (γ .mind a) x y → Books (γ .big) (v .own a) m′ x y
       ready-books h = record { bounded = h .bounded; live = h .live; atCut = h .atCut }
 
 -- ---- the coordinator notes it
@@ -86,6 +87,6 @@ module _ (b : Big) (c d : ℕ) (o : Own) (m : Mind) (p : Own) (n : Mind) (s t : 
   mark-to : Pair b c d o m p n s (sRestored t) l w
   mark-to = search
 
-pub marked-inv : (n total : ℕ) (v : View) (γ : Ghost) → Inv n total v γ → (k a : ℕ) → γ .mind a .ready ≡ true → Inv n total (vRestored v k a) γ
+pub marked-inv : (n : ℕ) (total : Party → ℕ) (v : View) (γ : Ghost) → Inv n total v γ → (k a : ℕ) → γ .mind a .ready ≡ true → Inv n total (vRestored v k a) γ
 marked-inv n total v γ i k a ready =
     mark-inv n total v γ i k a (sRestored (v .side k a)) refl (λ t p. mark-from _ _ _ _ _ _ _ _ _ _ _ p ready) (λ s p. mark-to _ _ _ _ _ _ _ _ _ _ _ p)

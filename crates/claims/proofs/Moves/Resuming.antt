@@ -8,6 +8,7 @@ use mathlib.Core.List.{List, _∷_}
 use lib.Dec.{eqb}
 use borrow.Author.Tests.{ne-eqb}
 use Rattle.marks.specs.Marks.{marked}
+use Rattle.outlet.specs.declared.Party.{Party}
 use Rattle.packet.specs.declared.Packet.{Packet}
 use Rattle.packet.specs.declared.Packet.the-variants.{Resume}
 use Rattle.packet.specs.Packet.{isNormal}
@@ -63,7 +64,7 @@ room-resumed v b x r d e = r d (ap (λ (s : ℕ → Side). used (s d)) (sym (upd
 
 -- ---- the step
 
-module _ (total : ℕ) (g : Group) (h : History) (γ : Ghost) (w : Fit g) (i : Inv (g .n) total (view g) γ) (past : Past (g .n) (view g) γ h)
+module _ (total : Party → ℕ) (g : Group) (h : History) (γ : Ghost) (w : Fit g) (i : Inv (g .n) total (view g) γ) (past : Past (g .n) (view g) γ h)
     (a b : ℕ) (la : a < 8) (lb : b < 8) (first : oldest (line g a b) ≡ Resume) (working : works (stateOf g b) ≡ true) where
   abbrev v : View
   v = view g

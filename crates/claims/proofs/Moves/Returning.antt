@@ -13,6 +13,7 @@ use native.Mathlib.Omega.{arith}
 use native.Mathlib.Decide.{decLt}
 use Rattle.marks.specs.Marks.{lowest, covers}
 use Rattle.marks.specs.MarksLaws.{lowest-le-marked, covers-has}
+use Rattle.outlet.specs.declared.Party.{Party}
 use Rattle.packet.specs.declared.Check.{Check}
 use Rattle.packet.specs.declared.Packet.{Packet}
 use Rattle.line.specs.declared.Cell.{Cell}
@@ -44,7 +45,7 @@ use Rattle.claims.proofs.State.Sim.{Fit}
 use Rattle.claims.proofs.State.ViewMoves.{oImage}
 use Rattle.claims.proofs.Answers.Tests.{in-state, those-marked}
 use Rattle.claims.proofs.Invariant.States.{failed-state, known-is-known}
-use Rattle.claims.proofs.Invariant.Facts.{Big, Mind, Wire, Ghost, Pair, Node, Stream, aware, SameTo, unaware, linked, closed, amountsIn, amount}
+use Rattle.claims.proofs.Invariant.Facts.{Big, Mind, Wire, Ghost, Pair, Node, Stream, aware, SameTo, unaware, linked, closed, amountsIn, amount, nothing}
 use Rattle.claims.proofs.Invariant.Whole.{Inv, BooksAt, outOf, gotOf}
 use Rattle.claims.proofs.Invariant.Past.{Past, Kept, HeldIn, bare-balanced, held-now, cut-held}
 use Rattle.claims.proofs.Invariant.Words.{un-of, aware-recovers}
@@ -104,7 +105,7 @@ abbrev mSet : Mind → Image → Mind
 mSet m x = record { tab = m .tab; joined = m .joined; done = m .done; wrote = m .wrote; told = m .told; ready = m .ready; cut = m .cut; base = x; top = x; prev = m .prev }
 
 abbrev wSet : Wire → Wire
-wSet w = record { sent = w .sent; taken = w .taken; ver = w .ver; out = 0; got = 0; hurt = w .hurt; lk = w .lk }
+wSet w = record { sent = w .sent; taken = w .taken; ver = w .ver; out = nothing; got = nothing; hurt = w .hurt; lk = w .lk }
 
 abbrev pub gReturned : Ghost → Point → Ghost
 gReturned γ p = record { big = bSet (γ .big); mind = λ c. mSet (γ .mind c) (imageAt p c); wire = λ c d. wSet (γ .wire c d) }
@@ -114,7 +115,7 @@ gReturned γ p = record { big = bSet (γ .big); mind = λ c. mSet (γ .mind c) (
 set-stream : {waiting hurt : Bool} {put took : Check} {w : Wire} {l : List Packet} → l ≡ [] → Stream waiting hurt put took w l
     → Stream waiting hurt put took (wSet w) l
 unfolding amountsIn amount
-set-stream {hurt} {w} {l} e s = let way : hurt ≡ false → wSet w .out ≡ wSet w .got + amount (amountsIn l) = λ _. rw e in search
+set-stream {hurt} {w} {l} e s = let way : hurt ≡ false → (y : Party) → wSet w .out y ≡ wSet w .got y + amount y (amountsIn l) = λ _ y. rw e in search
 
 set-pair : {b : Big} {c d : ℕ} {o : Own} {m : Mind} {p : Own} {n : Mind} {s t : Side} {l : List Packet} {w : Wire} (x y : Image) → l ≡ []
     → Pair b c d o m p n s t l w → Pair (bSet b) c d (oImage o x) (mSet m x) (oImage p y) (mSet n y) s t l (wSet w)
@@ -122,11 +123,11 @@ unfolding amountsIn amount
 set-pair {b} {o} {m} {p} {n} {s} {t} {l} {w} x y e h =
     let equal : linked m n w ≡ true → closed b p n t ≡ true → b .alive ≡ true → (w .sent ≡ w .taken) × (wSet w .out ≡ wSet w .got) × (w .hurt ≡ false) =
     λ k z a. let y = h .closedEqual k z a in (y .0, refl, y .2) in
-    let apart : linked m n w ≡ false → (w .sent ≡ []) × (w .taken ≡ []) × (wSet w .out ≡ 0) × (wSet w .got ≡ 0) × (w .hurt ≡ false) =
+    let apart : linked m n w ≡ false → (w .sent ≡ []) × (w .taken ≡ []) × (wSet w .out ≡ nothing) × (wSet w .got ≡ nothing) × (w .hurt ≡ false) =
     λ k. let z = h .apart k in (z .0, z .1, refl, refl, z .4) in
     let stream : linked m n w ≡ true → unaware b o ≡ true → unaware b p ≡ true
     → Stream (m .joined && not (n .joined && t .come)) (t .hurt) (s .put) (t .took) (wSet w) l = λ k u v. set-stream e (h .stream k u v) in
-    let fewer : b .clean ≡ true → wSet w .got + amount (amountsIn l) ≤ wSet w .out = λ _. rw e (omega arith) in
+    let fewer : (y : Party) → b .clean y ≡ true → wSet w .got y + amount y (amountsIn l) ≤ wSet w .out y = λ y _. rw e (omega arith) in
     search
 
 -- of a cabinet that has not joined a save
@@ -154,7 +155,7 @@ past-point p name = search
 
 -- ---- a quiet group
 
-module _ (total : ℕ) (g : Group) (h : History) (γ : Ghost) (w : Fit g) (i : Inv (g .n) total (view g) γ) (past : Past (g .n) (view g) γ h)
+module _ (total : Party → ℕ) (g : Group) (h : History) (γ : Ghost) (w : Fit g) (i : Inv (g .n) total (view g) γ) (past : Past (g .n) (view g) γ h)
     (q : quiet g ≡ true) where
   abbrev v : View
   v = view g
@@ -268,8 +269,8 @@ module _ (total : ℕ) (g : Group) (h : History) (γ : Ghost) (w : Fit g) (i : I
     point-held = record {
       eight = refl;
       held = λ c l. held-now (h .lost c) (latest h .cut c) (γ .mind c .top) (past .tops c l) ∙ ap just (sym (top-image c));
-      beyond = λ c l. ap booked (top-image c) ∙ past .beyond c l;
-      adds = sum-cong (λ c. booked (imageAt (pointOf g name) c)) (λ c. booked (γ .mind c .top)) 8 (λ c l. ap booked (top-image c)) ∙ i .core .sums .tops;
+      beyond = λ y c l. ap (booked y) (top-image c) ∙ past .beyond y c l;
+      adds = λ y. sum-cong (λ c. booked y (imageAt (pointOf g name) c)) (λ c. booked y (γ .mind c .top)) 8 (λ c l. ap (booked y) (top-image c)) ∙ i .core .sums .tops y;
       sized = λ c. subst Pictured (sym (top-image c)) (i .core .nodes c .sizes .1 .0);
     }
 
@@ -279,7 +280,7 @@ module _ (total : ℕ) (g : Group) (h : History) (γ : Ghost) (w : Fit g) (i : I
 
 -- ---- the group after a return
 
-module _ {n total : ℕ} {images : ℕ → Option Image} (g : Group) (w : Fit g) (p : Point) (held : PointHeld n total images p) where
+module _ {n : ℕ} {total : Party → ℕ} {images : ℕ → Option Image} (g : Group) (w : Fit g) (p : Point) (held : PointHeld n total images p) where
   past-image : (c : ℕ) → 8 ≤ c → imageAt p c ≡ blankImage
   unfolding imageAt
   past-image c l = List·getD-eq-default (p .images) blankImage {n = c} (omega (arith, held .eight))
@@ -325,7 +326,7 @@ module _ {n total : ℕ} {images : ℕ → Option Image} (g : Group) (w : Fit g)
 
 -- ---- a return in a quiet group
 
-module _ (total : ℕ) (g : Group) (h : History) (γ : Ghost) (w : Fit g) (i : Inv (g .n) total (view g) γ) (past : Past (g .n) (view g) γ h)
+module _ (total : Party → ℕ) (g : Group) (h : History) (γ : Ghost) (w : Fit g) (i : Inv (g .n) total (view g) γ) (past : Past (g .n) (view g) γ h)
     (q : quiet g ≡ true) (p : Point) (images : ℕ → Option Image) (held : PointHeld (g .n) total images p) where
   abbrev v′ : View
   v′ = vReturned (view g) p
@@ -335,11 +336,11 @@ module _ (total : ℕ) (g : Group) (h : History) (γ : Ghost) (w : Fit g) (i : I
 
   set-books : (c : ℕ) → BooksAt v′ γ′ c
   set-books c =
-      let out : outOf γ′ c ≡ 0 = sum-zero (λ d. 0) 8 (λ j l. refl) in
-      let got : gotOf γ′ c ≡ 0 = sum-zero (λ d. 0) 8 (λ j l. refl) in
+      let out : (y : Party) → outOf γ′ c y ≡ 0 = λ y. sum-zero (λ d. 0) 8 (λ j l. refl) in
+      let got : (y : Party) → gotOf γ′ c y ≡ 0 = λ y. sum-zero (λ d. 0) 8 (λ j l. refl) in
       record {
-        bounded = omega (arith, out);
-        live = λ u. (0, omega (arith, out, got));
+        bounded = λ y. omega (arith, out y);
+        live = λ u y. (0, omega (arith, out y, got y));
         atCut = λ a e. absurd (never (i .core .nodes c .doneJoined e) (not-joined total g h γ w i past q c));
       }
 

@@ -84,7 +84,7 @@ module _ (b : Big) (c d : ℕ) (o : Own) (m : Mind) (p : Own) (n : Mind) (s t : 
         reads = f .reads;
         writes = f .writes;
         carries = λ v k e. absurd (no-checkp-end _ v k (bare .checkps) e);
-        onWay = λ e. omega (arith, f .onWay e, ap amount (before ∙ sym (bare .none)));
+        onWay = λ e y. omega (arith, f .onWay e y, ap (amount y) (before ∙ sym (bare .none)));
         tells = f .tells;
       }
 
@@ -119,7 +119,7 @@ module _ (b : Big) (c d : ℕ) (o : Own) (m : Mind) (p : Own) (n : Mind) (s t : 
     room = λ u. omega (arith, bare .safe);
     sound = λ e. bare .invalids;
     unhurt = h .unhurt;
-    noMore = λ e. omega (arith, h .noMore e, ap amount (before ∙ sym (bare .none)));
+    noMore = λ y e. omega (arith, h .noMore y e, ap (amount y) (before ∙ sym (bare .none)));
     small = (h .small .0, (h .small .1 .0, subst Amounts (before ∙ sym (bare .none)) (h .small .1 .1)));
     fit = h .fit;
   }

@@ -8,6 +8,7 @@ use borrow.Author.Tests.{eq-eqb}
 use native.Mathlib.Omega.{arith}
 use Rattle.marks.specs.Marks.{marked, covers}
 use Rattle.marks.specs.MarksLaws.{covers-has}
+use Rattle.outlet.specs.declared.Party.{Party}
 use Rattle.packet.specs.declared.Packet.the-variants.{Resume}
 use Rattle.state.specs.declared.State.{State}
 use Rattle.state.specs.declared.State.the-variants.{Normal, Checkpointing, Checkpointed}
@@ -52,7 +53,7 @@ sim-commit g w k l x e room =
 
 -- ---- the commit in the history
 
-module _ (n total : ℕ) (v : View) (γ : Ghost) (h : History) (i : Inv n total v γ) (un : unaware (γ .big) (v .own (γ .big .chief)) ≡ true)
+module _ (n : ℕ) (total : Party → ℕ) (v : View) (γ : Ghost) (h : History) (i : Inv n total v γ) (un : unaware (γ .big) (v .own (γ .big .chief)) ≡ true)
     (all : (c : ℕ) → γ .mind c .tab ≡ true → (γ .mind c .wrote ≡ true) × (γ .mind c .told ≡ true)) (p : Past n v γ h) where
   abbrev k : ℕ
   k = γ .big .chief
@@ -119,7 +120,7 @@ module _ (n total : ℕ) (v : View) (γ : Ghost) (h : History) (i : Inv n total 
     balanced = λ c d. took c d ∙ sym (equal n total v γ i un all c d .0) ∙ sym (gave c d);
     present = p .present;
     gone = λ c l e. p .gone c l e ∙ ap some (sym (top-out c e));
-    beyond = λ c l. ap booked (top-out c (is-false (γ .mind c .tab) (λ e. omega (arith, i .core .ground .within c e)))) ∙ p .beyond c l;
+    beyond = λ y c l. ap (booked y) (top-out c (is-false (γ .mind c .tab) (λ e. omega (arith, i .core .ground .within c e)))) ∙ p .beyond y c l;
     below = λ e. (record { by = k; cut = h .cuts; known = false }, h .saves, refl, refl, known-below, p .tops, p .balanced);
     begun = λ _. p .begun (inl begun);
     waits = λ c s j. (refl, (_, h .saves, refl));
@@ -127,7 +128,7 @@ module _ (n total : ℕ) (v : View) (γ : Ghost) (h : History) (i : Inv n total 
 
 -- ---- the step
 
-module _ (total : ℕ) (g : Group) (h : History) (γ : Ghost) (w : Fit g) (i : Inv (g .n) total (view g) γ) (past : Past (g .n) (view g) γ h)
+module _ (total : Party → ℕ) (g : Group) (h : History) (γ : Ghost) (w : Fit g) (i : Inv (g .n) total (view g) γ) (past : Past (g .n) (view g) γ h)
     (a : ℕ) (la : a < 8) (fine : savedRefusal g a ≡ 0) where
   abbrev v : View
   v = view g

@@ -1,18 +1,21 @@
--- Kind 1, send: a normal packet comes last on a line in use, and its amount leaves the booking of the sender's outlet.
+-- Kind 1, send: a normal packet comes last on a line in use, and its amount leaves the booking of the sender's outlet or workshop.
 use Prim.Native.Nat.{ℕ, _+_, _<_}
 use mathlib.Core.Path.{_≡_, refl, sym, ap, _∙_, subst}
 use mathlib.Core.Logic.{_≢_}
-use mathlib.Core.Bool.{Bool, true, false, not, _&&_}
+use mathlib.Core.Bool.{Bool, true, false, not, _&&_, cond}
 use mathlib.Core.List.{List, [], _∷_, _++_, append-assoc}
 use lib.ListN.{length, length-append}
 use lib.Seq.{drop-append-le, take-append-le}
-use lib.Dec.{ltb, leb}
-use borrow.Author.Tests.{ltb-true, leb-true}
+use lib.Dec.{ltb, leb, eqb}
+use borrow.Author.Tests.{leb-true}
 use native.Mathlib.Omega.{arith}
 use native.Mathlib.Decide.{ℕ-discrete}
 use Rattle.marks.specs.Marks.{marked}
 use Rattle.outlet.specs.declared.Outlet.{Outlet}
-use Rattle.outlet.specs.Outlet.{endsOf}
+use Rattle.outlet.specs.Outlet.{endsOf, partyOf, sameParty}
+use Rattle.outlet.specs.declared.Party.{Party}
+use Rattle.outlet.specs.declared.Party.the-variants.{Buses, Workshop}
+use Rattle.outlet.specs.declared.Ends.{Ends}
 use Rattle.packet.specs.declared.Payload.{Payload}
 use Rattle.packet.specs.declared.Check.{Check}
 use Rattle.packet.specs.declared.Packet.{Packet}
@@ -31,26 +34,26 @@ use Rattle.group.specs.declared.Group.{Group}
 use Rattle.group.specs.Group.{cabinet, stateOf, line, sum}
 use Rattle.protocol.specs.Kinds.{need, sendRefusal, carried, sent}
 use Rattle.protocol.specs.History.{History, upd, logged, withSent, noteCuts}
-use Rattle.claims.proofs.State.Fun.{never, and-true, and-intro, upd-same, upd-other, upd-elim, sum-cong, sum-at, kept-at, upd-pair, pair-same, pair-other, pair-both}
+use Rattle.claims.proofs.State.Fun.{never, and-true, and-intro, upd-same, upd-other, upd-elim, sum-at, kept-at, upd-pair, pair-same, pair-other, pair-both, cond-elim}
 use Rattle.claims.proofs.State.Every.{passed}
 use Rattle.claims.proofs.State.View.{View, Own, Side, used, view}
 use Rattle.claims.proofs.State.Sim.{Fit, in-use}
 use Rattle.claims.proofs.State.Methods.{sRegisters}
 use Rattle.claims.proofs.State.ViewMoves.{oImage, vSent, sim-sent}
 use Rattle.claims.proofs.Answers.Tests.{in-state}
-use Rattle.claims.proofs.Invariant.Facts.{Big, Mind, Wire, Ghost, Pair, Books, Stream, aware, unaware, linked, behind, closed, amountsIn, count, isFault, isCheckp, isSafe, isInvalid, amount}
+use Rattle.claims.proofs.Invariant.Facts.{Big, Mind, Wire, Ghost, Pair, Books, Stream, aware, unaware, linked, behind, closed, amountsIn, count, isFault, isCheckp, isSafe, isInvalid, amount, part}
 use Rattle.claims.proofs.Invariant.Whole.{Inv, PairAt, BooksAt, outOf, gotOf}
 use Rattle.claims.proofs.Invariant.Staying.{no-fault}
 use Rattle.claims.proofs.Invariant.Past.{Past, Kept, no-cuts, calm-stays}
 use Rattle.claims.proofs.Invariant.Logs.{amounts-snoc, count-snoc, resume-more, differ-more, check-snoc, no-checkp-end, amount-snoc, small-snoc, fitting-snoc, checkp-last}
 use Rattle.claims.proofs.Invariant.Words.{un-of, un-works, linked-used, all-counted}
-use Rattle.claims.proofs.Invariant.Frame.{moved, minded, move-pairs, move-nodes, same-mind, quiet-inv}
+use Rattle.claims.proofs.Invariant.Frame.{moved, minded, move-pairs, move-nodes, same-mind, quiet-inv, out-kept, got-kept}
 use Rattle.claims.proofs.Moves.Noting.{image-from, image-to, image-node}
 
 -- ---- the logs of one pair replaced
 
 abbrev pub wSent : Wire → Payload → Wire
-wSent w q = record { sent = w .sent ++ (q ∷ []); taken = w .taken; ver = w .ver; out = w .out + q .amount; got = w .got; hurt = w .hurt; lk = w .lk }
+wSent w q = record { sent = w .sent ++ (q ∷ []); taken = w .taken; ver = w .ver; out = λ y. w .out y + part y q; got = w .got; hurt = w .hurt; lk = w .lk }
 
 abbrev pub wires : Ghost → ℕ → ℕ → Wire → ℕ → ℕ → Wire
 wires γ a b w = upd (γ .wire) a (upd (γ .wire a) b w)
@@ -101,7 +104,7 @@ module _ (b : Big) (c d : ℕ) (o : Own) (m : Mind) (p : Own) (n : Mind) (s t : 
         reads = f .reads;
         writes = rw (longer, check-snoc, early) (ap (λ (k : Check). stepCheck k q) (rw early at (f .writes)));
         carries = λ v k e. absurd (no-checkp-end more v k no-checkps e);
-        onWay = λ e. omega (arith, f .onWay e, ap amount (amounts-snoc l q), amount-snoc (amountsIn l) q);
+        onWay = λ e y. omega (arith, f .onWay e y, ap (amount y) (amounts-snoc l q), amount-snoc y (amountsIn l) q);
         tells = f .tells;
       }
 
@@ -136,7 +139,7 @@ module _ (b : Big) (c d : ℕ) (o : Own) (m : Mind) (p : Own) (n : Mind) (s t : 
     room = λ u. omega (arith, count-snoc isSafe l (NormalPacket q), h .room u);
     sound = λ e. count-snoc isInvalid l (NormalPacket q) ∙ ap (λ (k : ℕ). k + 0) (h .sound e);
     unhurt = h .unhurt;
-    noMore = λ e. omega (arith, h .noMore e, ap amount (amounts-snoc l q), amount-snoc (amountsIn l) q);
+    noMore = λ y e. omega (arith, h .noMore y e, ap (amount y) (amounts-snoc l q), amount-snoc y (amountsIn l) q);
     small = (small-snoc (w .sent) q (h .small .0) small, (h .small .1 .0, rw (amounts-snoc l q) (small-snoc (amountsIn l) q (h .small .1 .1) small)));
     fit = (fitting-snoc (w .sent) q (h .fit .0) fit, h .fit .1);
   }
@@ -148,21 +151,19 @@ put-back b c d o m p n s t l w h v = search
 
 -- ---- the books of the sender
 
-pub sent-books : (b : Big) (o : Own) (m : Mind) (out more got q : ℕ) (x : Image) → unaware b o ≡ true → (m .done ≡ true → ⊥)
-    → booked x + q ≡ booked (o .image) → more ≡ out + q → Books b o m out got → Books b (oImage o x) m more got
-sent-books b o m out more got q x un undone paid e h =
-    let k = h .live un in
-    record {
-      bounded = omega (arith, k .1);
-      live = λ u. (k .0, omega (arith, k .1));
-      atCut = λ a d. absurd (undone d);
-    }
+pub sent-books : (b : Big) (o : Own) (m : Mind) (out more got q : Party → ℕ) (x : Image) → unaware b o ≡ true → (m .done ≡ true → ⊥)
+    → ((y : Party) → booked y x + q y ≡ booked y (o .image)) → ((y : Party) → more y ≡ out y + q y) → Books b o m out got → Books b (oImage o x) m more got
+sent-books b o m out more got q x un undone paid e h = record {
+  bounded = λ y. omega (arith, h .live un y .1, paid y, e y);
+  live = λ u y. (h .live un y .0, omega (arith, h .live un y .1, paid y, e y));
+  atCut = λ a d. absurd (undone d);
+}
 
 -- ---- together
 
-module _ (n total : ℕ) (v : View) (γ : Ghost) (i : Inv n total v γ) (a b : ℕ) (lb : b < 8) (normal : v .own a .state ≡ Normal)
+module _ (n : ℕ) (total : Party → ℕ) (v : View) (γ : Ghost) (i : Inv n total v γ) (a b : ℕ) (lb : b < 8) (normal : v .own a .state ≡ Normal)
     (us : used (v .side a b) ≡ true) (q : Payload) (small : q .amount < 65536) (fit : fits q ≡ true) (x : Image)
-    (paid : booked x + q .amount ≡ booked (v .own a .image)) where
+    (paid : (y : Party) → booked y x + part y q ≡ booked y (v .own a .image)) where
   abbrev o′ : Own
   o′ = oImage (v .own a) x
 
@@ -235,25 +236,25 @@ module _ (n total : ℕ) (v : View) (γ : Ghost) (i : Inv n total v γ) (a b : �
       move-pairs v γ (γ .big) a o′ (γ .mind a) sides lines′ (v .slots) w′ (λ c d n m. pair-other (v .lines) a b filled c d (λ y z. n y))
       (λ c d n m. pair-other (γ .wire) a b wire′ c d (λ y z. n y)) (λ c d n m. i .core .pairs c d) sent-from sent-self sent-to
 
-  -- what the sender has sent grows by the amount
-  out-more : outOf γ′ a ≡ outOf γ a + q .amount
-  out-more =
-      let f : ℕ → ℕ = λ d. γ .wire a d .out in
-      let g : ℕ → ℕ = λ d. w′ a d .out in
-      let here : g b ≡ f b + q .amount = ap (λ (w : Wire). w .out) (pair-same (γ .wire) a b wire′) in
-      let all : sum g 8 + f b ≡ sum f 8 + g b = sum-at f g b 8 lb (λ d n. ap (λ (w : Wire). w .out) (pair-other (γ .wire) a b wire′ a d (λ y z. n z))) in
+  -- what the sender has sent grows by the amount, for the packet's party
+  out-more : (y : Party) → outOf γ′ a y ≡ outOf γ a y + part y q
+  out-more y =
+      let f : ℕ → ℕ = λ d. γ .wire a d .out y in
+      let g : ℕ → ℕ = λ d. w′ a d .out y in
+      let here : g b ≡ f b + part y q = ap (λ (w : Wire). w .out y) (pair-same (γ .wire) a b wire′) in
+      let all : sum g 8 + f b ≡ sum f 8 + g b = sum-at f g b 8 lb (λ d n. ap (λ (w : Wire). w .out y) (pair-other (γ .wire) a b wire′ a d (λ y z. n z))) in
       omega arith
 
   out-other : (c : ℕ) → c ≢ a → outOf γ′ c ≡ outOf γ c
-  out-other c n = sum-cong _ _ 8 (λ d l. ap (λ (w : Wire). w .out) (pair-other (γ .wire) a b wire′ c d (λ y z. n y)))
+  out-other c n = out-kept γ γ′ c (λ d. ap (λ (w : Wire). w .out) (pair-other (γ .wire) a b wire′ c d (λ y z. n y)))
 
   got-same : (c : ℕ) → gotOf γ′ c ≡ gotOf γ c
-  got-same c = sum-cong _ _ 8 (λ d l. wire-kept (λ (w : Wire). w .got) γ a b wire′ refl d c)
+  got-same c = got-kept γ γ′ c (λ d. wire-kept (λ (w : Wire). w .got) γ a b wire′ refl d c)
 
   books′ : (c : ℕ) → BooksAt v′ γ′ c
   books′ c = rw (got-same c) (elim (ℕ-discrete c a) [
     | yes e ↦ rw (e, upd-same (v .own) a o′, upd-same (γ .mind) a (γ .mind a))
-        (sent-books _ _ _ _ _ _ (q .amount) x un undone paid out-more (i .core .books a))
+        (sent-books _ _ _ _ _ _ (λ y. part y q) x un undone paid out-more (i .core .books a))
     | no d ↦ rw (upd-other (v .own) a o′ c d, upd-other (γ .mind) a (γ .mind a) c d, out-other c d) (i .core .books c)
   ])
 
@@ -272,7 +273,14 @@ module _ (n total : ℕ) (v : View) (γ : Ghost) (i : Inv n total v γ) (a b : �
 
 -- ---- the step
 
-module _ (total : ℕ) (g : Group) (h : History) (γ : Ghost) (w : Fit g) (i : Inv (g .n) total (view g) γ) (past : Past (g .n) (view g) γ h)
+-- both ends of a send are one party's
+ends-party : (s : ℕ) → partyOf (endsOf s .from) ≡ partyOf (endsOf s .to)
+ends-party s =
+    let P : Ends → Type 0 = λ e. partyOf (e .from) ≡ partyOf (e .to) in
+    cond-elim P (eqb s 0) (λ _. refl)
+    (λ _. cond-elim P (eqb s 1) (λ _. refl) (λ _. cond-elim P (eqb s 2) (λ _. refl) (λ _. cond-elim P (eqb s 3) (λ _. refl) (λ _. refl))))
+
+module _ (total : Party → ℕ) (g : Group) (h : History) (γ : Ghost) (w : Fit g) (i : Inv (g .n) total (view g) γ) (past : Past (g .n) (view g) γ h)
     (a b s q : ℕ) (la : a < 8) (lb : b < 8) (lq : q < 65536) (fine : sendRefusal g a b s q ≡ 0) where
   abbrev from : Outlet
   from = endsOf s .from
@@ -280,19 +288,18 @@ module _ (total : ℕ) (g : Group) (h : History) (γ : Ghost) (w : Fit g) (i : I
   abbrev p : Payload
   p = carried g s q
 
-  checks : (r s t u x : Bool) → need r 13 (need s 14 (need t 15 (need u 16 (need x 17 0)))) ≡ 0 → (r ≡ true) × (s ≡ true) × (u ≡ true) × (x ≡ true)
+  checks : (r s t u x : Bool) → need r 13 (need s 14 (need t 15 (need u 16 (need x 17 0)))) ≡ 0 → (r ≡ true) × (s ≡ true) × (u ≡ true)
   checks r s t u x e =
       let e1 = passed r 12 _ e in
       let e2 = passed s 13 _ (e1 .1) in
       let e3 = passed t 14 _ (e2 .1) in
-      let e4 = passed u 15 _ (e3 .1) in
-      (e1 .0, e2 .0, e4 .0, passed x 16 0 (e4 .1) .0)
+      (e1 .0, e2 .0, passed u 15 _ (e3 .1) .0)
 
   abbrev v : View
   v = view g
 
-  met : (marked (inUse (cabinet g a)) b ≡ true) × (isIn (stateOf g a) Normal ≡ true) × (leb q (booking from (cabinet g a .image)) ≡ true) × (ltb (normals (line g a b)) 8 ≡ true)
-  met = checks _ _ (ltb 0 q && leb s 3) _ _ fine
+  met : (marked (inUse (cabinet g a)) b ≡ true) × (isIn (stateOf g a) Normal ≡ true) × (leb q (booking from (cabinet g a .image)) ≡ true)
+  met = checks _ _ (ltb 0 q && leb s 4) _ (ltb (normals (partyOf (endsOf s .to)) (line g a b)) 4) fine
 
   us : used (v .side a b) ≡ true
   us = sym (in-use (cabinet g a) (w .cabs a) b) ∙ met .0
@@ -303,13 +310,13 @@ module _ (total : ℕ) (g : Group) (h : History) (γ : Ghost) (w : Fit g) (i : I
   calm : unaware (γ .big) (v .own a) ≡ true
   calm = un-of (γ .big) (v .own a) (rw normal) (rw normal)
 
-  -- eight normal packets at most stand beside two fail-safe ones
+  -- four normal packets of each party at most stand beside two fail-safe ones
   room : length (v .lines a b) < 12
   room =
-      let few = ltb-true (normals (line g a b)) 8 (met .3) in
+      let few = w .lines a b .few in
       let safe = i .core .pairs a b .room calm in
       let early = i .core .nodes a .inNormal calm normal in
-      omega (arith, all-counted (line g a b .cells), rw early at safe)
+      omega (arith, all-counted (line g a b .cells), few Buses, few Workshop, rw early at safe)
 
   abbrev g′ : Group
   g′ = sent g a b s q
@@ -317,8 +324,10 @@ module _ (total : ℕ) (g : Group) (h : History) (γ : Ghost) (w : Fit g) (i : I
   abbrev paidImage : Image
   paidImage = charged (cabinet g a .image) from q
 
-  paid : booked paidImage + q ≡ booked (cabinet g a .image)
-  paid = booked-charged from (cabinet g a .image) q (w .cabs a .image .octets) (leb-true q (booking from (cabinet g a .image)) (met .2))
+  paid : (y : Party) → booked y paidImage + part y p ≡ booked y (cabinet g a .image)
+  paid y =
+      subst (λ (x : Party). booked y paidImage + cond (sameParty x y) q 0 ≡ booked y (cabinet g a .image)) (ends-party s)
+      (booked-charged y from (cabinet g a .image) q (w .cabs a .image .octets) (leb-true q (booking from (cabinet g a .image)) (met .2)))
 
   pub seen : view g′ ≡ vSent v a b from p
   seen = sim-sent g w a b s q lq la lb room

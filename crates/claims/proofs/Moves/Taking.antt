@@ -9,6 +9,7 @@ use lib.Seq.{drop-append-le, take-append-le}
 use native.Mathlib.Omega.{arith}
 use native.Mathlib.Decide.{ℕ-discrete}
 use Rattle.marks.specs.Marks.{marked}
+use Rattle.outlet.specs.declared.Party.{Party}
 use Rattle.packet.specs.declared.Payload.{Payload}
 use Rattle.packet.specs.declared.Check.{Check}
 use Rattle.packet.specs.declared.Place.{Place}
@@ -28,25 +29,25 @@ use Rattle.group.specs.declared.Group.{Group}
 use Rattle.group.specs.Group.{cabinet, withCabinet, stateOf, line, withLine, sum}
 use Rattle.protocol.specs.Receive.{takesFrom}
 use Rattle.protocol.specs.History.{History, upd, logged, withTaken, noteCuts}
-use Rattle.claims.proofs.State.Fun.{never, and-true, and-intro, is-true, is-false, upd-same, upd-other, upd-elim, sum-cong, sum-at, or-right, kept-at, pair-same, pair-other, pair-both}
+use Rattle.claims.proofs.State.Fun.{never, and-true, and-intro, is-true, is-false, upd-same, upd-other, upd-elim, sum-at, or-right, kept-at, pair-same, pair-other, pair-both}
 use Rattle.claims.proofs.State.Every.{with-line}
 use Rattle.claims.proofs.State.View.{View, Own, Side, used, content, view}
 use Rattle.claims.proofs.State.Shape.{Shaped, Lined, Pictured, shaped}
 use Rattle.claims.proofs.State.Sim.{Fit}
 use Rattle.claims.proofs.State.Methods.{sRegisters}
 use Rattle.claims.proofs.State.ViewMoves.{oImage, vTake, sim-take, sim-off, view-off}
-use Rattle.claims.proofs.Invariant.Facts.{Big, Mind, Wire, Ghost, Pair, Node, Books, Stream, SameTo, aware, unaware, linked, behind, closed, amountsIn, count, isInvalid, checkpLast, resumeFirst, Amounts, Fitting, Differ, amount}
+use Rattle.claims.proofs.Invariant.Facts.{Big, Mind, Wire, Ghost, Pair, Node, Books, Stream, SameTo, aware, unaware, linked, behind, closed, amountsIn, count, isInvalid, checkpLast, resumeFirst, Amounts, Fitting, Differ, amount, part}
 use Rattle.claims.proofs.Invariant.Whole.{Inv, PairAt, BooksAt, outOf, gotOf}
 use Rattle.claims.proofs.Invariant.Staying.{no-fault}
 use Rattle.claims.proofs.Invariant.Past.{Past, Kept, no-cuts, calm-stays, calm-error}
 use Rattle.claims.proofs.Invariant.Logs.{check-snoc, count-rest, small-snoc, fitting-snoc, fitting-at, fitting-drop, differ-none, only-alarms}
 use Rattle.claims.proofs.Invariant.Words.{un-of, un-works, un-not-aware, un-or-aware, linked-used, live-line}
-use Rattle.claims.proofs.Invariant.Frame.{moved, minded, move-pairs, move-nodes, same-mind, quiet-inv}
+use Rattle.claims.proofs.Invariant.Frame.{moved, minded, move-pairs, move-nodes, same-mind, quiet-inv, out-kept, got-kept}
 use Rattle.claims.proofs.Moves.Noting.{image-from, image-to}
 use Rattle.claims.proofs.Moves.Sending.{wires, gWire, wire-kept}
 
 abbrev pub wTaken : Wire → Payload → Wire
-wTaken w q = record { sent = w .sent; taken = w .taken ++ (q ∷ []); ver = w .ver; out = w .out; got = w .got + q .amount; hurt = w .hurt; lk = w .lk }
+wTaken w q = record { sent = w .sent; taken = w .taken ++ (q ∷ []); ver = w .ver; out = w .out; got = λ y. w .got y + part y q; hurt = w .hurt; lk = w .lk }
 
 -- ---- where a normal packet stands first on a line
 
@@ -115,7 +116,7 @@ module _ (b : Big) (c d : ℕ) (o : Own) (m : Mind) (p : Own) (n : Mind) (s t : 
           reads = rw (more, check-snoc) (ap (λ (r : Check). stepCheck r q) (f .reads));
           writes = f .writes;
           carries = λ v j e. f .carries v (NormalPacket q ∷ j) (ap (λ (r : List Packet). NormalPacket q ∷ r) e);
-          onWay = λ e. omega (arith, f .onWay e);
+          onWay = λ e y. omega (arith, f .onWay e y);
           tells = f .tells;
         }
 
@@ -151,7 +152,7 @@ module _ (b : Big) (c d : ℕ) (o : Own) (m : Mind) (p : Own) (n : Mind) (s t : 
       room = λ u. omega (arith, h .room u);
       sound = λ e. count-rest isInvalid (NormalPacket q) k (h .sound e);
       unhurt = h .unhurt;
-      noMore = λ e. omega (arith, h .noMore e);
+      noMore = λ y e. omega (arith, h .noMore y e);
       small = (h .small .0, (small-snoc (w .taken) q (h .small .1 .0) (small-taken .0), small-taken .1));
       fit = (h .fit .0, fitting-snoc (w .taken) q (h .fit .1) fit);
     }
@@ -173,19 +174,17 @@ module _ (b : Big) (c : ℕ) (o : Own) (m : Mind) (z : Bool → Image) (h : Node
       let cu : b .alive ≡ true → m .done ≡ true → unaware b o ≡ true → x ≡ m .cut = λ a d. absurd (undone d) in
       search
 
-  pub taken-books : (out got more q : ℕ) (x : Image) → (j : ℕ) × (booked x + 65536 * j ≡ booked (o .image) + q) → more ≡ got + q
-      → Books b o m out got → Books b (oImage o x) m out more
-  taken-books out got more q x added e g =
-      let k = g .live un in
-      record {
-        bounded = omega (arith, g .bounded);
-        live = λ u. (k .0 + added .0, omega (arith, k .1, added .1));
-        atCut = λ a d. absurd (undone d);
-      }
+  pub taken-books : (out got more q : Party → ℕ) (x : Image) → ((y : Party) → (j : ℕ) × (booked y x + 65536 * j ≡ booked y (o .image) + q y))
+      → ((y : Party) → more y ≡ got y + q y) → Books b o m out got → Books b (oImage o x) m out more
+  taken-books out got more q x added e g = record {
+    bounded = λ y. omega (arith, g .bounded y, e y);
+    live = λ u y. let k = g .live un y in (k .0 + added y .0, omega (arith, k .1, added y .1, e y));
+    atCut = λ a d. absurd (undone d);
+  }
 
 -- ---- together
 
-module _ (n total : ℕ) (v : View) (γ : Ghost) (i : Inv n total v γ) (a b : ℕ) (la : a < 8) (q : Payload) (k : List Packet)
+module _ (n : ℕ) (total : Party → ℕ) (v : View) (γ : Ghost) (i : Inv n total v γ) (a b : ℕ) (la : a < 8) (q : Payload) (k : List Packet)
     (first : v .lines a b ≡ NormalPacket q ∷ k) where
   here : Pair (γ .big) a b (v .own a) (γ .mind a) (v .own b) (γ .mind b) (v .side a b) (v .side b a) (NormalPacket q ∷ k) (γ .wire a b)
   here =
@@ -237,7 +236,8 @@ module _ (n total : ℕ) (v : View) (γ : Ghost) (i : Inv n total v γ) (a b : �
       go Recovered e = absurd (waits (rw e))
       go Crashed e = absurd (never (rw e) (node .running))
 
-  module _ (un : unaware (γ .big) (v .own b) ≡ true) (fit : fits q ≡ true) (x : Image) (added : (j : ℕ) × (booked x + 65536 * j ≡ booked (v .own b .image) + q .amount)) where
+  module _ (un : unaware (γ .big) (v .own b) ≡ true) (fit : fits q ≡ true) (x : Image)
+      (added : (y : Party) → (j : ℕ) × (booked y x + 65536 * j ≡ booked y (v .own b .image) + part y q)) where
     abbrev o′ : Own
     o′ = oImage (v .own b) x
 
@@ -290,26 +290,26 @@ module _ (n total : ℕ) (v : View) (γ : Ghost) (i : Inv n total v γ) (a b : �
         move-pairs v γ (γ .big) b o′ (γ .mind b) sides lines′ (v .slots) w′ (λ c d n m. pair-other (v .lines) a b k c d (λ y z. m z))
         (λ c d n m. pair-other (γ .wire) a b wire′ c d (λ y z. m z)) (λ c d n m. i .core .pairs c d) taken-from taken-self taken-to
 
-    -- what the receiver has taken grows by the amount
-    got-more : gotOf γ′ b ≡ gotOf γ b + q .amount
-    got-more =
-        let f : ℕ → ℕ = λ c. γ .wire c b .got in
-        let g : ℕ → ℕ = λ c. w′ c b .got in
-        let at : g a ≡ f a + q .amount = ap (λ (w : Wire). w .got) (pair-same (γ .wire) a b wire′) in
+    -- what the receiver has taken grows by the amount, for the packet's party
+    got-more : (y : Party) → gotOf γ′ b y ≡ gotOf γ b y + part y q
+    got-more y =
+        let f : ℕ → ℕ = λ c. γ .wire c b .got y in
+        let g : ℕ → ℕ = λ c. w′ c b .got y in
+        let at : g a ≡ f a + part y q = ap (λ (w : Wire). w .got y) (pair-same (γ .wire) a b wire′) in
         let all : sum g 8 + f a ≡ sum f 8 + g a =
-        sum-at f g a 8 la (λ c n. ap (λ (w : Wire). w .got) (pair-other (γ .wire) a b wire′ c b (λ y z. n y))) in
+        sum-at f g a 8 la (λ c n. ap (λ (w : Wire). w .got y) (pair-other (γ .wire) a b wire′ c b (λ y z. n y))) in
         omega arith
 
     got-other : (c : ℕ) → c ≢ b → gotOf γ′ c ≡ gotOf γ c
-    got-other c n = sum-cong _ _ 8 (λ d l. ap (λ (w : Wire). w .got) (pair-other (γ .wire) a b wire′ d c (λ y z. n z)))
+    got-other c n = got-kept γ γ′ c (λ d. ap (λ (w : Wire). w .got) (pair-other (γ .wire) a b wire′ d c (λ y z. n z)))
 
     out-same : (c : ℕ) → outOf γ′ c ≡ outOf γ c
-    out-same c = sum-cong _ _ 8 (λ d l. wire-kept (λ (w : Wire). w .out) γ a b wire′ refl c d)
+    out-same c = out-kept γ γ′ c (λ d. wire-kept (λ (w : Wire). w .out) γ a b wire′ refl c d)
 
     books′ : (c : ℕ) → BooksAt v′ γ′ c
     books′ c = rw (out-same c) (elim (ℕ-discrete c b) [
       | yes e ↦ rw (e, upd-same (v .own) b o′, upd-same (γ .mind) b (γ .mind b))
-          (taken-books _ b _ _ (v .slots b) (i .core .nodes b) un take-undone _ _ _ (q .amount) x added got-more (i .core .books b))
+          (taken-books _ b _ _ (v .slots b) (i .core .nodes b) un take-undone _ _ _ (λ y. part y q) x added got-more (i .core .books b))
       | no d ↦ rw (upd-other (v .own) b o′ c d, upd-other (γ .mind) b (γ .mind b) c d, got-other c d) (i .core .books c)
     ])
 
@@ -328,7 +328,7 @@ module _ (n total : ℕ) (v : View) (γ : Ghost) (i : Inv n total v γ) (a b : �
 
 -- ---- the step
 
-module _ (total : ℕ) (g : Group) (γ : Ghost) (i : Inv (g .n) total (view g) γ) (a b : ℕ) (la : a < 8) (q : Payload)
+module _ (total : Party → ℕ) (g : Group) (γ : Ghost) (i : Inv (g .n) total (view g) γ) (a b : ℕ) (la : a < 8) (q : Payload)
     (first : oldest (line g a b) ≡ NormalPacket q) where
   abbrev left : List Packet
   left = content (rest (line g a b) .cells)
@@ -373,8 +373,8 @@ module _ (total : ℕ) (g : Group) (γ : Ghost) (i : Inv (g .n) total (view g) �
     abbrev image′ : Image
     image′ = credited (cabinet g b .image) (q .outlet) (q .amount)
 
-    added : (j : ℕ) × (booked image′ + 65536 * j ≡ booked (cabinet g b .image) + q .amount)
-    added = booked-credited (q .outlet) (cabinet g b .image) (q .amount) (w .cabs b .image .octets)
+    added : (y : Party) → (j : ℕ) × (booked y image′ + 65536 * j ≡ booked y (cabinet g b .image) + part y q)
+    added y = booked-credited y (q .outlet) (cabinet g b .image) (q .amount) (w .cabs b .image .octets)
 
     seen : view g′ ≡ moved v b (oImage (v .own b) image′) (sides (g .n) total v γ i a b la q left lined calm fit image′ added)
         (upd (v .lines) a (upd (v .lines a) b left)) (v .slots)

@@ -9,6 +9,7 @@ use borrow.Author.Tests.{eq-eqb, ne-eqb}
 use native.Mathlib.Omega.{arith}
 use native.Mathlib.Decide.{ℕ-discrete}
 use Rattle.marks.specs.Reach.{connected}
+use Rattle.outlet.specs.declared.Party.{Party}
 use Rattle.packet.specs.declared.Place.{Place}
 use Rattle.packet.specs.declared.Place.the-variants.{Tripped as AtTripped}
 use Rattle.state.specs.declared.State.{State}
@@ -55,7 +56,7 @@ split-or false false true true e = (refl, refl, λ f. refl)
 split-or false false true false e = absurd (true≢false e)
 split-or false false false w e = (refl, refl, λ f. absurd (false≢true f))
 
-module _ (total : ℕ) (g : Group) (h : History) (γ : Ghost) (fit : Fit g) (i : Inv (g .n) total (view g) γ) (past : Past (g .n) (view g) γ h)
+module _ (total : Party → ℕ) (g : Group) (h : History) (γ : Ghost) (fit : Fit g) (i : Inv (g .n) total (view g) γ) (past : Past (g .n) (view g) γ h)
     (a : ℕ) (la : a < 8) (an : a < g .n) (up : workOf (view g) a ≡ true) (fine : tripCrashes g a ≡ false) (k : ℕ) where
   abbrev v : View
   v = view g

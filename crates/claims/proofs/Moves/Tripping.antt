@@ -8,6 +8,7 @@ use mathlib.Core.List.{List, []}
 use lib.Dec.{eqb}
 use native.Mathlib.Omega.{arith}
 use native.Mathlib.Decide.{ℕ-discrete}
+use Rattle.outlet.specs.declared.Party.{Party}
 use Rattle.packet.specs.declared.Place.{Place}
 use Rattle.packet.specs.declared.Place.the-variants.{Tripped as AtTripped}
 use Rattle.packet.specs.declared.Packet.{Packet}
@@ -125,7 +126,7 @@ module _ (b : Big) (c d : ℕ) (o : Own) (m : Mind) (p : Own) (n : Mind) (s t : 
     room = λ u. omega arith;
     sound = λ e. refl;
     unhurt = h .unhurt;
-    noMore = λ e. omega (arith, h .noMore e);
+    noMore = λ y e. omega (arith, h .noMore y e);
     small = (h .small .0, (h .small .1 .0, search));
     fit = h .fit;
   }
@@ -190,12 +191,12 @@ module _ (b : Big) (c : ℕ) (o : Own) (m : Mind) (z : Bool → Image) (h : Node
         sizes = h .sizes;
       }
 
-  trip-books : (out got : ℕ) → Books b o m out got → Books b (oTripped o c y) m out got
+  trip-books : (out got : Party → ℕ) → Books b o m out got → Books b (oTripped o c y) m out got
   trip-books out got k = record { bounded = k .bounded; live = not-calm; atCut = k .atCut }
 
 -- ---- the group with the tripped cabinet; nobody else is in error, recovering or recovered
 
-module _ (n total : ℕ) (v : View) (γ : Ghost) (i : Core n total v γ) (none : (c : ℕ) → inRecovery (v .own c .state) ≡ false)
+module _ (n : ℕ) (total : Party → ℕ) (v : View) (γ : Ghost) (i : Core n total v γ) (none : (c : ℕ) → inRecovery (v .own c .state) ≡ false)
     (fault : γ .big .faulted ≡ true) (a : ℕ) (up : workOf v a ≡ true) (meets : (d : ℕ) → used (v .side a d) ≡ true → workOf v d ≡ true) where
   abbrev q : Place
   q = AtTripped a

@@ -7,6 +7,7 @@ use mathlib.Core.Bool.{Bool, true, false, not, _&&_, _||_, false≢true, true≢
 use mathlib.Core.List.{List, []}
 use borrow.Author.Tests.{ne-eqb}
 use native.Mathlib.Omega.{arith}
+use Rattle.outlet.specs.declared.Party.{Party}
 use Rattle.packet.specs.declared.Packet.{Packet}
 use Rattle.state.specs.declared.State.{State}
 use Rattle.state.specs.declared.State.the-variants.{Normal, CheckpBegin, Checkpointing, Checkpointed, Error, Recovered}
@@ -83,7 +84,7 @@ lost-node b c o m z h =
     let g : false ≡ true → unaware b o ≡ true → o .state ≡ Checkpointing → SameTo (8 * o .pieces) (z (not (b .topv))) (m .cut) = λ a. absurd (false≢true a) in
     search
 
-pub lost-books : (b : Big) (o : Own) (m : Mind) (out got : ℕ) → Books b o m out got → Books (bLost b) o m out got
+pub lost-books : (b : Big) (o : Own) (m : Mind) (out got : Party → ℕ) → Books b o m out got → Books (bLost b) o m out got
 lost-books b o m out got h = record { bounded = h .bounded; live = h .live; atCut = λ a. absurd (false≢true a) }
 
 -- ---- the commit is undone
@@ -223,5 +224,5 @@ module _ (b : Big) (c : ℕ) (o : Own) (m : Mind) (z : Bool → Image) (h : Node
     sizes = (h .sizes .1 .0, (h .sizes .1 .1, h .sizes .1 .1));
   }
 
-pub undone-books : (b : Big) (o : Own) (m : Mind) (out got : ℕ) → Books b o m out got → Books (bUndo b) o (mUndo m) out got
+pub undone-books : (b : Big) (o : Own) (m : Mind) (out got : Party → ℕ) → Books b o m out got → Books (bUndo b) o (mUndo m) out got
 undone-books b o m out got h = record { bounded = h .bounded; live = h .live; atCut = λ a. absurd (false≢true a) }

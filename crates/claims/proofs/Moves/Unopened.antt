@@ -4,6 +4,7 @@ use Prim.Native.Nat.{ℕ, _<_}
 use mathlib.Core.Path.{_≡_, sym, ap, _∙_}
 use mathlib.Core.Logic.{_≢_}
 use mathlib.Core.Bool.{true, false}
+use Rattle.outlet.specs.declared.Party.{Party}
 use Rattle.state.specs.State.{inRecovery}
 use Rattle.group.specs.declared.Group.{Group}
 use Rattle.group.specs.Group.{some, recoveringOnes}
@@ -15,7 +16,7 @@ use Rattle.claims.proofs.Invariant.Whole.{Core, Inv, workOf}
 use Rattle.claims.proofs.Invariant.Words.{un-of, chief-lives, aware-recovers, nobody-recovers}
 use Rattle.claims.proofs.Moves.FirstFault.{gFaulted, flip-core}
 
-module _ (total : ℕ) (g : Group) (γ : Ghost) (fit : Fit g) (i : Inv (g .n) total (view g) γ) (calm : some (recoveringOnes g) ≡ false) where
+module _ (total : Party → ℕ) (g : Group) (γ : Ghost) (fit : Fit g) (i : Inv (g .n) total (view g) γ) (calm : some (recoveringOnes g) ≡ false) where
   abbrev v : View
   v = view g
 

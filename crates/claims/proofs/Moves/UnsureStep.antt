@@ -9,6 +9,7 @@ use native.Mathlib.Omega.{arith}
 use native.Mathlib.Decide.{ℕ-discrete}
 use Rattle.marks.specs.Marks.{marked, covers}
 use Rattle.marks.specs.MarksLaws.{covers-has}
+use Rattle.outlet.specs.declared.Party.{Party}
 use Rattle.packet.specs.declared.Packet.{Packet}
 use Rattle.state.specs.declared.State.{State}
 use Rattle.state.specs.declared.State.the-variants.{Error, Recovering}
@@ -54,13 +55,13 @@ module _ (b : Big) (c d : ℕ) (o : Own) (m : Mind) (p : Own) (n : Mind) (s t : 
   unsure-to : Pair b c d o m p n s (sUnsure t) l w
   unsure-to = search
 
-unsure-inv : (n total : ℕ) (v : View) (γ : Ghost) → Inv n total v γ → (k a : ℕ) → Inv n total (vUnsure v k a) γ
+unsure-inv : (n : ℕ) (total : Party → ℕ) (v : View) (γ : Ghost) → Inv n total v γ → (k a : ℕ) → Inv n total (vUnsure v k a) γ
 unsure-inv n total v γ i k a =
     mark-inv n total v γ i k a (sUnsure (v .side k a)) refl (λ t p. unsure-from _ _ _ _ _ _ _ _ _ _ _ p) (λ s p. unsure-to _ _ _ _ _ _ _ _ _ _ _ p)
 
 -- ---- the step
 
-module _ (total : ℕ) (g : Group) (h : History) (γ : Ghost) (w : Fit g) (i : Inv (g .n) total (view g) γ) (past : Past (g .n) (view g) γ h)
+module _ (total : Party → ℕ) (g : Group) (h : History) (γ : Ghost) (w : Fit g) (i : Inv (g .n) total (view g) γ) (past : Past (g .n) (view g) γ h)
     (reports : Reports (view g)) (a : ℕ) (la : a < 8) (fine : unsureRefusal g a ≡ 0) where
   abbrev v : View
   v = view g

@@ -9,6 +9,7 @@ use native.Mathlib.Omega.{arith}
 use native.Mathlib.Decide.{ℕ-discrete}
 use Rattle.marks.specs.Marks.{covers}
 use Rattle.marks.specs.MarksLaws.{covers-has}
+use Rattle.outlet.specs.declared.Party.{Party}
 use Rattle.packet.specs.declared.Place.{Place}
 use Rattle.packet.specs.declared.Place.the-variants.{Failed as AtFailed, Tripped as AtTripped, Link as AtLink}
 use Rattle.state.specs.declared.State.{State}
@@ -52,7 +53,7 @@ lost-one : (m : Alarm) (c : Cabinet) → lostCoordinator m c ≡ true → (q : P
 lost-one Quiet c e = absurd (false≢true e)
 lost-one (At q) c e = let p = and-true {s = c .noted .former} e in (q, refl, p .0, p .1)
 
-module _ (total : ℕ) (g : Group) (γ : Ghost) (i : Inv (g .n) total (view g) γ) (a : ℕ) (fine : waitOverRefusal g a ≡ 0) where
+module _ (total : Party → ℕ) (g : Group) (γ : Ghost) (i : Inv (g .n) total (view g) γ) (a : ℕ) (fine : waitOverRefusal g a ≡ 0) where
   abbrev v : View
   v = view g
 
@@ -107,7 +108,7 @@ module _ (total : ℕ) (g : Group) (γ : Ghost) (i : Inv (g .n) total (view g) �
 
 -- ---- after it
 
-module _ (total : ℕ) (g : Group) (h : History) (γ : Ghost) (w : Fit g) (i : Inv (g .n) total (view g) γ) (past : Past (g .n) (view g) γ h)
+module _ (total : Party → ℕ) (g : Group) (h : History) (γ : Ghost) (w : Fit g) (i : Inv (g .n) total (view g) γ) (past : Past (g .n) (view g) γ h)
     (a : ℕ) (fine : waitOverRefusal g a ≡ 0) where
   abbrev g′ : Group
   g′ = waitedOver g a

@@ -7,6 +7,7 @@ use mathlib.Core.Bool.{Bool, true, false, not, false≢true, true≢false}
 use mathlib.Core.List.{List, [], _∷_, nil≢cons}
 use lib.ListN.{getD}
 use native.Mathlib.Omega.{arith}
+use Rattle.outlet.specs.declared.Party.{Party}
 use Rattle.packet.specs.declared.Packet.{Packet}
 use Rattle.packet.specs.declared.Packet.the-variants.{Empty, Resume}
 use Rattle.packet.specs.Packet.{isEmpty}
@@ -73,7 +74,7 @@ adopted-node b c o m z h =
     let sp : bAdopted b .adopted ≡ false → m .tab ≡ true → (c ≡ b .chief → m .done ≡ false) → z (not (b .topv)) ≡ m .prev = λ e. absurd (true≢false e) in
     search
 
-pub adopted-books : (b : Big) (o : Own) (m : Mind) (out got : ℕ) → Books b o m out got → Books (bAdopted b) o m out got
+pub adopted-books : (b : Big) (o : Own) (m : Mind) (out got : Party → ℕ) → Books b o m out got → Books (bAdopted b) o m out got
 adopted-books b o m out got h = record { bounded = h .bounded; live = h .live; atCut = h .atCut }
 
 -- who leads does not hang on the save
@@ -146,7 +147,7 @@ module _ (b : Big) (c : ℕ) (o : Own) (m : Mind) (z : Bool → Image) (h : Node
     sizes = h .sizes;
   }
 
-  pub wake-books : (out got : ℕ) → Books b o m out got → Books (bAdopted b) o′ m out got
+  pub wake-books : (out got : Party → ℕ) → Books b o m out got → Books (bAdopted b) o′ m out got
   wake-books out got k = record { bounded = k .bounded; live = λ u. k .live (wait-un b o m wait); atCut = k .atCut }
 
 -- ---- the group
@@ -161,7 +162,7 @@ woken v c x r = moved v c (oResumed (v .own c) x) (λ d. sCleared (v .side c d))
 abbrev pub gAdopted : Ghost → Ghost
 gAdopted γ = record { big = bAdopted (γ .big); mind = γ .mind; wire = γ .wire }
 
-module _ (n total : ℕ) (v : View) (γ : Ghost) (i : Inv n total v γ) (c : ℕ) (wait : behind (γ .big) (v .own c) (γ .mind c) ≡ true)
+module _ (n : ℕ) (total : Party → ℕ) (v : View) (γ : Ghost) (i : Inv n total v γ) (c : ℕ) (wait : behind (γ .big) (v .own c) (γ .mind c) ≡ true)
     (fresh : γ .mind c .joined ≡ false) (other : c ≢ γ .big .chief) (r : ℕ → Bool) (where-used : (d : ℕ) → r d ≡ true → used (v .side c d) ≡ true)
     (where-waited : (d : ℕ) → linked (γ .mind c) (γ .mind d) (γ .wire c d) ≡ true → behind (γ .big) (v .own d) (γ .mind d) ≡ true → r d ≡ true) where
   abbrev x : Version
@@ -274,7 +275,7 @@ module _ (n total : ℕ) (v : View) (γ : Ghost) (i : Inv n total v γ) (c : ℕ
 
 -- ---- a resume that stands in a line
 
-module _ (n total : ℕ) (v : View) (γ : Ghost) (i : Inv n total v γ) (a b j : ℕ) (there : getD (v .lines a b) j Empty ≡ Resume) where
+module _ (n : ℕ) (total : Party → ℕ) (v : View) (γ : Ghost) (i : Inv n total v γ) (a b j : ℕ) (there : getD (v .lines a b) j Empty ≡ Resume) where
   some : v .lines a b ≡ [] → ⊥
   some e = true≢false (ap (λ (l : List Packet). isEmpty (getD l j Empty)) (sym e) ∙ ap isEmpty there)
 
@@ -305,7 +306,7 @@ module _ (n total : ℕ) (v : View) (γ : Ghost) (i : Inv n total v γ) (a b j :
 
 -- ---- and stands first in it
 
-module _ (n total : ℕ) (v : View) (γ : Ghost) (i : Inv n total v γ) (a b : ℕ) (k : List Packet) (line : v .lines a b ≡ Resume ∷ k) where
+module _ (n : ℕ) (total : Party → ℕ) (v : View) (γ : Ghost) (i : Inv n total v γ) (a b : ℕ) (k : List Packet) (line : v .lines a b ≡ Resume ∷ k) where
   abbrev first : getD (v .lines a b) 0 Empty ≡ Resume
   first = ap (λ (l : List Packet). getD l 0 Empty) line
 

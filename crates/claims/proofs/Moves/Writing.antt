@@ -9,6 +9,7 @@ use lib.Dec.{eqb, ltb}
 use borrow.Author.Tests.{eq-eqb, ne-eqb, ltb-true, ltb-false}
 use native.Mathlib.Omega.{arith}
 use native.Mathlib.Decide.{ℕ-discrete}
+use Rattle.outlet.specs.declared.Party.{Party}
 use Rattle.packet.specs.declared.Packet.{Packet}
 use Rattle.state.specs.declared.State.{State}
 use Rattle.state.specs.declared.State.the-variants.{CheckpBegin, Checkpointing, Checkpointed, Error, Recovering}
@@ -252,7 +253,7 @@ module _ (b : Big) (c : ℕ) (o : Own) (m : Mind) (z y : Bool → Image) (h : No
       sizes = h .sizes;
     }
 
-pub last-books : (b : Big) (o : Own) (m : Mind) (out got : ℕ) (x : Version) → unaware b o ≡ true → Books b o m out got → Books b (oWritten o x) (mWrote m) out got
+pub last-books : (b : Big) (o : Own) (m : Mind) (out got : Party → ℕ) (x : Version) → unaware b o ≡ true → Books b o m out got → Books b (oWritten o x) (mWrote m) out got
 last-books b o m out got x un h = record { bounded = h .bounded; live = λ u. h .live un; atCut = h .atCut }
 
 -- ---- together
@@ -279,7 +280,7 @@ module _ (v : View) (a : ℕ) (x : Bool) (m : Image) where
   pub stored-there : (i : ℕ) → i ≢ a → stored v a x m i ≡ v .slots i
   stored-there i n = upd-other (v .slots) a _ i n
 
-module _ (n total : ℕ) (v : View) (γ : Ghost) (a : ℕ) (i : Inv n total v γ) (un : unaware (γ .big) (v .own a) ≡ true)
+module _ (n : ℕ) (total : Party → ℕ) (v : View) (γ : Ghost) (a : ℕ) (i : Inv n total v γ) (un : unaware (γ .big) (v .own a) ≡ true)
     (at : v .own a .state ≡ Checkpointing) (x : Image) where
   abbrev z′ : ℕ → Bool → Image
   z′ = stored v a (not (γ .big .topv)) x
@@ -421,7 +422,7 @@ module _ (b : Big) (c d : ℕ) (o : Own) (m : Mind) (p : Own) (n : Mind) (s t : 
   pub owed-to : Pair b c d o m p n s (sOwed t x) l w
   owed-to = search
 
-pub owe-inv : (n total : ℕ) (v : View) (γ : Ghost) → Inv n total v γ → (h a : ℕ) (x : Bool)
+pub owe-inv : (n : ℕ) (total : Party → ℕ) (v : View) (γ : Ghost) → Inv n total v γ → (h a : ℕ) (x : Bool)
     → (x ≡ true → (γ .mind a .wrote ≡ true) × (γ .mind a .told ≡ false) × (unaware (γ .big) (v .own h) ≡ true)) → (x ≡ true → v .own a .home ≡ h)
     → Inv n total (vOwe v h a x) γ
 owe-inv n total v γ i h a x owes home =
@@ -456,7 +457,7 @@ sim-write g w a la t e x f =
     ∙ ap (λ (o : Own). setCabinet (setSlot (view g) a y m) a o (view g .side a)) (own-wrote (cabinet g a) a t e)
     ∙ ap (λ (z : Bool). setCabinet (setSlot (view g) a (not z) (withPiece (cabinet g a .noted .pieces) (cabinet g a .image) (slot g a (not z)))) a (oWrote t (cabinet g a) a) (view g .side a)) f
 
-module _ (total : ℕ) (g : Group) (h : History) (γ : Ghost) (w : Fit g) (i : Inv (g .n) total (view g) γ) (past : Past (g .n) (view g) γ h)
+module _ (total : Party → ℕ) (g : Group) (h : History) (γ : Ghost) (w : Fit g) (i : Inv (g .n) total (view g) γ) (past : Past (g .n) (view g) γ h)
     (a : ℕ) (la : a < 8) (ln : a < g .n) (fine : writeRefusal g a ≡ 0) where
   abbrev v : View
   v = view g

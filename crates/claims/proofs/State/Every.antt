@@ -11,7 +11,7 @@ use native.Mathlib.Omega.{arith}
 use Rattle.marks.specs.Marks.{Marks, marked, covers}
 use Rattle.marks.specs.Reach.{struck, connected}
 use Rattle.outlet.specs.declared.Outlet.{Outlet}
-use Rattle.outlet.specs.Outlet.{endsOf}
+use Rattle.outlet.specs.Outlet.{endsOf, partyOf}
 use Rattle.packet.specs.declared.Payload.{Payload}
 use Rattle.packet.specs.declared.Check.{Check}
 use Rattle.packet.specs.declared.Place.{Place}
@@ -208,7 +208,7 @@ pub record Closed (C : Cabinet → Type 0) (L : Line → Type 0) (I : Image → 
   pub noPackets : L emptyLine
   pub less : (l : Line) → L l → L (rest l)
   pub more : (l : Line) (p : Packet) → isNormal p ≡ false → L l → L (put l p)
-  pub sends : (l : Line) (p : Payload) → p .amount < 65536 → normals l < 8 → L l → L (put l (NormalPacket p))
+  pub sends : (l : Line) (p : Payload) → p .amount < 65536 → normals (partyOf (p .outlet)) l < 4 → L l → L (put l (NormalPacket p))
   pub damages : (l : Line) (k : ℕ) (w : Pattern) → w .mask < 65536 → L l → L (replaced l k (damaged (packetAt l k) w))
   pub loses : (l : Line) (k : ℕ) → L l → L (without l k)
 
@@ -547,7 +547,7 @@ module _ (C : Cabinet → Type 0) (L : Line → Type 0) (I : Image → Type 0) (
     ok-send a b p q l =
         or-refuse (sendRefusal g a b p q) g (taken (sent g a b p q))
         (λ e.
-        let room = ltb-true (normals (line g a b)) 8 (fifth (marked (inUse (cabinet g a)) b) (isIn (stateOf g a) Normal) (ltb 0 q && leb p 3) (leb q (booking (endsOf p .from) (cabinet g a .image))) (ltb (normals (line g a b)) 8) e) in
+        let room = ltb-true (normals (partyOf (endsOf p .to)) (line g a b)) 4 (fifth (marked (inUse (cabinet g a)) b) (isIn (stateOf g a) Normal) (ltb 0 q && leb p 4) (leb q (booking (endsOf p .from) (cabinet g a .image))) (ltb (normals (partyOf (endsOf p .to)) (line g a b)) 4) e) in
         with-line (withCabinet g a (sending (cabinet g a) b (endsOf p .from) (carried g p q))) a b
         (put (line g a b) (NormalPacket (carried g p q)))
         (k .sends (line g a b) (carried g p q) l room (h .lines a b))

@@ -83,6 +83,10 @@ module _ {A : Type 0} where
   unfolding upd
   upd-other f a v i n = rw (ne-eqb i a n)
 
+-- equal functions, at a value
+pub same-at : {A B : Type 0} {f g : A → B} → f ≡ g → (x : A) → f x ≡ g x
+same-at {A} {B} e x = ap (λ (h : A → B). h x) e
+
 pub upd-id : {A : Type 0} (g : ℕ → A) (c : ℕ) → upd g c (g c) ≡ g
 upd-id g c = fun-ext (λ i. upd-elim (λ y. y ≡ g i) g c (g c) i (λ e. ap g (sym e)) (λ n. refl))
 

@@ -1,7 +1,7 @@
--- In every run each cabinet's rows have eight marks, its image 32 octets; each line has twelve cells, the packets first, at most eight of
--- them normal; each saved image has 32 octets.
+-- In every run each cabinet's rows have eight marks, its image 32 octets; each line has twelve cells, the packets first, at most four of
+-- them normal ones of each party; each saved image has 32 octets.
 use Prim.Native.Nat.{ℕ, zero, suc, _+_, _*_, _<_, _≤_}
-use mathlib.Core.Path.{_≡_, refl, sym, ap, _∙_}
+use mathlib.Core.Path.{_≡_, refl, sym, ap, subst, _∙_}
 use mathlib.Core.Bool.{Bool, true, false, cond, false≢true}
 use mathlib.Core.List.{List, [], _∷_, _++_}
 use lib.ListN.{length, getD, set, length-set}
@@ -9,16 +9,20 @@ use lib.Dec.{eqb, ltb}
 use native.Mathlib.Omega.{arith}
 use Rattle.marks.specs.Marks.{Marks, marked}
 use Rattle.outlet.specs.declared.Outlet.{Outlet}
+use Rattle.outlet.specs.declared.Party.{Party}
+use Rattle.outlet.specs.declared.Party.the-variants.{Buses, Workshop}
+use Rattle.outlet.specs.Outlet.{partyOf, sameParty}
 use Rattle.packet.specs.declared.Check.{Check}
 use Rattle.packet.specs.declared.Place.{Place}
 use Rattle.packet.specs.declared.Place.the-variants.{Failed as AtFailed, Tripped as AtTripped, Link as AtLink}
 use Rattle.packet.specs.declared.Pattern.{Pattern}
+use Rattle.packet.specs.declared.Payload.{Payload}
 use Rattle.packet.specs.declared.Packet.{Packet}
 use Rattle.packet.specs.declared.Packet.the-variants.{Empty, Normal as NormalPacket, Checkp, Resume, Recover, Fault, Invalid}
 use Rattle.line.specs.declared.Cell.{Cell}
 use Rattle.line.specs.declared.Line.{Line}
-use Rattle.packet.specs.Packet.{isEmpty, isNormal, damaged, startCheck}
-use Rattle.packet.proofs.Bursts.{bounded}
+use Rattle.packet.specs.Packet.{isEmpty, isNormal, isOf, damaged, startCheck}
+use Rattle.packet.proofs.Bursts.{outlet-kept, bounded}
 use Rattle.line.specs.Line.{emptyCell, emptyLine, put, putCells, restCells, withoutCells, normals, normalsIn, packetAt}
 use Rattle.image.specs.declared.Image.{Image}
 use Rattle.cabinet.specs.declared.Cabinet.{Cabinet}
@@ -118,48 +122,61 @@ FitsCell c = Fits (c .packet)
 pub record Lined (l : Line) : Type 0 where
   pub twelve : length (l .cells) ≡ 12
   pub packed : Packed (l .cells)
-  pub few : normals l ≤ 8
+  pub few : (y : Party) → normals y l ≤ 4
   pub fits : (k : ℕ) → FitsCell (getD (l .cells) k emptyCell)
 
-empty-one : (p : Packet) → isEmpty p ≡ true → isNormal p ≡ false
-empty-one p e = rw (empty-is p e)
+-- ---- a party's normal packets
 
-normals-put : (p : Packet) (cs : List Cell) → normalsIn (putCells cs p) ≤ normalsIn cs + cond (isNormal p) 1 0
-normals-put p [] = omega arith
-normals-put p (c ∷ cs) = go (normals-put p cs) (isEmpty (c .packet)) refl
-  where
-    go : normalsIn (putCells cs p) ≤ normalsIn cs + cond (isNormal p) 1 0 → (t : Bool) → isEmpty (c .packet) ≡ t
-        → normalsIn (cond t (record { packet = p } ∷ cs) (c ∷ putCells cs p)) ≤ normalsIn (c ∷ cs) + cond (isNormal p) 1 0
-    go ih true e = rw (empty-one (c .packet) e) (omega arith)
-    go ih false e = omega arith
+safe-of : (y : Party) (p : Packet) → isNormal p ≡ false → isOf y p ≡ false
+safe-of y Empty e = refl
+safe-of y (NormalPacket p) e = absurd (false≢true (sym e))
+safe-of y (Checkp v) e = refl
+safe-of y Resume e = refl
+safe-of y (Recover v) e = refl
+safe-of y (Fault p) e = refl
+safe-of y Invalid e = refl
 
-normals-pad : (cs : List Cell) → normalsIn (cs ++ (emptyCell ∷ [])) ≡ normalsIn cs
-normals-pad [] = refl
-normals-pad (c ∷ cs) = omega (arith, normals-pad cs)
+module _ (y : Party) where
+  empty-one : (p : Packet) → isEmpty p ≡ true → isOf y p ≡ false
+  empty-one p e = rw (empty-is p e)
 
-normals-rest : (cs : List Cell) → normalsIn (restCells cs) ≤ normalsIn cs
-normals-rest [] = omega arith
-normals-rest (c ∷ cs) = omega (arith, normals-pad cs)
+  normals-put : (p : Packet) (cs : List Cell) → normalsIn y (putCells cs p) ≤ normalsIn y cs + cond (isOf y p) 1 0
+  normals-put p [] = omega arith
+  normals-put p (c ∷ cs) = go (normals-put p cs) (isEmpty (c .packet)) refl
+    where
+      go : normalsIn y (putCells cs p) ≤ normalsIn y cs + cond (isOf y p) 1 0 → (t : Bool) → isEmpty (c .packet) ≡ t
+          → normalsIn y (cond t (record { packet = p } ∷ cs) (c ∷ putCells cs p)) ≤ normalsIn y (c ∷ cs) + cond (isOf y p) 1 0
+      go ih true e = rw (empty-one (c .packet) e) (omega arith)
+      go ih false e = omega arith
 
-normals-without : (cs : List Cell) (k : ℕ) → normalsIn (withoutCells cs k) ≤ normalsIn cs
-normals-without [] k = omega arith
-normals-without (c ∷ cs) zero = omega (arith, normals-pad cs)
-normals-without (c ∷ cs) (suc k) = omega (arith, normals-without cs k)
+  normals-pad : (cs : List Cell) → normalsIn y (cs ++ (emptyCell ∷ [])) ≡ normalsIn y cs
+  normals-pad [] = refl
+  normals-pad (c ∷ cs) = omega (arith, normals-pad cs)
 
-normals-set : (cs : List Cell) (k : ℕ) (p : Packet) → isNormal p ≡ isNormal (getD cs k emptyCell .packet)
-    → normalsIn (set cs k (record { packet = p })) ≡ normalsIn cs
-normals-set [] k p e = refl
-normals-set (c ∷ cs) zero p e = rw e
-normals-set (c ∷ cs) (suc k) p e = omega (arith, normals-set cs k p e)
+  normals-rest : (cs : List Cell) → normalsIn y (restCells cs) ≤ normalsIn y cs
+  normals-rest [] = omega arith
+  normals-rest (c ∷ cs) = omega (arith, normals-pad cs)
 
-damaged-normal : (p : Packet) (w : Pattern) → isNormal (damaged p w) ≡ isNormal p
-damaged-normal Empty w = refl
-damaged-normal (NormalPacket p) w = refl
-damaged-normal (Checkp v) w = refl
-damaged-normal Resume w = refl
-damaged-normal (Recover v) w = refl
-damaged-normal (Fault p) w = refl
-damaged-normal Invalid w = refl
+  normals-without : (cs : List Cell) (k : ℕ) → normalsIn y (withoutCells cs k) ≤ normalsIn y cs
+  normals-without [] k = omega arith
+  normals-without (c ∷ cs) zero = omega (arith, normals-pad cs)
+  normals-without (c ∷ cs) (suc k) = omega (arith, normals-without cs k)
+
+  normals-set : (cs : List Cell) (k : ℕ) (p : Packet) → isOf y p ≡ isOf y (getD cs k emptyCell .packet)
+      → normalsIn y (set cs k (record { packet = p })) ≡ normalsIn y cs
+  normals-set [] k p e = refl
+  normals-set (c ∷ cs) zero p e = rw e
+  normals-set (c ∷ cs) (suc k) p e = omega (arith, normals-set cs k p e)
+
+-- damage leaves the outlet, so the packet stays of its party
+damaged-of : (y : Party) (p : Packet) (w : Pattern) → isOf y (damaged p w) ≡ isOf y p
+damaged-of y Empty w = refl
+damaged-of y (NormalPacket p) w = ap (λ (o : Outlet). sameParty (partyOf o) y) (sym (outlet-kept p w))
+damaged-of y (Checkp v) w = refl
+damaged-of y Resume w = refl
+damaged-of y (Recover v) w = refl
+damaged-of y (Fault p) w = refl
+damaged-of y Invalid w = refl
 
 damaged-empty : (p : Packet) (w : Pattern) → isEmpty (damaged p w) ≡ isEmpty p
 damaged-empty Empty w = refl
@@ -239,13 +256,26 @@ packed-damaged cs k w h = go (isEmpty (getD cs k emptyCell .packet)) refl
 shaped-alarmed : (c : Cabinet) (i : ℕ) (p : Place) → Shaped c → Shaped (alarmed c i p)
 shaped-alarmed c i p h = let s = length-led (isAt p (coordinator (c .table))) (struckAt i p (c .table)) (length-struck i p c h) in search
 
-lined-put : (l : Line) (p : Packet) → Fits p → normals l + cond (isNormal p) 1 0 ≤ 8 → Lined l → Lined (put l p)
+lined-put : (l : Line) (p : Packet) → Fits p → ((y : Party) → normals y l + cond (isOf y p) 1 0 ≤ 4) → Lined l → Lined (put l p)
 lined-put l p f few h = record {
   twelve = length-put p (l .cells) ∙ h .twelve;
   packed = packed-put p (l .cells) (h .packed);
-  few = omega (arith, normals-put p (l .cells));
+  few = λ y. omega (arith, normals-put y p (l .cells), few y);
   fits = fits-put p f (l .cells) (h .fits);
 }
+
+same-party : (x y : Party) → sameParty x y ≡ true → x ≡ y
+same-party Buses Buses e = refl
+same-party Buses Workshop e = absurd (false≢true e)
+same-party Workshop Buses e = absurd (false≢true e)
+same-party Workshop Workshop e = refl
+
+-- a send asks for a place of its own party alone, and takes none of the other one's
+has-place : (l : Line) (p : Payload) → normals (partyOf (p .outlet)) l < 4 → ((y : Party) → normals y l ≤ 4)
+    → (y : Party) → normals y l + cond (isOf y (NormalPacket p)) 1 0 ≤ 4
+has-place l p room few y =
+    cond-elim (λ (k : ℕ). normals y l + k ≤ 4) (sameParty (partyOf (p .outlet)) y)
+    (λ e. omega (arith, subst (λ (x : Party). normals x l < 4) (same-party (partyOf (p .outlet)) y e) room)) (λ _. omega (arith, few y))
 
 nothing-lined : Lined emptyLine
 unfolding Packed content
@@ -279,7 +309,7 @@ nothing-lined = record {
       ),
     ),
   );
-  few = omega arith;
+  few = λ y. omega arith;
   fits = λ k. getD-repeated FitsCell 12 k emptyCell emptyCell tt tt;
 }
 
@@ -324,21 +354,21 @@ shaped = record {
   less = λ l h. record {
     twelve = length-rest (l .cells) ∙ h .twelve;
     packed = packed-rest (l .cells) (h .packed);
-    few = omega (arith, normals-rest (l .cells), h .few);
+    few = λ y. omega (arith, normals-rest y (l .cells), h .few y);
     fits = fits-rest (l .cells) (h .fits);
   };
-  more = λ l p s h. lined-put l p (safe-fits p s) (rw s (omega (arith, h .few))) h;
-  sends = λ l p a room h. lined-put l (NormalPacket p) a (omega arith) h;
+  more = λ l p s h. lined-put l p (safe-fits p s) (λ y. rw (safe-of y p s) (omega (arith, h .few y))) h;
+  sends = λ l p a room h. lined-put l (NormalPacket p) a (has-place l p room (h .few)) h;
   damages = λ l k q a h. record {
     twelve = length-set (l .cells) k _ ∙ h .twelve;
     packed = packed-damaged (l .cells) k q (h .packed);
-    few = omega (arith, h .few, normals-set (l .cells) k (damaged (packetAt l k) q) (damaged-normal (packetAt l k) q));
+    few = λ y. omega (arith, h .few y, normals-set y (l .cells) k (damaged (packetAt l k) q) (damaged-of y (packetAt l k) q));
     fits = λ j. getD-set FitsCell (l .cells) k j _ emptyCell (damaged-fits (packetAt l k) q a (h .fits k)) (h .fits j);
   };
   loses = λ l k h. record {
     twelve = length-without (l .cells) k ∙ h .twelve;
     packed = packed-without (l .cells) k (h .packed);
-    few = omega (arith, normals-without (l .cells) k, h .few);
+    few = λ y. omega (arith, normals-without y (l .cells) k, h .few y);
     fits = fits-without (l .cells) k (h .fits);
   };
 }

@@ -1,4 +1,4 @@
--- `image_of` writes the two bookings of an entry into an image of zeros.
+-- `image_of` writes the three bookings of an entry into an image of zeros.
 use borrow.Author.Needs.{needs}
 use Rattle.loading.proofs.image_of.Statement.{statement}
 use Rattle.loading.proofs.image_of.Tie as tie
@@ -9,7 +9,10 @@ image-of-spec = tie.close (tie.spec
     (λ c κs. search needs)
     (λ c. search needs)
     (λ c κs. search needs)
+    (λ c. search needs)
     (λ c κs. search needs)
     (λ c κs. search needs)
     (λ c κs. search needs)
-    (λ c. rw (c .with-booking2 .ensures, c .before .with-booking .ensures, c .before .before .blank .ensures, c .before .before .before .booking-of2 .ensures, c .before .before .before .before .booking-of .ensures)))
+    (λ c κs. search needs)
+    (λ c κs. search needs)
+    (λ c. rw (c .with-booking3 .ensures, c .before .with-booking2 .ensures, c .before .before .with-booking .ensures, c .before .before .before .blank .ensures, c .before .before .before .before .booking-of3 .ensures, c .before .before .before .before .before .booking-of2 .ensures, c .before .before .before .before .before .before .booking-of .ensures)))

@@ -42,4 +42,4 @@ crash-loses-nothing = refl
 
 pub hurt-noted : HurtNoted
 unfolding crcBit crcBits crcOctet crcFrom shifted patternRight hurtBy lowest covers both connected emptyLines lineTo withLineTo putCheckps cabinet withCabinet outgoing withOutgoing line withLine blankSlots rowsOf ofRows some working recoveringOnes isCrashed sum versionOf load join cutIfAll sent sendStep beginStep hurt damageStep lost loseStep step upd logged advance run
-hurt-noted = ((refl, refl, refl, refl, refl), (refl, refl, refl, refl, refl))
+hurt-noted = ((refl, refl, refl, refl, refl, refl), (refl, refl, refl, refl, refl, refl))

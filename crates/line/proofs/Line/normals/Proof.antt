@@ -10,10 +10,10 @@ use Rattle.line.proofs.Line.normals.Statement.{statement}
 use Rattle.line.proofs.Line.normals.Tie as tie
 
 abbrev Inv-loop : tie.InvT-loop
-Inv-loop l count₀ i₀ count i = (i ≤ 12) × ((count ≤ i) × (normalsIn (l .cells) ≡ count + normalsIn (drop i (l .cells))))
+Inv-loop y l count₀ i₀ count i = (i ≤ 12) × ((count ≤ i) × (normalsIn y (l .cells) ≡ count + normalsIn y (drop i (l .cells))))
 
 abbrev μ-loop : tie.MeasureT-loop
-μ-loop l count₀ i₀ count i = 12 - i
+μ-loop y l count₀ i₀ count i = 12 - i
 
 loop-again : tie.Need-loop-again Inv-loop μ-loop
 loop-again c =
@@ -23,8 +23,8 @@ loop-again c =
       search needs,
       (
         search needs,
-        rw (c .one-if .ensures .0, c .before .is-normal .ensures)
-            (count-more (s .args .t1 .cells) (w .before .loop .i) (w .before .loop .count) (omega (arith, w .loop-test .taken)) (w .before .loop .inv .1 .1)),
+        rw (c .one-if .ensures .0, c .before .is-of .ensures)
+            (count-more (s .args .party) (s .args .t1 .cells) (w .before .loop .i) (w .before .loop .count) (omega (arith, w .loop-test .taken)) (w .before .loop .inv .1 .1)),
       ),
     )
 
@@ -32,7 +32,7 @@ returns : tie.Need-returns Inv-loop μ-loop
 returns c =
     let s = c .before .before in
     let h : length (s .args .t1 .cells) ≡ 12 = simp length-map at (s .good .0 .1 .1 .0 .1 .0 .1) in
-    count-ended (s .args .t1 .cells) (c .before .loop .i) (c .before .loop .count) (omega (arith, c .loop-test .left)) (c .before .loop .inv .1 .1)
+    count-ended (s .args .party) (s .args .t1 .cells) (c .before .loop .i) (c .before .loop .count) (omega (arith, c .loop-test .left)) (c .before .loop .inv .1 .1)
 
 pub normals-spec : {M : Type 1} → statement M
 normals-spec =

@@ -1,0 +1,2 @@
+-- What the theorems come to in whole closed runs.
+pub mod Pairs

@@ -1,0 +1,11 @@
+-- `home_of` reads the first octet of an entry.
+use borrow.Author.Needs.{needs}
+use Rattle.reading.proofs.home_of.Statement.{statement}
+use Rattle.reading.proofs.home_of.Tie as tie
+
+pub home-of-spec : {M : Type 1} → statement M
+home-of-spec = tie.close (tie.spec
+    (λ c. search needs)
+    (λ c κs. search needs)
+    (λ c κs. search needs)
+    (λ c. (rw (c .small .ensures .0, c .before .entry-at .ensures .0), search needs)))
