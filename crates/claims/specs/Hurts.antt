@@ -1,4 +1,5 @@
--- Of every run: a hurt of a line is seen where it is compared, and nowhere else. Document 02, card 9 rests on both.
+-- Of every run: a comparison at a checkp tells whether a packet of its line was hurt, and packets of a line that is not hurt fit their own check. Document 02, card 9
+-- rests on both.
 use Prim.Native.Nat.{ℕ}
 use mathlib.Core.Path.{_≡_}
 use mathlib.Core.Bool.{true, false, not, _||_}

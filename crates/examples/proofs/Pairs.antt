@@ -27,20 +27,13 @@ use Rattle.protocol.specs.declared.Turn.{Turn}
 use Rattle.protocol.specs.History.{Operation, stepping, pointing, returning}
 use Rattle.protocol.specs.Workshop.{Twins, twinsOne, twinsTwo}
 use Rattle.claims.proofs.State.Fun.{and-true}
+use Rattle.claims.proofs.Invariant.Points.{same-name}
 use Rattle.pairs.specs.TwoRuns.{workshopSend, SameBut, none, same, amounts, sendsForWorkshop, SendsTaken, loaded}
 use Rattle.pairs.proofs.TwoRuns.{two-runs}
 use Rattle.examples.specs.Pairs.{firstOf, secondOf, Meets, AgreeIn, TwinsAgree}
 use Rattle.claims.proofs.Claims.Written.{allOctets, allIn, octets-of, operations-of}
 
 -- ---- the same but for amounts
-
-same-list : (r s : List ℕ) → sameName r s ≡ true → r ≡ s
-unfolding sameName
-same-list [] [] e = refl
-same-list [] (y ∷ ys) e = absurd (false≢true e)
-same-list (x ∷ xs) [] e = absurd (false≢true e)
-same-list (x ∷ xs) (y ∷ ys) e =
-    let b = and-true {s = eqb x y} e in ap (λ z. z ∷ xs) (eqb-true x y (b .0)) ∙ ap (λ l. y ∷ l) (same-list xs ys (b .1))
 
 six : (r : List ℕ) → length r ≡ 6 → r ≡ getD r 0 0 ∷ getD r 1 0 ∷ getD r 2 0 ∷ getD r 3 0 ∷ getD r 4 0 ∷ getD r 5 0 ∷ []
 six [] e = absurd (omega (arith, e))
@@ -94,7 +87,7 @@ is-same-but (x ∷ xs) [] e = absurd (false≢true e)
 is-same-but (x ∷ xs) (y ∷ ys) e = let b = and-true {s = matches x y} e in one x y (b .0) (is-same-but xs ys (b .1))
   where
     one : (x y : Operation) → matches x y ≡ true → SameBut xs ys → SameBut (x ∷ xs) (y ∷ ys)
-    one (stepping r) (stepping s) m later = ⊎-elim (λ q. subst (λ (z : List ℕ). SameBut (stepping r ∷ xs) (stepping z ∷ ys)) (same-list r s q) (same (stepping r) later)) other (either (sameName r s) m)
+    one (stepping r) (stepping s) m later = ⊎-elim (λ q. subst (λ (z : List ℕ). SameBut (stepping r ∷ xs) (stepping z ∷ ys)) (same-name r s .0 q) (same (stepping r) later)) other (either (sameName r s) m)
       where
         other : overOneLine r s ≡ true → SameBut (stepping r ∷ xs) (stepping s ∷ ys)
         other q =
@@ -108,11 +101,11 @@ is-same-but (x ∷ xs) (y ∷ ys) e = let b = and-true {s = matches x y} e in on
     one (stepping r) (pointing n) m later = absurd (false≢true m)
     one (stepping r) (returning n) m later = absurd (false≢true m)
     one (pointing m) (stepping s) q later = absurd (false≢true q)
-    one (pointing m) (pointing n) q later = subst (λ (z : List ℕ). SameBut (pointing m ∷ xs) (pointing z ∷ ys)) (same-list m n q) (same (pointing m) later)
+    one (pointing m) (pointing n) q later = subst (λ (z : List ℕ). SameBut (pointing m ∷ xs) (pointing z ∷ ys)) (same-name m n .0 q) (same (pointing m) later)
     one (pointing m) (returning n) q later = absurd (false≢true q)
     one (returning m) (stepping s) q later = absurd (false≢true q)
     one (returning m) (pointing n) q later = absurd (false≢true q)
-    one (returning m) (returning n) q later = subst (λ (z : List ℕ). SameBut (returning m ∷ xs) (returning z ∷ ys)) (same-list m n q) (same (returning m) later)
+    one (returning m) (returning n) q later = subst (λ (z : List ℕ). SameBut (returning m ∷ xs) (returning z ∷ ys)) (same-name m n .0 q) (same (returning m) later)
 
 -- ---- each workshop send taken
 

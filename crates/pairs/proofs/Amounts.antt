@@ -1,8 +1,8 @@
 -- Sends and damage, of a covered group: the amount of a workshop send, and what damage makes of a workshop packet, are covered.
 use Prim.Native.Nat.{ℕ, _<_}
 use mathlib.Core.Path.{_≡_, refl, sym, ap, _∙_}
-use mathlib.Core.Bool.{Bool, true, false, cond, not, _&&_}
-use lib.Dec.{eqb, ltb, leb}
+use mathlib.Core.Bool.{Bool, true, false, not, _&&_}
+use lib.Dec.{ltb, leb}
 use borrow.Author.Tests.{leb-true}
 use native.Mathlib.Decide.{ℕ-discrete}
 use native.Mathlib.Omega.{arith}
@@ -10,7 +10,6 @@ use Rattle.marks.specs.Marks.{marked}
 use Rattle.marks.specs.Reach.{mark}
 use Rattle.outlet.specs.declared.Outlet.{Outlet}
 use Rattle.outlet.specs.declared.Outlet.the-variants.{A, B, W}
-use Rattle.outlet.specs.declared.Ends.{Ends}
 use Rattle.outlet.specs.declared.Party.{Party}
 use Rattle.outlet.specs.declared.Party.the-variants.{Buses, Workshop}
 use Rattle.outlet.specs.Outlet.{endsOf, partyOf}
@@ -54,21 +53,6 @@ put-covered-as v A q = refl
 put-covered-as v B q = refl
 put-covered-as One W q = refl
 put-covered-as Two W q = ap (λ t. record { outlet = W; amount = 0; own = coverOwn t (Checked (ownCheck W q)) }) (put-fits Two W q)
-
--- the outlets that p names are of one party
-one-party : (p : ℕ) → partyOf (endsOf p .from) ≡ partyOf (endsOf p .to)
-one-party p = go (eqb p 0) (eqb p 1) (eqb p 2) (eqb p 3)
-  where
-    named : Bool → Bool → Bool → Bool → Ends
-    named t u v w =
-        cond t (record { from = A; to = A }) (cond u (record { from = A; to = B }) (cond v (record { from = B; to = A }) (cond w (record { from = B; to = B }) (record { from = W; to = W }))))
-
-    go : (t u v w : Bool) → partyOf (named t u v w .from) ≡ partyOf (named t u v w .to)
-    go true u v w = refl
-    go false true v w = refl
-    go false false true w = refl
-    go false false false true = refl
-    go false false false false = refl
 
 -- a send by a covered group
 abbrev pub sentBus : Group → ℕ → ℕ → ℕ → ℕ → Group

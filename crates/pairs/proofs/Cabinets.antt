@@ -16,7 +16,7 @@ use Rattle.packet.specs.declared.Check.{Check}
 use Rattle.packet.specs.Packet.{startCheck, stepCheck}
 use Rattle.registers.specs.Registers.{withSent, withTaken, withHurt, restartIf, restartTo}
 use Rattle.image.specs.declared.Image.{Image}
-use Rattle.image.specs.Image.{blankImage, booking, withBooking, charged, credited}
+use Rattle.image.specs.Image.{booking, withBooking, charged, credited}
 use Rattle.state.specs.declared.State.the-variants.{CheckpBegin, Checkpointing, Crashed}
 use Rattle.state.specs.State.{works}
 use Rattle.cabinet.specs.declared.Cabinet.{Cabinet}
@@ -50,10 +50,6 @@ cut-covered c = choose coverCabinet (covers (c .noted .come) (inUse c)) (withSta
 
 pub wrote-covered : (i : ℕ) (c : Cabinet) → coverCabinet (wrote c i) ≡ wrote (coverCabinet c) i
 wrote-covered i c = choose coverCabinet (ltb (c .noted .pieces) 3) _ _
-
-pub no-image-covered : coverImage blankImage ≡ blankImage
-unfolding coverImage coverFrom
-no-image-covered = refl
 
 pub blank-covered : (c : Cabinet) → coverCabinet (blanked c) ≡ blanked (coverCabinet c)
 unfolding coverImage coverFrom

@@ -6,7 +6,6 @@ use mathlib.Core.Bool.{Bool, true, false, cond, not, _&&_, _||_}
 use lib.ListN.{getD, set}
 use lib.Dec.{eqb, ltb, leb}
 use borrow.Author.Tests.{eqb-true, leb-true}
-use native.Mathlib.Omega.{arith}
 use Rattle.marks.specs.Marks.{marked, covers}
 use Rattle.marks.specs.Reach.{mark, connected}
 use Rattle.packet.specs.declared.Payload.{Payload}
@@ -30,6 +29,8 @@ use Rattle.group.specs.Group.{cabinet, withCabinet, stateOf, withOutgoing, line
 use Rattle.protocol.specs.Moves.{takeCheckp, recoverWith, findLinkFault}
 use Rattle.protocol.specs.Receive.{serving, takes, takesFrom, joinIf, resumesFrom, receiveNormal, receiveCheckp, receiveResume, receiveRecover, receiveFault, receiveInvalid, receive}
 use Rattle.protocol.specs.Kinds.{need, orRefuse, noteRefusal, noteStep, beginStep, deliverRefusal, delivered, deliverStep, writePiece, oweIf, writeStep, reportSaved, commitIfAll, savedStep, fetchPiece, fetchStep, reportRestored, endIfAll, restoredStep, failCrashes, failStep, hurtAlready, markHurt, unlessRecovering, loseRefusal, lost, loseStep, tripCrashes, tripOnce, tripStep, isUnsure, takesUnsure, reportUnsure, decideIfAll, unsureStep}
+use Rattle.claims.proofs.State.Fun.{and-true}
+use Rattle.claims.proofs.State.Every.{second}
 use Rattle.pairs.specs.Covered.{coverImage, coverPayload, coverPacket, coverCabinet, cover, coverOutcome}
 use Rattle.pairs.proofs.Parts.{note-covered, whole-piece-covered, empty-covered, normal-covered, at-covered, rest-covered, without-covered, fits-covered}
 use Rattle.pairs.proofs.Cabinets.{takingBus, take-covered, wrote-covered, fetch-covered}
@@ -82,12 +83,6 @@ refused-or {k} {l} same g {o} {p} e = rw (sym same) (go (eqb k 0) refl)
     go : (t : Bool) → eqb k 0 ≡ t → Gives (cond t o (answering k g)) (cond t p (answering k (cover g)))
     go true q = e (eqb-true k 0 q)
     go false q = refusing k g
-
--- a chain of two checks that refuses nothing passed the second
-second : (t u : Bool) → need t 14 (need u 15 0) ≡ 0 → u ≡ true
-second true true e = refl
-second true false e = absurd (omega (arith, e))
-second false u e = absurd (omega (arith, e))
 
 abbrev Kind : (Group → Outcome) → Type 0
 Kind k = (g : Group) → Gives (k g) (k (cover g))
@@ -219,11 +214,7 @@ note-step a p q g =
     ∙ ap (λ (c : Cabinet). withCabinet (cover g) a (withImage c (withOctet (c .image) p q))) (sym (cabinet-at g a)))))
   where
     noted : noteRefusal g a p q ≡ 0 → firstNote ≤ p
-    noted none = leb-true firstNote p (left (leb firstNote p) (leb p 31 && leb q 255) (second (isIn (stateOf g a) Normal) (leb firstNote p && (leb p 31 && leb q 255)) none))
-      where
-        left : (t u : Bool) → (t && u) ≡ true → t ≡ true
-        left true u e = refl
-        left false u e = e
+    noted none = leb-true firstNote p (and-true {s = leb firstNote p} (second (isIn (stateOf g a) Normal) (leb firstNote p && (leb p 31 && leb q 255)) none) .0)
 
 pub begin-step : (a : ℕ) → Kind (λ g. beginStep g a)
 unfolding beginStep

@@ -7,14 +7,11 @@ use mathlib.Core.Bool.{Bool, true, false, cond, not, _&&_, _||_, true≢false}
 use mathlib.Core.List.{List, [], _∷_}
 use lib.ListN.{length, getD, take}
 use lib.Dec.{eqb}
-use borrow.Author.Tests.{eqb-true, eqb-false, eq-eqb}
+use borrow.Author.Tests.{eqb-true, eq-eqb}
 use Rattle.marks.specs.Marks.{marked}
 use Rattle.marks.specs.Reach.{mark}
-use Rattle.outlet.specs.declared.Outlet.{Outlet}
 use Rattle.outlet.specs.declared.Outlet.the-variants.{A, B}
 use Rattle.outlet.specs.declared.Party.{Party}
-use Rattle.outlet.specs.declared.Party.the-variants.{Buses}
-use Rattle.outlet.specs.Outlet.{partyOf}
 use Rattle.packet.specs.declared.Pattern.{Pattern}
 use Rattle.packet.specs.declared.Payload.{Payload}
 use Rattle.packet.specs.declared.Packet.{Packet}
@@ -49,9 +46,12 @@ use Rattle.protocol.specs.History.{History, World, Operation, stepping, pointin
 use Rattle.protocol.specs.Evening.{operate, operateAll, answersTo}
 use Rattle.protocol.specs.Restored.{Octets, OctetsIn, AllOctets}
 use Rattle.protocol.specs.Word.{toldOf, whichWord}
-use Rattle.claims.proofs.State.Fun.{and-true}
+use Rattle.claims.specs.Word.{siteOf}
+use Rattle.claims.proofs.State.Fun.{and-true, not-true-false}
 use Rattle.claims.proofs.State.Every.{passed, Fits, FitsIn, decode-fits}
 use Rattle.claims.proofs.Claims.Demand.{Runs, Good, one-more, every-list}
+use Rattle.claims.proofs.Word.Unread.{site-on}
+use Rattle.claims.proofs.Claims.Saves.{refuses}
 use Rattle.claims.proofs.Claims.Hurts.{compared, fitting}
 use Rattle.pairs.specs.Covered.{coverImage, coverPacket, cover, coverPoints, coverSite, coverOutcome}
 use Rattle.pairs.specs.TwoRuns.{busesOf, workshopSend, SameBut, none, same, amounts, sendsForWorkshop, SendsTaken, Agree, TwoRuns}
@@ -113,12 +113,8 @@ module _ {total : Party → ℕ} {g : Group} {h : History} (going : Runs total g
       met : (patternRight (g .packets) w ≡ true) × (not (hurtAlready g a b (packetAt (line g a b) k)) ≡ true)
       met = checks (mark (rowsOf (g .links)) a b) (not (isEmpty (packetAt (line g a b) k))) (patternRight (g .packets) w) (hurtAlready g a b (packetAt (line g a b) k)) fine
 
-      no : (t : Bool) → not t ≡ true → t ≡ false
-      no true e = sym e
-      no false e = refl
-
       unmarked : marked (cabinet g b .registers .hurt) a ≡ false
-      unmarked = no (marked (cabinet g b .registers .hurt) a) (ap (λ (x : Packet). not (hurtAlready g a b x)) (sym here) ∙ met .1)
+      unmarked = not-true-false (ap (λ (x : Packet). not (hurtAlready g a b x)) (sym here) ∙ met .1)
 
 -- ---- a step that is no workshop send, as a function of the covered group
 
@@ -163,14 +159,7 @@ plain Unused = true
 plain (Taken s) = plainStep s
 
 performs : {total : Party → ℕ} {g : Group} {h : History} → Runs total g h → (s : Step) → Fits s → plainStep s ≡ true → Gives (perform g s) (performBus (cover g) s)
-performs {g = g} run (Send a b p q) f e = send-step g (a - 1) (b - 1) p q (λ four. other (eq-eqb p 4 four) e)
-  where
-    other : {t : Bool} → t ≡ true → not t ≡ true → ⊥
-    other x y = true≢false (sym x ∙ no _ y)
-      where
-        no : (t : Bool) → not t ≡ true → t ≡ false
-        no true z = sym z
-        no false z = refl
+performs {g = g} run (Send a b p q) f e = send-step g (a - 1) (b - 1) p q (λ four. true≢false (sym (eq-eqb p 4 four) ∙ not-true-false e))
 performs {g = g} run (Note a p q) f e = note-step (a - 1) p q g
 performs {g = g} run (Begin a) f e = begin-step (a - 1) g
 performs run (Deliver a b) f e = deliver-same run (a - 1) (b - 1)
@@ -268,30 +257,14 @@ workshop-decoded r e =
     rw (six .0, one .0, eqb-true (getD r 3 0) 4 (one .1))
 
 -- one that is taken leaves what a send leaves
-refusal-none : (k : ℕ) (g : Group) (o : Outcome) → orRefuse k g o .answer ≡ 0 → orRefuse k g o ≡ o
-refusal-none k g o e = go (eqb k 0) refl e
-  where
-    go : (t : Bool) → eqb k 0 ≡ t → cond t o (answering k g) .answer ≡ 0 → cond t o (answering k g) ≡ o
-    go true q f = refl
-    go false q f = absurd (eqb-false k 0 q f)
-
 workshop-taken : (g : Group) (a b q : ℕ) → stepDecoded g (Taken (Send a b 4 q)) .answer ≡ 0 → stepDecoded g (Taken (Send a b 4 q)) .group ≡ sent g (a - 1) (b - 1) 4 q
 unfolding sendStep
 workshop-taken g a b q e =
-    let entered = refusal-none (entryRefusal g (Send a b 4 q)) g (sendStep g (a - 1) (b - 1) 4 q) e in
-    let passed-all = refusal-none (sendRefusal g (a - 1) (b - 1) 4 q) g (taken (sent g (a - 1) (b - 1) 4 q)) (sym (ap (λ (o : Outcome). o .answer) entered) ∙ e) in
+    let entered = refuses (entryRefusal g (Send a b 4 q)) g (sendStep g (a - 1) (b - 1) 4 q) e .1 in
+    let passed-all = refuses (sendRefusal g (a - 1) (b - 1) 4 q) g (taken (sent g (a - 1) (b - 1) 4 q)) (sym (ap (λ (o : Outcome). o .answer) entered) ∙ e) .1 in
     ap (λ (o : Outcome). o .group) (entered ∙ passed-all)
 
 -- ---- one operation in both runs
-
-abbrev siteOf : World → Site
-siteOf w = record { group = w .group; points = w .points }
-
-site-on : (w : World) (x : Operation) → operate (siteOf w) x .site ≡ siteOf (advance w x)
-unfolding operate advance
-site-on w (stepping r) = refl
-site-on w (pointing name) = refl
-site-on w (returning name) = refl
 
 abbrev Same : Site → Site → Type 0
 Same s t = coverSite s ≡ coverSite t

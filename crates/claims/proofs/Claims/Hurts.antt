@@ -1,4 +1,4 @@
--- A hurt of a line is seen where it is compared, and nowhere else.
+-- A comparison tells whether a packet of its line was hurt, and packets of a line that is not hurt fit.
 use Prim.Native.Nat.{ℕ, zero, suc}
 use mathlib.Core.Path.{_≡_, refl, sym, ap, _∙_, subst}
 use mathlib.Core.Bool.{Bool, true, false, not, _||_, false≢true}

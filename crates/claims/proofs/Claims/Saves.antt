@@ -181,7 +181,7 @@ resume-of-newest f of e xs o c = takes-newest _ _ _ (running f of e xs o c)
 -- ---- a commit
 
 -- what is taken was not refused
-refuses : (k : ℕ) (g : Group) (o : Outcome) → orRefuse k g o .answer ≡ 0 → (k ≡ 0) × (orRefuse k g o ≡ o)
+pub refuses : (k : ℕ) (g : Group) (o : Outcome) → orRefuse k g o .answer ≡ 0 → (k ≡ 0) × (orRefuse k g o ≡ o)
 refuses k g o =
     cond-elim (λ (x : Outcome). x .answer ≡ 0 → (k ≡ 0) × (x ≡ o)) (eqb k 0) (λ e _. (eqb-true k 0 e, refl)) (λ e a. absurd (eqb-false k 0 e a))
 

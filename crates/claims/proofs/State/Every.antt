@@ -88,7 +88,7 @@ right : (t u : Bool) → (t && u) ≡ true → u ≡ true
 right t u e = and-true {s = t} {t = u} e .1
 
 -- the last check of note, and of send
-second : (t u : Bool) → need t 14 (need u 15 0) ≡ 0 → u ≡ true
+pub second : (t u : Bool) → need t 14 (need u 15 0) ≡ 0 → u ≡ true
 second t u e = passed u 14 0 (passed t 13 (need u 15 0) e .1) .0
 
 fifth : (t u v w x : Bool) → need t 13 (need u 14 (need v 15 (need w 16 (need x 17 0)))) ≡ 0 → x ≡ true

@@ -300,7 +300,7 @@ one w (returning name) = onward (back name) (back-same name) w (return-alike (w 
 pub unread : Unread
 unread w s x = (one (withNote w s) x .0 ∙ sym (one w x .0), one (withNote w s) x .1 ∙ sym (one w x .1))
 
-site-on : (w : World) (x : Operation) → operate (siteOf w) x .site ≡ siteOf (advance w x)
+pub site-on : (w : World) (x : Operation) → operate (siteOf w) x .site ≡ siteOf (advance w x)
 unfolding operate advance
 site-on w (stepping r) = refl
 site-on w (pointing name) = refl
