@@ -16,7 +16,7 @@ use Rattle.image.specs.declared.Image.{Image}
 use Rattle.state.specs.State.{works, isUnknown, bitOf}
 use Rattle.cabinet.specs.Cabinet.{inUse, coordinator}
 use Rattle.group.specs.declared.Group.{Group}
-use Rattle.group.specs.Group.{cabinet, stateOf, line, slot, sum}
+use Rattle.group.specs.Group.{cabinet, stateOf, home, line, slot, sum}
 use Rattle.load.specs.Load.{load, cabinetCount, feederTotal}
 use Rattle.protocol.specs.declared.Step.the-variants.{Saved}
 use Rattle.protocol.specs.declared.Decoded.the-variants.{Taken}
@@ -33,7 +33,7 @@ pub record Commits (g : Group) (r : List ℕ) : Type 0 where
   pub about : ℕ
   pub saved : decode r ≡ Taken (Saved about)
   pub taken : step g r .answer ≡ 0
-  pub commit : commits g (step g r .group) (coordinator (cabinet g (cabinet g (about - 1) .home))) ≡ true
+  pub commit : commits g (step g r .group) (coordinator (cabinet g (home g (about - 1)))) ≡ true
 
 -- of the group before a commit, and the history after it
 abbrev pub EveryCommit : (ℕ → (Party → ℕ) → Group → History → Type 0) → Type 0
@@ -91,7 +91,7 @@ VersionsNameNewest =
 abbrev pub KnownWhereUsed : Type 0
 KnownWhereUsed =
     Running (λ g h. (a : ℕ) → (writeRefusal g a ≡ 0 → isUnknown (cabinet g a .phase .version) ≡ false)
-    × (fetchRefusal g a ≡ 0 → isUnknown (cabinet g (cabinet g a .home) .phase .version) ≡ false))
+    × (fetchRefusal g a ≡ 0 → isUnknown (cabinet g (home g a) .phase .version) ≡ false))
 
 -- with the report of a its coordinator k has those of all in its table
 abbrev pub LastReport : Group → ℕ → ℕ → Type 0
@@ -106,7 +106,7 @@ DecidedByOld =
 -- so a piece that is fetched is one of the newest save's image
 abbrev pub FetchedOfNewest : Type 0
 FetchedOfNewest =
-    Running (λ g h. (a : ℕ) → fetchRefusal g a ≡ 0 → OfNewest g h a (bitOf (cabinet g (cabinet g a .home) .phase .version)))
+    Running (λ g h. (a : ℕ) → fetchRefusal g a ≡ 0 → OfNewest g h a (bitOf (cabinet g (home g a) .phase .version)))
 
 -- ---- which begin a cut belongs to
 

@@ -56,6 +56,10 @@ withCabinet g i c = withCabinets g (set (g .cabinets) i c)
 abbrev pub stateOf : Group → ℕ → State
 stateOf g i = cabinet g i .phase .state
 
+-- "each cabinet has one store cabinet as its home"
+abbrev pub home : Group → ℕ → ℕ
+home g i = cabinet g i .home
+
 -- ---- lines
 
 unfoldable pub outgoing : Group → ℕ → Outgoing

@@ -25,7 +25,7 @@ use Rattle.points.specs.declared.Points.{Points}
 use Rattle.points.specs.Points.{noPoints, sameName}
 use Rattle.group.specs.declared.Group.{Group}
 use Rattle.group.specs.declared.Outcome.{Outcome}
-use Rattle.group.specs.Group.{cabinet, stateOf, line}
+use Rattle.group.specs.Group.{cabinet, stateOf, home, line}
 use Rattle.protocol.specs.declared.Step.{Step}
 use Rattle.protocol.specs.declared.Step.the-variants.{Send, Note, Begin, Deliver, Write, Saved, Fetch, Restored, Fail, Damage, Lose, Trip, Unsure}
 use Rattle.protocol.specs.declared.Decoded.{Decoded}
@@ -255,7 +255,7 @@ observe h g g′ (Deliver a b) =
     (oldest (line g (a - 1) (b - 1))))
 observe h g g′ (Write a) = h
 observe h g g′ (Saved a) =
-    let k = coordinator (cabinet g (cabinet g (a - 1) .home)) in noteCommit (commits g g′ k) h k
+    let k = coordinator (cabinet g (home g (a - 1))) in noteCommit (commits g g′ k) h k
 observe h g g′ (Fetch a) = noteKnown (goes g g′ (a - 1) Recovering Recovered) h
 observe h g g′ (Restored a) = noteEnd (ends g g′ (a - 1)) h g′
 observe h g g′ (Fail a) = notePassed h (a - 1)

@@ -22,7 +22,7 @@ use Rattle.group.specs.declared.Outcome.{Outcome}
 use Rattle.state.specs.State.{isIn, isUnknown, inRecovery, inRestoring, inSaving, bitOf}
 use Rattle.image.specs.Image.{booking, firstNote, withOctet, withPiece}
 use Rattle.cabinet.specs.Cabinet.{inUse, coordinator, withImage, sending, hurtFrom, wrote, owing, savedFor, fetched, restoredFor, unsureFor}
-use Rattle.group.specs.Group.{cabinet, withCabinet, stateOf, line, withLine, slot, withSlot, rowsOf, some, working, recoveringOnes, tripsOf, withTripsOf, settle, settleOver, answering, taken, crashed}
+use Rattle.group.specs.Group.{cabinet, withCabinet, stateOf, home, line, withLine, slot, withSlot, rowsOf, some, working, recoveringOnes, tripsOf, withTripsOf, settle, settleOver, answering, taken, crashed}
 use Rattle.protocol.specs.Moves.{join, cutIfAll, commit, recoverWith, markFailed, trip, alarmTo, endRecovery, noteLost}
 use Rattle.protocol.specs.Receive.{receive}
 
@@ -93,7 +93,7 @@ deliverStep g a b = orRefuse (deliverRefusal g a b) g (delivered g a b)
 
 abbrev pub writeRefusal : Group → ℕ → ℕ
 writeRefusal g a =
-    need (isIn (stateOf g a) Checkpointing) 14 (need (not (inRecovery (stateOf g (cabinet g a .home)))) 19 0)
+    need (isIn (stateOf g a) Checkpointing) 14 (need (not (inRecovery (stateOf g (home g a)))) 19 0)
 
 -- "Pieces go to slot 1 − version."
 unfoldable pub writePiece : Group → ℕ → Group
@@ -110,14 +110,14 @@ oweIf false g h a = g
 
 unfoldable pub writeStep : Group → ℕ → Outcome
 writeStep g a =
-    orRefuse (writeRefusal g a) g (taken (oweIf (not (ltb (cabinet g a .noted .pieces) 3)) (writePiece g a) (cabinet g a .home) a))
+    orRefuse (writeRefusal g a) g (taken (oweIf (not (ltb (cabinet g a .noted .pieces) 3)) (writePiece g a) (home g a) a))
 
 -- ---- 6 saved
 
 abbrev pub savedRefusal : Group → ℕ → ℕ
 savedRefusal g a =
     need
-    (marked (cabinet g (cabinet g a .home) .owed) a && inSaving (stateOf g (coordinator (cabinet g (cabinet g a .home)))))
+    (marked (cabinet g (home g a) .owed) a && inSaving (stateOf g (coordinator (cabinet g (home g a)))))
     19 0
 
 -- the report on a goes from home h to coordinator k
@@ -134,20 +134,20 @@ unfoldable pub savedStep : Group → ℕ → Outcome
 savedStep g a =
     orRefuse (savedRefusal g a) g
     (taken
-    (commitIfAll (reportSaved g a (cabinet g a .home) (coordinator (cabinet g (cabinet g a .home))))
-    (coordinator (cabinet g (cabinet g a .home)))))
+    (commitIfAll (reportSaved g a (home g a) (coordinator (cabinet g (home g a))))
+    (coordinator (cabinet g (home g a)))))
 
 -- ---- 7 fetch
 
 abbrev pub fetchRefusal : Group → ℕ → ℕ
-fetchRefusal g a = need (isIn (stateOf g a) Recovering) 14 (need (inRestoring (stateOf g (cabinet g a .home))) 19 0)
+fetchRefusal g a = need (isIn (stateOf g a) Recovering) 14 (need (inRestoring (stateOf g (home g a))) 19 0)
 
 -- "from the slot of the home's version"
 unfoldable pub fetchPiece : Group → ℕ → Group
 fetchPiece g a =
     withCabinet g a
     (fetched (cabinet g a)
-    (withPiece (cabinet g a .noted .pieces) (slot g a (bitOf (cabinet g (cabinet g a .home) .phase .version))) (cabinet g a .image)))
+    (withPiece (cabinet g a .noted .pieces) (slot g a (bitOf (cabinet g (home g a) .phase .version))) (cabinet g a .image)))
 
 unfoldable pub fetchStep : Group → ℕ → Outcome
 fetchStep g a = orRefuse (fetchRefusal g a) g (taken (fetchPiece g a))
