@@ -4,6 +4,7 @@
 mod hurts;
 pub mod losses;
 pub mod pairs;
+mod partners;
 pub mod plans;
 mod trips;
 mod unsure;
@@ -15,6 +16,7 @@ use crate::model::{
     FIRST_NOTE, KINDS, TAKEN, WITHDRAWN_KIND, WORKSHOP_P,
 };
 use hurts::damage_at;
+use partners::{Grudge, Sequel, Stores};
 use std::collections::VecDeque;
 use std::ops::Range;
 use unsure::Doubt;
@@ -103,7 +105,7 @@ pub fn case_seed(seed: u64, index: u64) -> u64 {
 pub fn make_case(seed: u64, wishes: Wishes) -> Case {
     let mut dice = Dice::new(seed);
     let draft = draft_that_may_lose_its_lead(&mut dice, wishes.cabinets);
-    let damaged = wishes.cabinets.is_none() && dice.per_thousand(130);
+    let damaged = wishes.cabinets.is_none() && dice.per_thousand(200);
     let (group, length) = if damaged {
         (damaged_group_file(&mut dice, draft), dice.below(5))
     } else {
@@ -151,6 +153,8 @@ struct CabinetDraft {
     mark: u8,
     /// A's, B's and the workshop's.
     bookings: [u16; 3],
+    /// Of the store, 0 for none.
+    partner: u8,
 }
 
 #[derive(Clone)]
@@ -163,25 +167,27 @@ struct GroupDraft {
 impl GroupDraft {
     fn sound(dice: &mut Dice, cabinets: Option<usize>) -> GroupDraft {
         let n = cabinets.unwrap_or_else(|| dice.between(2, 8));
-        let marks = store_marks(dice, n);
-        let stores: Vec<u8> = (1..=n as u8).filter(|&c| marks[usize::from(c) - 1]).collect();
+        let stores = stores(dice, n);
         let bookings = bookings(dice, n);
         let cabinet = |index: usize| CabinetDraft {
-            home: dice.pick(&stores),
-            mark: u8::from(marks[index]),
+            home: dice.pick(&stores.homes),
+            mark: u8::from(stores.marks[index]),
             bookings: bookings[index],
+            partner: stores.partners[index],
         };
         let cabinets = (0..n).map(cabinet).collect();
         let links = connected_links(dice, n as u8);
         let version = dice.pick(&[PacketVersion::One, PacketVersion::Two]);
-        GroupDraft { version, cabinets, links }
+        let mut draft = GroupDraft { version, cabinets, links };
+        partners::part_pairs(dice, &mut draft);
+        draft
     }
 
     fn header(&self) -> Vec<u16> {
         let (n, links) = (self.cabinets.len() as u16, self.links.len() as u16);
         match self.version {
-            PacketVersion::One => vec![n, links, 10, 10 + 8 * n, 10 + 8 * n + 2 * links],
-            PacketVersion::Two => vec![n, links, 12, 12 + 8 * n, 12 + 8 * n + 2 * links, 2],
+            PacketVersion::One => vec![n, links, 10, 10 + 9 * n, 10 + 9 * n + 2 * links],
+            PacketVersion::Two => vec![n, links, 12, 12 + 9 * n, 12 + 9 * n + 2 * links, 2],
         }
     }
 
@@ -190,6 +196,7 @@ impl GroupDraft {
         for cabinet in &self.cabinets {
             file.extend_from_slice(&[cabinet.home, cabinet.mark]);
             file.extend(cabinet.bookings.iter().flat_map(|booking| booking.to_be_bytes()));
+            file.push(cabinet.partner);
         }
         for &(low, high) in &self.links {
             file.extend_from_slice(&[low, high]);
@@ -198,7 +205,17 @@ impl GroupDraft {
     }
 }
 
-/// At least one store. Cabinet 1 is mostly none, since a store that fails crashes the group.
+/// Mostly with partners.
+fn stores(dice: &mut Dice, n: usize) -> Stores {
+    if dice.per_thousand(620) {
+        return partners::stores_in_pairs(dice, n);
+    }
+    let marks = store_marks(dice, n);
+    let homes = (1..=n as u8).filter(|&c| marks[usize::from(c) - 1]).collect();
+    Stores { marks, partners: vec![0; n], homes }
+}
+
+/// At least one store. Cabinet 1 is mostly none, since a store that fails alone crashes the group.
 fn store_marks(dice: &mut Dice, n: usize) -> Vec<bool> {
     let chance = dice.pick(&[100, 250, 500]);
     let mut marks: Vec<bool> = (0..n).map(|_| dice.per_thousand(chance)).collect();
@@ -306,29 +323,30 @@ fn ring(n: u8) -> Vec<(u8, u8)> {
 
 // ---------------------------------------------------------------- damaged group files
 
-/// Aims at one of the refusals 1 to 7, now and then at two, changes any octet, or mixes the
-/// packet versions.
+/// Aims at one of the refusals 1 to 7, now and then at two, changes any octet, names a partner
+/// wrongly, or mixes the packet versions.
 fn damaged_group_file(dice: &mut Dice, mut draft: GroupDraft) -> Vec<u8> {
-    let aims = [dice.between(1, 18), dice.between(1, 18)];
+    let aims = [dice.between(1, 28), dice.between(1, 28)];
     let aims = &aims[..1 + usize::from(dice.per_thousand(250))];
     for &aim in aims {
         match aim {
             4 => damage_cabinet_entry(dice, &mut draft),
-            5 => damage_link_entry(dice, &mut draft),
-            6 => disconnect(dice, &mut draft),
+            5 | 25 | 26 => damage_link_entry(dice, &mut draft),
+            6 | 27 => disconnect(dice, &mut draft),
             7 | 9 => overbook(dice, &mut draft, 0..2),
             10..=12 => overbook(dice, &mut draft, 2..3),
+            19..=24 => partners::damage_partner(dice, &mut draft),
             _ => {}
         }
     }
     let mut file = draft.octets();
     for &aim in aims {
         match aim {
-            1 => file.truncate(dice.below(10)),
+            1 | 28 => file.truncate(dice.below(10)),
             2 => damage_n(dice, &mut file),
             3 => damage_layout(dice, &mut file),
             8 => damage_any_octet(dice, &mut file),
-            13.. => mix_versions(dice, &mut file, draft.version),
+            13..=18 => mix_versions(dice, &mut file, draft.version),
             _ => {}
         }
     }
@@ -493,6 +511,8 @@ struct Temper {
     hasty: usize,
     /// Chance that a fail, a damage, a loss or a trip is not kept from crashing the group.
     bold: usize,
+    /// The same for a damage or a loss out of a recovery, which crashes it once it is found.
+    bold_to_hurt: usize,
     /// Chance that the step after a commit strikes at it.
     strike_after_commit: usize,
     /// Chance that the coordinator is lost while nobody else knows its version.
@@ -519,9 +539,13 @@ fn some_cabinet(dice: &mut Dice, group: &Group, chance: usize) -> Option<Number>
     dice.per_thousand(chance).then(|| dice.between(1, group.size()))
 }
 
-/// Rather the one that leads second.
+/// Rather the one that leads second, or a store with a partner.
 fn some_stumbler(dice: &mut Dice, group: &Group) -> Option<Number> {
-    if dice.per_thousand(200) {
+    let with_partner = |number: &Number| group.cabinet(*number).partner().is_some();
+    let stores: Vec<Number> = group.numbers().filter(with_partner).collect();
+    if !stores.is_empty() && dice.per_thousand(300) {
+        dice.pick_any(&stores)
+    } else if dice.per_thousand(200) {
         Some(2)
     } else {
         some_cabinet(dice, group, 400)
@@ -547,6 +571,7 @@ impl Temper {
             foolish: dice.pick(&[0, 20, 80, 250]),
             hasty: dice.pick(&[0, 20, 80]),
             bold: dice.pick(&[0, 0, 20, 150]),
+            bold_to_hurt: dice.pick(&[0, 20, 150, 400]),
             strike_after_commit: dice.pick(&[0, 200, 700]),
             strike_in_save: dice.pick(&[0, 200, 600]),
             refused_reports: dice.pick(&[0, 50, 200]),
@@ -620,12 +645,15 @@ struct Run<'a> {
     /// A cabinet with two trips before the last commit.
     pardoned: Option<Number>,
     doubt: Doubt,
+    grudge: Grudge,
+    sequel: Sequel,
 }
 
 impl Run<'_> {
     fn new(dice: &mut Dice, group: Group, wishes: Wishes) -> Run<'_> {
         let temper = Temper::drawn(dice, &group, wishes);
         let save_first = if temper.doubtful { 400 } else { 0 };
+        let grudge = Grudge::drawn(dice, &group, temper.bold);
         Run {
             dice,
             group,
@@ -641,6 +669,8 @@ impl Run<'_> {
             twice_before: None,
             pardoned: None,
             doubt: Doubt::default(),
+            grudge,
+            sequel: Sequel::default(),
         }
     }
 
@@ -660,16 +690,24 @@ impl Run<'_> {
     }
 
     fn take(&mut self, record: Record) -> Outcome {
+        let (left, back) = (self.partner_left_behind(&record), self.store_that_comes_back(&record));
         let outcome = self.group.step(&record, self.wishes.highest_kind);
         self.last_event = outcome.event;
         self.note_pardons(outcome.event);
         match (record[0], outcome.answer) {
             (12, TAKEN) => self.after_loss(record),
-            (10 | 13, TAKEN) => self.after_fault(),
+            (10 | 13, TAKEN) => {
+                self.after_fault();
+                left.into_iter().for_each(|partner| self.after_a_store_left(partner));
+            }
+            (8, TAKEN) => back.into_iter().for_each(|store| self.after_a_store_came_back(store)),
             _ => {}
         }
         match outcome.event {
-            Event::RecoveryEnd { .. } => self.after_recovery(),
+            Event::RecoveryEnd { .. } => {
+                self.after_recovery();
+                self.after_recovery_with_stores();
+            }
             Event::LinkFault(_) => self.after_link_fault(),
             _ => {}
         }
@@ -701,7 +739,7 @@ impl Run<'_> {
                 return record;
             }
         }
-        if let Some(record) = self.strike() {
+        if let Some(record) = self.strike().or_else(|| self.strike_at_a_store()) {
             return record;
         }
         if let Some(record) = self.fail_before_its_report().or_else(|| self.eager_report()) {
@@ -750,17 +788,22 @@ impl Run<'_> {
     /// A damage or loss that was meant for another moment would crash the group.
     fn next_to_follow(&mut self) -> Option<Record> {
         if self.group.recovery_under_way() {
-            self.to_follow.retain(|record| [4, 6, 14].contains(&record[0]));
+            self.to_follow.retain(|record| [4, 5, 6, 7, 8, 14].contains(&record[0]));
         }
         self.to_follow.pop_front()
     }
 
-    /// For some tries after a laggard failed, the reports still owed come first; after a link
-    /// fault, what ends the recovery; after a loss, what a save needs.
+    /// For some tries after a laggard failed, the reports still owed come first; after a store left,
+    /// what is left of its save; after a link fault, what ends the recovery; after a loss, what a
+    /// save needs.
     fn next_kind(&mut self) -> u8 {
         if self.reports_first > 0 {
             self.reports_first -= 1;
             return 6;
+        }
+        if self.sequel.save_on > 0 {
+            self.sequel.save_on -= 1;
+            return self.dice.pick(&[5, 5, 6]);
         }
         if self.recover_first > 0 && self.group.recovery_under_way() {
             self.recover_first -= 1;
@@ -849,6 +892,9 @@ impl Run<'_> {
 
     /// Kinds that name one cabinet and nothing else.
     fn sensible_single(&mut self, kind: u8) -> Option<Record> {
+        if kind == 6 && self.report_waits() {
+            return None;
+        }
         let all = self.group.numbers().map(|a| record(kind, a, 0, 0, 0));
         let taken: Vec<Record> = all.filter(|record| self.taken(record)).collect();
         let chosen = self.dice.pick_any(&taken)?;
@@ -966,7 +1012,7 @@ impl Run<'_> {
         let filled = self.filled_lines();
         let mut line = self.dice.pick_any(&filled)?;
         for _ in 0..4 {
-            if self.waits_for_slow(line) && self.dice.per_thousand(950) {
+            if self.is_deaf(line.1) || self.waits_for_slow(line) && self.dice.per_thousand(950) {
                 line = self.dice.pick(&filled);
             }
         }
@@ -1006,7 +1052,7 @@ impl Run<'_> {
         let lines = self.filled_lines();
         let lines: Vec<_> = lines.into_iter().filter(|line| line.0 == from).collect();
         let (from, to) = self.dice.pick_any(&lines)?;
-        let bold = self.temper.bold;
+        let bold = self.boldness_to_hurt();
         if self.dangerous_to_hurt(from, to) && !self.dice.per_thousand(bold) {
             return None;
         }
@@ -1017,6 +1063,14 @@ impl Run<'_> {
         }
         let record = damage_at((from, to, place), burst);
         (self.taken(&record) || self.dice.per_thousand(300)).then_some(record)
+    }
+
+    fn boldness_to_hurt(&self) -> usize {
+        if self.group.recovery_under_way() {
+            self.temper.bold
+        } else {
+            self.temper.bold_to_hurt
+        }
     }
 
     /// At once, or once the hurt is found.
@@ -1044,6 +1098,8 @@ impl Run<'_> {
     fn hasty_record(&mut self) -> Option<Record> {
         let (kind, state) = self.dice.pick(&[
             (5, State::Checkpointing),
+            (6, State::Checkpointing),
+            (6, State::Checkpointing),
             (6, State::Checkpointed),
             (7, State::Recovering),
             (8, State::Recovered),
@@ -1152,6 +1208,7 @@ mod tests {
     use crate::model::{Account, Party};
     use crate::outlets::Cover;
     use crate::own_checks::{Dropped, Found, Hit, Misfit, Mixed};
+    use crate::partners::{Alone, Fetched, Gone, Misnamed, Moment, Stores, Written};
     use crate::trips::Between;
     use crate::unsure::{Lost, Refusal};
     use crate::workshop::{self, Overbooked, Totals};
@@ -1312,6 +1369,22 @@ mod tests {
         assert!(counts.recoveries_after_find.keys().eq(&workshop::Found::ALL));
         assert!(counts.trips > 100 && counts.recoveries_changing > 100);
         assert!(counts.commits_changing > 100);
+    }
+
+    #[test]
+    fn the_cases_reach_what_partners_bring() {
+        let counts = tally_of(1000, wishes(true)).partners;
+        assert!(counts.with_partners > 500 && counts.stores.keys().eq(&Stores::ALL));
+        assert!(counts.loads_refused.keys().eq(&Misnamed::ALL));
+        assert!(counts.left.len() == 6 && counts.left_while.keys().eq(&Moment::ALL));
+        assert!(counts.left_while.values().all(|&stores| stores > 50));
+        assert!(counts.written.keys().eq(&Written::ALL));
+        assert!(counts.fetched.keys().eq(&Fetched::ALL));
+        assert!(counts.commits.keys().eq(&Gone::ALL) && counts.recoveries_ended.len() == 3);
+        assert!(counts.left_after_come_back.values().all(|&stores| stores > 20));
+        let alone = |alone: &Alone| counts.neither_left.keys().any(|(_, why)| why == alone);
+        assert!(Alone::ALL.iter().all(alone));
+        assert!(counts.numbers().iter().all(|&(_, number)| number > 0));
     }
 
     #[test]

@@ -90,10 +90,21 @@ impl Evening {
         let to_return = sights.contains(&Sight::RecoveryToReturn);
         let third_trip = record[0] == 13 && outcome.answer == TAKEN;
         let third_over_return = third_trip && self.watch.failed_over_return(&self.group, record[1]);
+        if [10, 13].contains(&record[0]) && outcome.answer == TAKEN {
+            self.watch.note_store_left(&self.group, record[1]);
+        }
+        let left = &self.watch.stores_left_since_return;
+        let both_left = left.iter().any(|&store| {
+            let partner = self.group.cabinet(store).partner();
+            partner.is_some_and(|partner| left.contains(&partner))
+        });
+        let one_left = !left.is_empty();
         self.count_sights(sights);
         self.count_sights(seen(&[
             (Sight::RecoveryFromTripToReturn, to_return && after_trip),
             (Sight::ThirdTripOverReturn, third_over_return),
+            (Sight::RecoveryToReturnAtOneStore, to_return && one_left),
+            (Sight::RecoveryToReturnAtEither, to_return && both_left),
         ]));
         outcome.answer
     }
@@ -212,10 +223,17 @@ pub enum Sight {
     RecoveryFromTripToReturn,
     /// Taken as a fail, with a return since the first or the second.
     ThirdTripOverReturn,
+    /// A store of a pair has failed.
+    PointWithStoreFailed,
+    ReturnWithStoreFailed,
+    /// A store of a pair left after a return, with no commit between, and the recovery ended.
+    RecoveryToReturnAtOneStore,
+    /// The same, both stores having left after the return.
+    RecoveryToReturnAtEither,
 }
 
 impl Sight {
-    pub const ALL: [Sight; 22] = [
+    pub const ALL: [Sight; 26] = [
         Sight::MalformedRecord,
         Sight::PointReplaced,
         Sight::PointOfTheStart,
@@ -238,6 +256,10 @@ impl Sight {
         Sight::RecoveryWithSetImageAfterCommit,
         Sight::RecoveryFromTripToReturn,
         Sight::ThirdTripOverReturn,
+        Sight::PointWithStoreFailed,
+        Sight::ReturnWithStoreFailed,
+        Sight::RecoveryToReturnAtOneStore,
+        Sight::RecoveryToReturnAtEither,
     ];
 }
 
@@ -256,10 +278,20 @@ struct Watch {
     failed_at_point: BTreeMap<Name, BTreeSet<Number>>,
     /// The bookings of working cabinets before the recovery under way.
     bookings_in_operation: Vec<[u16; 3]>,
+    /// Of pairs.
+    stores_left_since_return: BTreeSet<Number>,
 }
 
 fn failed_cabinets(group: &Group) -> BTreeSet<Number> {
     group.numbers().filter(|&number| !group.cabinet(number).working()).collect()
+}
+
+/// One of a pair.
+fn has_store_failed(group: &Group) -> bool {
+    group
+        .numbers()
+        .map(|number| group.cabinet(number))
+        .any(|c| c.partner().is_some() && !c.working())
 }
 
 fn has_hurt_line(group: &Group) -> bool {
@@ -277,6 +309,14 @@ impl Watch {
     fn set_image_after_commit(&self) -> bool {
         let commit_since = self.commits_at_return.is_some_and(|then| self.commits > then);
         commit_since && !self.failed_at_return.is_empty()
+    }
+
+    /// Of a cabinet that just failed or tripped.
+    fn note_store_left(&mut self, group: &Group, cabinet: u8) {
+        let number = usize::from(cabinet);
+        if group.cabinet(number).partner().is_some() {
+            self.stores_left_since_return.insert(number);
+        }
     }
 
     /// Of a cabinet that just tripped.
@@ -332,6 +372,7 @@ impl Watch {
             (Sight::PointOfTheStart, self.commits == 0 && self.commits_at_return.is_none()),
             (Sight::PointWithFailed, !failed.is_empty()),
             (Sight::PointWithSetImageAfterCommit, self.set_image_after_commit()),
+            (Sight::PointWithStoreFailed, has_store_failed(group)),
         ]);
         self.failed_at_point.insert(name, failed);
         sights
@@ -345,7 +386,9 @@ impl Watch {
             (Sight::ReturnWithFailed, !failed.is_empty()),
             (Sight::ReturnOverFail, since_point),
             (Sight::ReturnWithHurtLine, has_hurt_line(group)),
+            (Sight::ReturnWithStoreFailed, has_store_failed(group)),
         ]);
+        self.stores_left_since_return.clear();
         let tripped = |number: &Number| group.cabinet(*number).trips() > 0;
         self.tripped_at_return = group.numbers().filter(tripped).collect();
         self.commits_at_return = Some(self.commits);
@@ -363,8 +406,9 @@ mod tests {
     use super::*;
     use crate::model::KINDS;
 
-    const GROUP: [u8; 28] = [
-        0, 2, 0, 1, 0, 10, 0, 26, 0, 28, 1, 1, 0, 100, 0, 10, 0, 20, 1, 0, 0, 50, 0, 5, 0, 2, 1, 2,
+    const GROUP: [u8; 30] = [
+        0, 2, 0, 1, 0, 10, 0, 28, 0, 30, 1, 1, 0, 100, 0, 10, 0, 20, 0, 1, 0, 0, 50, 0, 5, 0, 2, 0,
+        1, 2,
     ];
     const CABINETS: &str = "cab 1 normal 0 100 10 20\ncab 2 normal 0 50 5 2\n";
 

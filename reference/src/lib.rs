@@ -13,6 +13,7 @@ pub mod ops;
 pub mod outlets;
 pub mod own_checks;
 pub mod pairs;
+pub mod partners;
 pub mod points;
 pub mod shrink;
 #[cfg(test)]

@@ -7,6 +7,7 @@ use crate::losses::{LossCounts, LossWatch};
 use crate::model::{self, Crash, Event, Group, Outcome, State, Version, RECORD_LENGTH, TAKEN};
 use crate::outlets::{OutletCounts, Watch};
 use crate::own_checks::{HurtWatch, OwnCheckCounts};
+use crate::partners::{Eve, PartnerCounts, PartnerWatch};
 use crate::trips::{Stand, TripCounts, TripWatch};
 use crate::unsure::{UnsureCounts, UnsureWatch};
 use crate::word::WordCounts;
@@ -35,6 +36,7 @@ pub struct Tally {
     pub unsure: UnsureCounts,
     pub own_checks: OwnCheckCounts,
     pub workshop: WorkshopCounts,
+    pub partners: PartnerCounts,
     pub point_answers: BTreeMap<u8, u64>,
     pub return_answers: BTreeMap<u8, u64>,
     pub sights: BTreeMap<Sight, u64>,
@@ -52,6 +54,7 @@ impl Tally {
         tally.outlets.count_refused_load(group_file, refusal);
         tally.own_checks.count_refused_load(group_file, refusal);
         tally.workshop.count_refused_load(group_file, refusal);
+        tally.partners.count_refused_load(group_file, refusal);
         tally
     }
 
@@ -96,6 +99,7 @@ impl Tally {
         self.unsure.add(&other.unsure);
         self.own_checks.add(&other.own_checks);
         self.workshop.add(&other.workshop);
+        self.partners.add(&other.partners);
         add_counts(&mut self.point_answers, &other.point_answers);
         add_counts(&mut self.return_answers, &other.return_answers);
         add_counts(&mut self.sights, &other.sights);
@@ -118,7 +122,8 @@ impl Tally {
         text += &self.trips.report();
         text += &self.unsure.report();
         text += &self.own_checks.report();
-        text + &self.workshop.report()
+        text += &self.workshop.report();
+        text + &self.partners.report()
     }
 
     /// What points and returns add to the report.
@@ -142,6 +147,7 @@ pub(crate) struct Counter {
     unsure_watch: UnsureWatch,
     hurt_watch: HurtWatch,
     workshop_watch: WorkshopWatch,
+    partner_watch: PartnerWatch,
 }
 
 impl Counter {
@@ -149,6 +155,7 @@ impl Counter {
         let mut tally = Tally::of_one_case();
         tally.own_checks.count_group(group);
         tally.workshop.count_group(group);
+        tally.partners.count_group(group);
         Counter {
             tally,
             watch: Watch::default(),
@@ -157,11 +164,13 @@ impl Counter {
             unsure_watch: UnsureWatch::default(),
             hurt_watch: HurtWatch::default(),
             workshop_watch: WorkshopWatch::new(group),
+            partner_watch: PartnerWatch::new(group),
         }
     }
 
     pub(crate) fn step(&mut self, group: &mut Group, record: &[u8], highest_kind: u8) -> Outcome {
         let (aim, stand) = (Aim::of(group, record), Stand::of(group, record));
+        let eve = Eve::of(group, &self.partner_watch, record);
         self.watch.before_step(group);
         self.workshop_watch.before_step(group);
         let outcome = group.step(record, highest_kind);
@@ -174,6 +183,7 @@ impl Counter {
         let version = group.packet_version();
         self.tally.own_checks.count_step(&mut self.hurt_watch, aim, version, record, outcome);
         self.tally.workshop.count_step(&mut self.workshop_watch, aim, group, record, outcome);
+        self.tally.partners.count_step(&mut self.partner_watch, eve, group, outcome);
         outcome
     }
 }
@@ -243,8 +253,10 @@ mod tests {
     use super::*;
     use crate::model::KINDS;
 
-    const GROUP: [u8; 28] =
-        [0, 2, 0, 1, 0, 10, 0, 26, 0, 28, 1, 1, 0, 100, 0, 0, 0, 0, 1, 0, 0, 50, 0, 0, 0, 0, 1, 2];
+    const GROUP: [u8; 30] = [
+        0, 2, 0, 1, 0, 10, 0, 28, 0, 30, 1, 1, 0, 100, 0, 0, 0, 0, 0, 1, 0, 0, 50, 0, 0, 0, 0, 0,
+        1, 2,
+    ];
 
     #[test]
     fn the_worked_example() {
@@ -277,9 +289,9 @@ mod tests {
     fn a_then_b_then_the_workshop_is_listed() {
         let mut group = GROUP;
         group[15] = 7;
-        group[22] = 1;
+        group[23] = 1;
         group[17] = 9;
-        group[24] = 2;
+        group[25] = 2;
         let deliver = [4, 1, 2, 0, 0, 0];
         let steps = [[1, 1, 2, 1, 0, 30], [1, 1, 2, 4, 0, 3], deliver, deliver];
         let cabinets = "cab 1 normal 0 70 7 6\ncab 2 normal 0 50 286 515\n";

@@ -1,7 +1,7 @@
 //! The commands: list, evening, word, compare, make, pack, vectors and bench.
 
 use reference::cases::{case_seed, make_case, Case, Wishes};
-use reference::choice::most_telling;
+use reference::choice::{chosen_of_row, most_telling};
 use reference::compare::{self, Row};
 use reference::form::Form;
 use reference::listing::{listing, Tally};
@@ -22,11 +22,11 @@ const USAGE: &str = "usage:
   reference word DIR [--kinds K]
   reference compare PROGRAM [--plans | --word] [--seed S] [--cases N] [--damage] [--kinds K]
   reference compare PROGRAM --pairs [--plans | --word] [--seed S] [--cases N] [--damage]
-  reference make OUT [--plans | --word] [--seed S] [--cases N] [--damage] [--kinds K]
+  reference make OUT [--plans | --word] [--seed S] [--cases N] [--damage] [--kinds K] [--most N]
   reference pack DIR OUT [--plans | --word] [--from-01 | --from-card C] [--most N]
   reference vectors DIR [--from-01 | --from-card C]
   reference bench [--seed S]
-K is from 10 to 14, C from 2 to 9";
+K is from 10 to 14, C from 2 to 10";
 
 // ---------------------------------------------------------------- arguments
 
@@ -180,11 +180,20 @@ fn make(file: &Path, options: &Options) -> io::Result<ExitCode> {
     let mut out = io::BufWriter::new(fs::File::create(file)?);
     let mut tally = Tally::default();
     let row = options.row();
-    for index in 0..row.cases {
-        let case = row.case(index);
-        let (text, counts) = row.counted_text(&case);
-        tally.add(&counts);
-        write_case(&mut out, &case, text.as_bytes())?;
+    let mut write = |case: &Case, text: &str, counts: &Tally| {
+        tally.add(counts);
+        write_case(&mut out, case, text.as_bytes())
+    };
+    if options.most < usize::MAX {
+        for (case, text, counts) in chosen_of_row(row, options.most) {
+            write(&case, &text, &counts)?;
+        }
+    } else {
+        for index in 0..row.cases {
+            let case = row.case(index);
+            let (text, counts) = row.counted_text(&case);
+            write(&case, &text, &counts)?;
+        }
     }
     out.flush()?;
     print!("{}", options.form.report(&tally));

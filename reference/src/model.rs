@@ -1,9 +1,9 @@
-//! The charger group of either packet version: cabinets, lines and store, the load of a group file,
+//! The charger group of either packet version: cabinets, lines and stores, the load of a group file,
 //! the thirteen kinds of step, numbered 1 to 14 without 9, and the word that settled a recovery.
 //! Written from the scope document and the decisions alone; cabinet numbers are 1 to n here, as
 //! they are there.
 
-use std::collections::{BTreeSet, VecDeque};
+use std::collections::{BTreeMap, BTreeSet, VecDeque};
 use std::ops::{Range, RangeInclusive};
 
 pub type Number = usize;
@@ -467,8 +467,12 @@ pub struct Cabinet {
     pub state: State,
     pub version: Version,
     pub image: Image,
-    home: Number,
+    /// As the file names it.
+    first_home: Number,
     store: bool,
+    partner: Option<Number>,
+    /// Of a store: it has tripped, and has not reported restored since.
+    away: bool,
     cabinets_in_use: BTreeSet<Number>,
     links_in_use: BTreeSet<Number>,
     coordinator: Number,
@@ -505,6 +509,39 @@ impl Cabinet {
     /// As this cabinet's own table names it.
     pub fn coordinator(&self) -> Number {
         self.coordinator
+    }
+
+    /// Its home in the file.
+    pub fn first_home(&self) -> Number {
+        self.first_home
+    }
+
+    pub fn is_a_store(&self) -> bool {
+        self.store
+    }
+
+    /// Of a store, if its entry names one.
+    pub fn partner(&self) -> Option<Number> {
+        self.partner
+    }
+
+    /// A store that is not present serves nobody.
+    pub fn present(&self) -> bool {
+        self.working() && !self.away
+    }
+
+    pub fn away(&self) -> bool {
+        self.away
+    }
+
+    /// The saved reports that it owes, as a home.
+    pub fn reports_owed(&self) -> &BTreeSet<Number> {
+        &self.reports_owed
+    }
+
+    /// Of its image, written in this save or fetched in this recovery.
+    pub fn pieces_done(&self) -> usize {
+        self.noted.pieces_done
     }
 
     /// Since the last commit.
@@ -598,7 +635,8 @@ pub struct Group {
     file_links: BTreeSet<(Number, Number)>,
     sound_links: BTreeSet<(Number, Number)>,
     lines: Vec<Vec<Line>>,
-    slots: Vec<[Image; 2]>,
+    /// For each store, the two slots of each cabinet that it keeps.
+    kept: Vec<BTreeMap<Number, [Image; 2]>>,
     packet_version: PacketVersion,
     settling: Settling,
     history: History,
@@ -624,7 +662,8 @@ fn connected(members: &BTreeSet<Number>, links: &BTreeSet<(Number, Number)>) -> 
 
 // ---------------------------------------------------------------- load
 
-pub(crate) const CABINET_ENTRY_LENGTH: usize = 8;
+pub(crate) const CABINET_ENTRY_LENGTH: usize = 9;
+pub(crate) const PLACE_OF_PARTNER: usize = 8;
 const LINK_ENTRY_LENGTH: usize = 2;
 
 /// Where a header has the offset of the cabinet table, and in version 2 its sixth number.
@@ -664,6 +703,8 @@ struct CabinetEntry {
     mark: u8,
     /// A's, B's and the workshop's.
     bookings: [u16; 3],
+    /// 0 for none.
+    partner: Number,
 }
 
 impl CabinetEntry {
@@ -705,15 +746,21 @@ fn cabinet_entries(table: &[u8]) -> Vec<CabinetEntry> {
         home: usize::from(octets[0]),
         mark: octets[1],
         bookings: [2, 4, 6].map(|place| number_at(octets, place) as u16),
+        partner: usize::from(octets[PLACE_OF_PARTNER]),
     };
     table.chunks(CABINET_ENTRY_LENGTH).map(entry).collect()
 }
 
 fn cabinet_entries_sound(entries: &[CabinetEntry]) -> bool {
-    entries.iter().all(|entry| {
+    let a_store =
+        |number: Number| (1..=entries.len()).contains(&number) && entries[number - 1].mark == 1;
+    let partner_sound = |own: Number, partner: Number| {
+        a_store(own) && a_store(partner) && own != partner && entries[partner - 1].partner == own
+    };
+    (1..).zip(entries).all(|(own, entry)| {
         entry.mark <= 1
-            && (1..=entries.len()).contains(&entry.home)
-            && entries[entry.home - 1].mark == 1
+            && a_store(entry.home)
+            && (entry.partner == 0 || partner_sound(own, entry.partner))
     })
 }
 
@@ -759,7 +806,7 @@ fn starting_group(
     let cabinets: Vec<Cabinet> =
         (1..=n).map(|number| starting_cabinet(number, n, &entries[number - 1], &links)).collect();
     Group {
-        slots: cabinets.iter().map(|cabinet| [cabinet.image, NO_IMAGE]).collect(),
+        kept: (1..=n).map(|store| starting_slots(store, &cabinets)).collect(),
         cabinets,
         file_links: links.clone(),
         sound_links: links,
@@ -768,6 +815,15 @@ fn starting_group(
         settling: Settling::default(),
         history: History::default(),
     }
+}
+
+/// A store keeps the cabinets whose home it is in the file, and those of its partner.
+fn starting_slots(store: Number, cabinets: &[Cabinet]) -> BTreeMap<Number, [Image; 2]> {
+    let partner = cabinets[store - 1].partner;
+    let kept =
+        |cabinet: &Cabinet| cabinet.first_home == store || Some(cabinet.first_home) == partner;
+    let kept = (1..).zip(cabinets).filter(|(_, cabinet)| kept(cabinet));
+    kept.map(|(number, cabinet)| (number, [cabinet.image, NO_IMAGE])).collect()
 }
 
 fn starting_cabinet(
@@ -781,8 +837,10 @@ fn starting_cabinet(
         state: State::Normal,
         version: Version::Known(0),
         image: NO_IMAGE,
-        home: entry.home,
+        first_home: entry.home,
         store: entry.mark == 1,
+        partner: (entry.partner != 0).then_some(entry.partner),
+        away: false,
         cabinets_in_use: (1..=n).collect(),
         links_in_use: (1..=n).filter(linked).collect(),
         coordinator: 1,
@@ -943,6 +1001,7 @@ pub struct Outcome {
 /// Why the group is to crash; nothing has been changed yet.
 #[derive(Clone, Copy, PartialEq, Eq, PartialOrd, Ord, Debug)]
 pub enum Crash {
+    /// One with no partner, or whose partner is not present.
     StoreFailed,
     FailInRecovery,
     DamageInRecovery,
@@ -1000,9 +1059,34 @@ impl Group {
         self.file_links.contains(&link_between(a, b))
     }
 
+    /// Who serves this cabinet: its home in the file if that store is present, else its partner.
+    pub fn home(&self, cabinet: Number) -> Number {
+        let first = self.cabinet(cabinet).first_home;
+        match self.cabinet(first).partner {
+            Some(partner) if !self.cabinet(first).present() => partner,
+            _ => first,
+        }
+    }
+
+    /// Those that keep slots of this cabinet.
+    pub fn stores_of(&self, cabinet: Number) -> Vec<Number> {
+        let first = self.cabinet(cabinet).first_home;
+        [Some(first), self.cabinet(first).partner].into_iter().flatten().collect()
+    }
+
+    /// The partner of this store, if it is present.
+    pub fn present_partner(&self, store: Number) -> Option<Number> {
+        self.cabinet(store).partner.filter(|&partner| self.cabinet(partner).present())
+    }
+
+    /// Whether without this cabinet some slots would be left at no store.
+    pub fn is_the_store_left(&self, cabinet: Number) -> bool {
+        self.cabinet(cabinet).store && self.present_partner(cabinet).is_none()
+    }
+
     /// Why the group would crash if this cabinet failed now, if it would.
     pub fn crash_by_failing(&self, cabinet: Number) -> Option<Crash> {
-        if self.cabinet(cabinet).store {
+        if self.is_the_store_left(cabinet) {
             Some(Crash::StoreFailed)
         } else if self.recovery_under_way() {
             Some(Crash::FailInRecovery)
@@ -1016,7 +1100,7 @@ impl Group {
         let leads = self.cabinet(cabinet).coordinator == cabinet;
         if self.trip_is_a_fail(cabinet) {
             self.crash_by_failing(cabinet)
-        } else if self.cabinet(cabinet).store {
+        } else if self.is_the_store_left(cabinet) {
             Some(Crash::StoreTripped)
         } else if self.recovery_under_way() {
             Some(Crash::TripInRecovery)
@@ -1123,21 +1207,20 @@ impl Group {
         let cabinet = self.cabinet(a);
         first_refusal(&[
             (14, cabinet.state != State::Checkpointing),
-            (19, self.cabinet(cabinet.home).state.in_recovery()),
+            (19, self.cabinet(self.home(a)).state.in_recovery()),
         ])
     }
 
     fn saved_refusal(&self, a: Number) -> Option<u8> {
-        let home = self.cabinet(self.cabinet(a).home);
+        let home = self.cabinet(self.home(a));
         let saving = self.cabinet(home.coordinator()).takes_reports();
         first_refusal(&[(19, !home.reports_owed.contains(&a) || !saving)])
     }
 
     fn fetch_refusal(&self, a: Number) -> Option<u8> {
-        let cabinet = self.cabinet(a);
-        let home = self.cabinet(cabinet.home).state;
+        let home = self.cabinet(self.home(a)).state;
         first_refusal(&[
-            (14, cabinet.state != State::Recovering),
+            (14, self.cabinet(a).state != State::Recovering),
             (19, !matches!(home, State::Recovering | State::Recovered)),
         ])
     }
@@ -1423,7 +1506,11 @@ impl Group {
         let image = cabinet.image;
         cabinet.noted.pieces_done += 1;
         let complete = cabinet.noted.pieces_done == PIECES;
-        self.slots[a - 1][slot][piece.clone()].copy_from_slice(&image[piece]);
+        for store in self.stores_of(a) {
+            if self.cabinet(store).present() {
+                self.slots_at(store, a)[slot][piece.clone()].copy_from_slice(&image[piece.clone()]);
+            }
+        }
         if complete {
             self.finish_writing(a);
         }
@@ -1435,12 +1522,12 @@ impl Group {
         if cabinet.coordinator() != a {
             cabinet.version = Version::Unknown { old: cabinet.version.number() };
         }
-        let home = cabinet.home;
+        let home = self.home(a);
         self.cabinet_mut(home).reports_owed.insert(a);
     }
 
     fn report_saved(&mut self, a: Number) -> Event {
-        let home_number = self.cabinet(a).home;
+        let home_number = self.home(a);
         let home = self.cabinet_mut(home_number);
         home.reports_owed.remove(&a);
         let coordinator_number = home.coordinator();
@@ -1488,6 +1575,7 @@ impl Group {
         if let Some(cause) = self.crash_by_failing(a) {
             return Err(cause);
         }
+        self.pass_reports_on(a);
         self.cabinet_mut(a).state = State::Failed;
         self.empty_lines_both_ways(a);
         self.alarm_neighbours(a, Place::Failed(a));
@@ -1501,14 +1589,24 @@ impl Group {
         if let Some(cause) = self.crash_by_tripping(a) {
             return Err(cause);
         }
+        self.pass_reports_on(a);
         let cabinet = self.cabinet_mut(a);
         cabinet.trips += 1;
+        cabinet.away = cabinet.store;
         cabinet.image = NO_IMAGE;
         cabinet.version = Version::Lost;
         self.empty_lines_both_ways(a);
         self.enter_error(a, Place::Tripped(a));
         self.alarm_neighbours(a, Place::Tripped(a));
         Ok(())
+    }
+
+    /// Of a store that leaves; if its partner enters error in this step, it forgets them then.
+    fn pass_reports_on(&mut self, a: Number) {
+        if let Some(partner) = self.present_partner(a) {
+            let owed = std::mem::take(&mut self.cabinet_mut(a).reports_owed);
+            self.cabinet_mut(partner).reports_owed.extend(owed);
+        }
     }
 
     fn empty_lines_both_ways(&mut self, a: Number) {
@@ -1586,8 +1684,8 @@ impl Group {
     }
 
     fn fetch_piece(&mut self, a: Number) {
-        let home = self.cabinet(self.cabinet(a).home);
-        let slot = self.slots[a - 1][usize::from(home.version.number())];
+        let home = self.cabinet(self.home(a));
+        let slot = *self.slot(a, home.version.number());
         let cabinet = self.cabinet_mut(a);
         let piece = piece_range(cabinet.noted.pieces_done);
         cabinet.image[piece.clone()].copy_from_slice(&slot[piece]);
@@ -1611,6 +1709,10 @@ impl Group {
         let coordinator_number = self.cabinet(a).coordinator();
         let coordinator = self.cabinet_mut(coordinator_number);
         coordinator.noted.restored.insert(a);
+        if self.cabinet(a).away {
+            self.come_back(a);
+        }
+        let coordinator = self.cabinet(coordinator_number);
         let all_in = coordinator.noted.restored.is_superset(&coordinator.cabinets_in_use);
         if coordinator.state != State::Recovered || !all_in {
             return Event::Nothing;
@@ -1621,6 +1723,16 @@ impl Group {
         Event::RecoveryEnd { save_passed_over }
     }
 
+    /// A store that tripped has all of the pair from its partner, and is home again.
+    fn come_back(&mut self, a: Number) {
+        let partner = self.cabinet(a).partner.expect("the trip of a store alone is a crash");
+        self.kept[a - 1] = self.kept[partner - 1].clone();
+        self.cabinet_mut(a).away = false;
+        let own: Vec<Number> =
+            self.numbers().filter(|&number| self.cabinet(number).first_home == a).collect();
+        self.cabinet_mut(partner).reports_owed.retain(|number| !own.contains(number));
+    }
+
     fn resume_after_recovery(&mut self, a: Number) {
         self.cabinet_mut(a).enter_normal();
         self.put_on_all_lines(a, Packet::Resume);
@@ -1628,9 +1740,9 @@ impl Group {
 
     /// At a recovery's end: whoever failed before it has an image in the save restored.
     fn keep_images_left_behind(&mut self, coordinator: Number) {
-        let restored = usize::from(self.cabinet(coordinator).version.number());
+        let restored = self.cabinet(coordinator).version.number();
         for number in self.numbers() {
-            let image = self.slots[number - 1][restored];
+            let image = *self.slot(number, restored);
             let cabinet = self.cabinet_mut(number);
             if !cabinet.working() {
                 cabinet.left_behind.get_or_insert(image);
@@ -1718,8 +1830,18 @@ impl Group {
         self.cabinets.iter().all(idle) && self.lines.iter().flatten().all(empty)
     }
 
+    /// At the home that serves the cabinet now.
     pub fn slot(&self, number: Number, version: u8) -> &Image {
-        &self.slots[number - 1][usize::from(version)]
+        self.slot_at(self.home(number), number, version)
+    }
+
+    /// At one of the stores that keep slots of this cabinet.
+    pub fn slot_at(&self, store: Number, number: Number, version: u8) -> &Image {
+        &self.kept[store - 1][&number][usize::from(version)]
+    }
+
+    fn slots_at(&mut self, store: Number, number: Number) -> &mut [Image; 2] {
+        self.kept[store - 1].get_mut(&number).expect("a store of its pair keeps each cabinet")
     }
 
     /// The image of a working cabinet, or the one that a failed cabinet left behind.
@@ -1742,11 +1864,13 @@ impl Group {
         }
     }
 
-    /// Every image and both slots of every cabinet, failed ones too.
+    /// Every image, and both slots of every cabinet at both stores, failed ones too.
     pub(crate) fn set_images(&mut self, images: &[Image]) {
-        for (index, &image) in images.iter().enumerate() {
-            self.slots[index] = [image; 2];
-            let cabinet = &mut self.cabinets[index];
+        for (number, &image) in (1..).zip(images) {
+            for store in self.stores_of(number) {
+                *self.slots_at(store, number) = [image; 2];
+            }
+            let cabinet = self.cabinet_mut(number);
             if cabinet.working() {
                 cabinet.image = image;
             } else {
@@ -1805,7 +1929,9 @@ impl Group {
     pub fn but_for_amounts(&self) -> Group {
         let mut group = self.clone();
         group.cabinets = self.cabinets.iter().map(Cabinet::but_for_amounts).collect();
-        group.slots = self.slots.iter().map(|slots| slots.map(without_workshop)).collect();
+        for slots in group.kept.iter_mut().flat_map(BTreeMap::values_mut) {
+            *slots = slots.map(without_workshop);
+        }
         for packet in group.lines.iter_mut().flatten().flat_map(|line| &mut line.packets) {
             *packet = packet.but_for_amounts();
         }
@@ -1824,13 +1950,14 @@ mod tests {
     /// Cabinets in a row, each linked to the next; the last one is the store of all.
     fn group_file_of_all(bookings: &[[u16; 3]]) -> Vec<u8> {
         let n = bookings.len();
-        let link_table = 10 + 8 * n;
+        let link_table = 10 + 9 * n;
         let header = [n, n - 1, 10, link_table, link_table + 2 * (n - 1)];
         let mut file: Vec<u8> =
             header.iter().flat_map(|&number| (number as u16).to_be_bytes()).collect();
         for (index, booked) in bookings.iter().enumerate() {
             file.extend_from_slice(&[n as u8, u8::from(index + 1 == n)]);
             file.extend(booked.iter().flat_map(|booking| booking.to_be_bytes()));
+            file.push(0);
         }
         for low in 1..n as u8 {
             file.extend_from_slice(&[low, low + 1]);
@@ -1973,12 +2100,17 @@ mod tests {
     }
 
     #[test]
-    fn entries_of_four_or_six_octets_are_refused() {
+    fn entries_of_four_six_or_eight_octets_are_refused() {
         let one_outlet = [0, 2, 0, 1, 0, 10, 0, 18, 0, 20, 2, 0, 0, 100, 2, 1, 0, 50, 1, 2];
         assert_eq!(load(&one_outlet).err(), Some(3));
         let two_outlets =
             [0, 2, 0, 1, 0, 10, 0, 22, 0, 24, 2, 0, 0, 100, 0, 0, 2, 1, 0, 50, 0, 0, 1, 2];
         assert_eq!(load(&two_outlets).err(), Some(3));
+        let no_partner = [
+            0, 2, 0, 1, 0, 10, 0, 26, 0, 28, 2, 0, 0, 100, 0, 0, 0, 0, 2, 1, 0, 50, 0, 0, 0, 0, 1,
+            2,
+        ];
+        assert_eq!(load(&no_partner).err(), Some(3));
     }
 
     #[test]
@@ -1994,8 +2126,8 @@ mod tests {
         assert_eq!(changed(2, 0x80), Some(3));
         assert_eq!(changed(10, 1), Some(4));
         assert_eq!(changed(11, 2), Some(4));
-        assert_eq!(changed(34, 2), Some(5));
-        assert_eq!(changed(36, 1), None);
+        assert_eq!(changed(37, 2), Some(5));
+        assert_eq!(changed(39, 1), None);
     }
 
     #[test]

@@ -152,10 +152,17 @@ pub enum Reached {
     Return,
     Decision,
     Crash,
+    /// A group with partners.
+    Partners,
+    /// A store with a present partner failed or tripped.
+    StoreLeft,
+    ReportsPassedOn,
+    ComeBack,
+    LeadGoneRound,
 }
 
 impl Reached {
-    pub const ALL: [Reached; 18] = [
+    pub const ALL: [Reached; 23] = [
         Reached::BookingsDiffer,
         Reached::SlotsDiffer,
         Reached::CheckpsDiffer,
@@ -174,6 +181,11 @@ impl Reached {
         Reached::Return,
         Reached::Decision,
         Reached::Crash,
+        Reached::Partners,
+        Reached::StoreLeft,
+        Reached::ReportsPassedOn,
+        Reached::ComeBack,
+        Reached::LeadGoneRound,
     ];
 }
 
@@ -215,6 +227,11 @@ impl PairCounts {
             (Reached::Return, taken(&tally.return_answers)),
             (Reached::Decision, !tally.unsure.decisions.is_empty()),
             (Reached::Crash, !tally.crashes.is_empty()),
+            (Reached::Partners, tally.partners.with_partners > 0),
+            (Reached::StoreLeft, !tally.partners.left.is_empty()),
+            (Reached::ReportsPassedOn, tally.partners.passed_on > 0),
+            (Reached::ComeBack, tally.partners.come_backs > 0),
+            (Reached::LeadGoneRound, tally.partners.leads_gone_round > 0),
         ];
         let reached: BTreeMap<Reached, u64> =
             marks.into_iter().filter(|(_, there)| *there).map(|(mark, _)| (mark, 1)).collect();

@@ -28,9 +28,20 @@ pub(crate) fn group_file(
     file.truncate(header_length);
     for (number, booking) in (1..).zip(bookings) {
         let [high, low] = booking.to_be_bytes();
-        file.extend_from_slice(&[store, u8::from(number == store), high, low, 0, 0, 0, 0]);
+        file.extend_from_slice(&[store, u8::from(number == store), high, low, 0, 0, 0, 0, 0]);
     }
     file.extend(links.iter().flat_map(|&(low, high)| [low, high]));
+    file
+}
+
+/// Homes, store marks and partners as named, of packet version 1; 100 booked at each A.
+pub(crate) fn file_with_stores(entries: &[[u8; 3]], links: &[(u8, u8)]) -> Vec<u8> {
+    let bookings = vec![100; entries.len()];
+    let mut file = group_file(PacketVersion::One, &bookings, 1, links);
+    for (&[home, mark, partner], place) in entries.iter().zip((10..).step_by(CABINET_ENTRY_LENGTH))
+    {
+        (file[place], file[place + 1], file[place + 8]) = (home, mark, partner);
+    }
     file
 }
 

@@ -256,7 +256,8 @@ fn seems_to_have_lost_its_coordinator(group: &Group, cabinet: &Cabinet) -> bool 
     let Some(Place::Failed(lost) | Place::Tripped(lost)) = cabinet.place() else {
         return false;
     };
-    let next = group.working_cabinets().range(lost + 1..).next().copied();
+    let working = group.working_cabinets();
+    let next = working.range(lost + 1..).next().or(working.first()).copied();
     cabinet.waits() && !cabinet.lost_its_coordinator() && next == Some(cabinet.coordinator())
 }
 

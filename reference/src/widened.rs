@@ -1,6 +1,6 @@
 //! Cases of earlier cards as cases of now: bookings that have come since stand in each entry of
 //! the file and in each line of a cabinet, with nothing booked, and no note is taken where they
-//! are now. And which cases have no counterpart, now that kinds of step have come and one has
+//! are now; no store names a partner. And which cases have no counterpart, now that kinds of step have come and one has
 //! gone, that damage and the first offset of a file say more, and that buses and workshop have
 //! four places each in a line. All by rule; the model is asked for a fifth packet alone.
 
@@ -15,14 +15,15 @@ use std::ops::Range;
 
 /// Document 01 by itself, and the one whose rules the model has.
 pub const NO_CARD: u8 = 1;
-pub const LAST_CARD: u8 = 9;
+pub const LAST_CARD: u8 = 10;
 
 /// Those that brought the second outlet, that withdrew a kind of step, that brought packets with
-/// their own check, and that brought the workshop.
+/// their own check, that brought the workshop, and that brought partners of stores.
 const CARD_OF_TWO_OUTLETS: u8 = 2;
 const CARD_OF_WITHDRAWAL: u8 = 6;
 const CARD_OF_OWN_CHECKS: u8 = 7;
 const CARD_OF_WORKSHOP: u8 = 9;
+const CARD_OF_PARTNERS: u8 = 10;
 
 /// The highest kind of step once this card has landed.
 fn kinds_of_card(card: u8) -> u8 {
@@ -43,9 +44,10 @@ fn bookings_of_card(card: u8) -> usize {
     }
 }
 
-/// Home and store mark stand in front of an entry's bookings.
+/// Home and store mark stand in front of an entry's bookings, the partner behind them.
 fn entry_length_of_card(card: u8) -> usize {
-    2 + BOOKING_LENGTH * bookings_of_card(card)
+    let partner = usize::from(card >= CARD_OF_PARTNERS);
+    2 + BOOKING_LENGTH * bookings_of_card(card) + partner
 }
 
 const BOOKING_LENGTH: usize = 2;
@@ -85,7 +87,7 @@ pub fn as_it_reads_now(
         return Err(LeftOut::NamesPacketVersionTwo);
     }
     match text.strip_prefix("load ").map(str::trim_end) {
-        Some("3") if card < CARD_OF_WORKSHOP && has_the_layout_of_now(&case.group) => {
+        Some("3") if card < LAST_CARD && has_the_layout_of_now(&case.group) => {
             Err(LeftOut::RightByNewOffsets)
         }
         Some("1" | "2" | "3") => Ok((case.clone(), text.to_string())),
@@ -237,8 +239,12 @@ mod tests {
     const OLD_GROUP: [u8; 20] = [0, 2, 0, 1, 0, 10, 0, 18, 0, 20, 1, 1, 0, 100, 1, 0, 0, 50, 1, 2];
     const GROUP_OF_CARD_2: [u8; 24] =
         [0, 2, 0, 1, 0, 10, 0, 22, 0, 24, 1, 1, 0, 100, 0, 7, 1, 0, 0, 50, 0, 0, 1, 2];
-    const GROUP: [u8; 28] =
-        [0, 2, 0, 1, 0, 10, 0, 26, 0, 28, 1, 1, 0, 100, 0, 0, 0, 0, 1, 0, 0, 50, 0, 0, 0, 0, 1, 2];
+    const GROUP_OF_CARD_9: [u8; 28] =
+        [0, 2, 0, 1, 0, 10, 0, 26, 0, 28, 1, 1, 0, 100, 0, 7, 0, 9, 1, 0, 0, 50, 0, 0, 0, 0, 1, 2];
+    const GROUP: [u8; 30] = [
+        0, 2, 0, 1, 0, 10, 0, 28, 0, 30, 1, 1, 0, 100, 0, 0, 0, 0, 0, 1, 0, 0, 50, 0, 0, 0, 0, 0,
+        1, 2,
+    ];
 
     fn converted(records: &[[u8; 6]], text: &str) -> Result<(Case, String), LeftOut> {
         let case = Case { group: OLD_GROUP.to_vec(), steps: records.concat() };
@@ -349,6 +355,24 @@ mod tests {
     }
 
     #[test]
+    fn a_case_of_card_9_gets_an_octet_for_the_partner() {
+        let mut group = GROUP.to_vec();
+        (group[15], group[17]) = (7, 9);
+        let text = "step 1 15\ncab 1 normal 0 100 7 9\ncab 2 normal 0 50 0 0\n".to_string();
+        let steps = vec![2, 1, 0, 5, 0, 5];
+        let two = (with_sixth_number(&GROUP_OF_CARD_9), with_sixth_number(&group));
+        for (old_group, group) in [(GROUP_OF_CARD_9.to_vec(), group), two] {
+            let case = Case { group: old_group, steps: steps.clone() };
+            let widened = Case { group, steps: steps.clone() };
+            let converted = as_it_reads_now(Form::Steps, &case, &text, 9);
+            assert_eq!(converted, Ok((widened, text.clone())));
+        }
+        let refused = Case { group: GROUP.to_vec(), steps };
+        let converted = as_it_reads_now(Form::Steps, &refused, "load 3\n", 9);
+        assert_eq!(converted, Err(LeftOut::RightByNewOffsets));
+    }
+
+    #[test]
     fn a_case_of_now_stays() {
         let case = Case { group: GROUP.to_vec(), steps: vec![2, 1, 0, 4, 0, 5] };
         let text = "step 1 15\ncab 1 normal 0 100 0 0\ncab 2 normal 0 50 0 0\n".to_string();
@@ -392,7 +416,7 @@ mod tests {
     #[test]
     fn a_file_refused_for_what_it_holds_is_widened() {
         let no_home = changed_files(10, 10, 3);
-        let link_to_itself = changed_files(19, 27, 1);
+        let link_to_itself = changed_files(19, 29, 1);
         let overbooked = changed_files(12, 12, 255);
         for ((old, new), answer) in [(no_home, 4), (link_to_itself, 5), (overbooked, 7)] {
             let text = format!("load {answer}\n");
@@ -401,8 +425,8 @@ mod tests {
         }
         let mut no_link = OLD_GROUP[..18].to_vec();
         (no_link[3], no_link[9]) = (0, 18);
-        let mut widened = GROUP[..26].to_vec();
-        (widened[3], widened[9]) = (0, 26);
+        let mut widened = GROUP[..28].to_vec();
+        (widened[3], widened[9]) = (0, 28);
         let (case, text) = converted_file(&no_link, "load 6\n").expect("it is not left out");
         assert_eq!((case.group, text), (widened, "load 6\n".to_string()));
     }
@@ -424,7 +448,8 @@ mod tests {
         let left_out = |file: &[u8]| converted_file(file, "load 3\n").err();
         assert_eq!(left_out(&GROUP), Some(LeftOut::RightByNewOffsets));
         assert_eq!(left_out(&GROUP_OF_CARD_2), None);
-        assert_eq!(left_out(&GROUP[..27]), None);
+        assert_eq!(left_out(&GROUP_OF_CARD_9), None);
+        assert_eq!(left_out(&GROUP[..29]), None);
         for number in [3, 5, 7, 9] {
             let mut file = GROUP;
             file[number] += 1;

@@ -103,7 +103,7 @@ pub enum Mark {
     Trip,
     /// That cabinet led.
     TripOfTheLead,
-    /// The first had led since an earlier fault.
+    /// The first had led since an earlier fault, and is not 1.
     MovedLead,
     /// The first is the lowest that works, and did not lead.
     LowestWithoutLead,

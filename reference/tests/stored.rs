@@ -1,7 +1,8 @@
-//! What the seeds of the made files reach, as the README names them: sizes that the gate has room
-//! for, and everything that is counted. The cases are made again from the seeds; no file is opened.
+//! What the made files reach, as the README names their seeds: sizes that the gate has room for,
+//! and everything that is counted. The cases are made and chosen again; no file is opened.
 
 use reference::cases::{Case, Wishes};
+use reference::choice::chosen_of_row;
 use reference::compare::Row;
 use reference::evening::Sight;
 use reference::form::Form;
@@ -9,15 +10,20 @@ use reference::listing::Tally;
 use reference::losses::{Finding, Refused};
 use reference::model::{Crash, PacketVersion, State, KINDS};
 use reference::own_checks::{Dropped, Found, Hit, Misfit, Mixed};
+use reference::partners::{Alone, Fetched, Gone, Leaving, Misnamed, Moment, Stores, Written};
 use reference::trips::Between;
 use reference::unsure::{Lost, Refusal};
 use reference::word::{word, Mark, Sort, WordCounts};
 use reference::workshop::{self, Overbooked, Totals};
 
 const WISHES: Wishes = Wishes { damage: true, highest_kind: KINDS, cabinets: None };
-const MADE: Row = Row { form: Form::Steps, seed: 1216, cases: 210, wishes: WISHES };
-const PLANNED: Row = Row { form: Form::Plan, seed: 1264, cases: 100, wishes: WISHES };
-const WORDED: Row = Row { form: Form::Word, seed: 1957, cases: 100, wishes: WISHES };
+const MADE: Row = Row { form: Form::Steps, seed: 2112, cases: 1500, wishes: WISHES };
+const PLANNED: Row = Row { form: Form::Plan, seed: 2112, cases: 1000, wishes: WISHES };
+const WORDED: Row = Row { form: Form::Word, seed: 2112, cases: 1500, wishes: WISHES };
+
+const MADE_MOST: usize = 210;
+const PLANNED_MOST: usize = 100;
+const WORDED_MOST: usize = 100;
 
 const GROUP_MOST: usize = 4_096;
 const RECORDS_MOST: usize = 90_180;
@@ -32,13 +38,13 @@ fn has_more_records_than_are_read(form: Form, case: &Case) -> bool {
     case.steps.len().div_ceil(form.record_length()) > RECORDS_READ
 }
 
-/// The counts of a row, of which one case is long and does not crash.
-fn counted(row: Row) -> Tally {
+/// The counts of those chosen of a row, of which one case is long and does not crash.
+fn counted(row: Row, most: usize) -> Tally {
     let mut tally = Tally::default();
     let mut long = 0;
-    for index in 0..row.cases {
-        let case = row.case(index);
-        let (text, counts) = row.counted_text(&case);
+    let chosen = chosen_of_row(row, most);
+    assert_eq!(chosen.len(), most);
+    for (case, text, counts) in chosen {
         assert!(has_room(&case, &text));
         if has_more_records_than_are_read(row.form, &case) {
             long += 1;
@@ -115,7 +121,7 @@ fn of_trips(tally: &Tally) -> Vec<Reached> {
         ("trips after two", trips.after_two.keys().eq(&between)),
         ("third trips", trips.taken_as_fails > 0 && trips.fails_of_coordinators > 0),
         ("trips refused", trips.refused.keys().eq(&[9, 10, 11, 12])),
-        ("crashes by trips", trips.crashes.keys().eq(&crashes)),
+        ("crashes by trips", crashes.iter().all(|cause| trips.crashes.contains_key(cause))),
         ("recoveries after a trip", trips.recoveries_ended > 0),
         ("passed over by a trip", trips.saves_passed_over > 0),
         ("begins by a moved lead", trips.begins_by_moved_lead > 0),
@@ -196,6 +202,25 @@ fn of_workshop(tally: &Tally) -> Vec<Reached> {
     ]
 }
 
+fn of_partners(tally: &Tally) -> Vec<Reached> {
+    let counts = &tally.partners;
+    let alone = |why: &Alone| counts.neither_left.keys().any(|(_, alone)| alone == why);
+    let numbers = counts.numbers().into_iter().map(|(name, number)| (name, number > 0));
+    let by_key = [
+        ("stores", counts.stores.keys().eq(&Stores::ALL)),
+        ("partners misnamed", counts.loads_refused.keys().eq(&Misnamed::ALL)),
+        ("stores that left", counts.left.len() == 2 * Leaving::ALL.len()),
+        ("stores that left while", counts.left_while.keys().eq(&Moment::ALL)),
+        ("the other left after a come-back", counts.left_after_come_back.len() == 2),
+        ("pieces written", counts.written.keys().eq(&Written::ALL)),
+        ("pieces fetched", counts.fetched.keys().eq(&Fetched::ALL)),
+        ("commits with a store gone", counts.commits.keys().eq(&Gone::ALL)),
+        ("no store left", Alone::ALL.iter().all(alone)),
+        ("recoveries after a store left", counts.recoveries_ended.keys().eq(&Leaving::ALL)),
+    ];
+    by_key.into_iter().chain(numbers).collect()
+}
+
 fn several_of_each(tally: &Tally) -> bool {
     let ended = &tally.own_checks.recoveries_ended;
     ended.keys().eq(&Found::ALL) && ended.values().all(|&recoveries| recoveries > 2)
@@ -204,17 +229,17 @@ fn several_of_each(tally: &Tally) -> bool {
 /// The names of the counts at which nothing is counted.
 fn not_reached(tally: &Tally) -> Vec<&'static str> {
     let early = [of_steps, of_outlets, of_losses, of_trips, of_reports_unsure];
-    let late = [of_own_checks, of_workshop];
+    let late = [of_own_checks, of_workshop, of_partners];
     let reached = early.into_iter().chain(late).flat_map(|part| part(tally));
     reached.filter(|(_, there)| !there).map(|(name, _)| name).collect()
 }
 
 #[test]
 fn the_two_made_files_reach_everything() {
-    let made = counted(MADE);
+    let made = counted(MADE, MADE_MOST);
     assert!(several_of_each(&made));
     let mut tally = made;
-    tally.add(&counted(PLANNED));
+    tally.add(&counted(PLANNED, PLANNED_MOST));
     assert_eq!(not_reached(&tally), [""; 0]);
 }
 
@@ -231,7 +256,7 @@ fn reached_too_seldom(words: &WordCounts) -> Vec<String> {
 
 #[test]
 fn the_made_file_of_words_reaches_each_several_times() {
-    let tally = counted(WORDED);
+    let tally = counted(WORDED, WORDED_MOST);
     assert_eq!(reached_too_seldom(&tally.words), [""; 0]);
     assert_eq!(tally.words.stood.len(), 8);
     assert!(tally.loads_refused.keys().eq(&[1, 2, 3, 4, 5, 6, 7]));
@@ -240,7 +265,7 @@ fn the_made_file_of_words_reaches_each_several_times() {
 /// Without as many in front as are too many, the records behind are read.
 #[test]
 fn the_long_case_of_words_tells_how_many_records_are_read() {
-    let mut cases = (0..WORDED.cases).map(|index| WORDED.case(index));
+    let mut cases = chosen_of_row(WORDED, WORDED_MOST).into_iter().map(|(case, ..)| case);
     let long = cases.find(|case| has_more_records_than_are_read(Form::Word, case));
     let Case { group, steps } = long.expect("one case is long");
     let all_read = &steps[steps.len() - 6 * RECORDS_READ..];

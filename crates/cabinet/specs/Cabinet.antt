@@ -3,7 +3,7 @@ use Prim.Native.Nat.{ℕ, _+_}
 use mathlib.Core.Bool.{Bool, true, false, cond}
 use lib.ListN.{set}
 use lib.Dec.{eqb, ltb}
-use Rattle.marks.specs.Marks.{Marks, covers, noMarks}
+use Rattle.marks.specs.Marks.{Marks, covers, either, without, noMarks}
 use Rattle.outlet.specs.declared.Outlet.{Outlet}
 use Rattle.packet.specs.declared.Payload.{Payload}
 use Rattle.packet.specs.declared.Place.{Place}
@@ -27,22 +27,22 @@ use Rattle.state.specs.State.{works, doubted}
 -- ---- a cabinet's parts, each replaced by one function
 
 abbrev pub withPhase : Cabinet → Phase → Cabinet
-withPhase c p = record { phase = p; table = c .table; noted = c .noted; registers = c .registers; image = c .image; home = c .home; store = c .store; owed = c .owed }
+withPhase c p = record { phase = p; table = c .table; noted = c .noted; registers = c .registers; image = c .image; owed = c .owed }
 
 abbrev pub withTable : Cabinet → Table → Cabinet
-withTable c t = record { phase = c .phase; table = t; noted = c .noted; registers = c .registers; image = c .image; home = c .home; store = c .store; owed = c .owed }
+withTable c t = record { phase = c .phase; table = t; noted = c .noted; registers = c .registers; image = c .image; owed = c .owed }
 
 abbrev pub withNoted : Cabinet → Noted → Cabinet
-withNoted c n = record { phase = c .phase; table = c .table; noted = n; registers = c .registers; image = c .image; home = c .home; store = c .store; owed = c .owed }
+withNoted c n = record { phase = c .phase; table = c .table; noted = n; registers = c .registers; image = c .image; owed = c .owed }
 
 abbrev pub withRegisters : Cabinet → Registers → Cabinet
-withRegisters c r = record { phase = c .phase; table = c .table; noted = c .noted; registers = r; image = c .image; home = c .home; store = c .store; owed = c .owed }
+withRegisters c r = record { phase = c .phase; table = c .table; noted = c .noted; registers = r; image = c .image; owed = c .owed }
 
 abbrev pub withImage : Cabinet → Image → Cabinet
-withImage c m = record { phase = c .phase; table = c .table; noted = c .noted; registers = c .registers; image = m; home = c .home; store = c .store; owed = c .owed }
+withImage c m = record { phase = c .phase; table = c .table; noted = c .noted; registers = c .registers; image = m; owed = c .owed }
 
 abbrev pub withOwed : Cabinet → Marks → Cabinet
-withOwed c o = record { phase = c .phase; table = c .table; noted = c .noted; registers = c .registers; image = c .image; home = c .home; store = c .store; owed = o }
+withOwed c o = record { phase = c .phase; table = c .table; noted = c .noted; registers = c .registers; image = c .image; owed = o }
 
 -- .. and the parts of those
 abbrev pub withState : Cabinet → State → Cabinet
@@ -85,8 +85,6 @@ absent = record {
   noted = nothingNoted;
   registers = startRegisters;
   image = blankImage;
-  home = 0;
-  store = false;
   owed = noMarks;
 }
 
@@ -137,6 +135,16 @@ wrote c i =
 abbrev pub owing : Cabinet → ℕ → Bool → Cabinet
 owing c j o = withOwed c (set (c .owed) j o)
 
+-- .. and the reports of a home that it takes over from; it owes none of these any more; it owes nothing
+abbrev pub owingAlso : Cabinet → Marks → Cabinet
+owingAlso c m = withOwed c (either (c .owed) m)
+
+abbrev pub owingBut : Cabinet → Marks → Cabinet
+owingBut c m = withOwed c (without (c .owed) m)
+
+abbrev pub owingNone : Cabinet → Cabinet
+owingNone c = withOwed c noMarks
+
 -- the coordinator has the saved report on j
 abbrev pub savedFor : Cabinet → ℕ → Cabinet
 savedFor c j = withSaved c (set (c .noted .saved) j true)
@@ -155,8 +163,8 @@ faultNoted f = record { come = noMarks; pieces = 0; saved = noMarks; restored = 
 -- where the place is the coordinator, which is noted
 abbrev pub alarmed : Cabinet → ℕ → Place → Cabinet
 alarmed c i p =
-    withOwed
-    (withNoted (withTable (withAlarm (withState c Error) (Fault p)) (faultedAt i p (c .table))) (faultNoted (isAt p (coordinator c)))) noMarks
+    owingNone
+    (withNoted (withTable (withAlarm (withState c Error) (Fault p)) (faultedAt i p (c .table))) (faultNoted (isAt p (coordinator c))))
 
 -- a trip "turns cabinet a's image to zeros and its version to unknown", with no old one
 abbrev pub blanked : Cabinet → Cabinet

@@ -13,7 +13,7 @@ ghost use mathlib.Core.Bool.{cond};
 ghost use Rattle.marks.specs.Marks.{covers};
 ghost use Rattle.cabinet.specs.Alarm.{isFor};
 ghost use Rattle.state.specs.State.{doubted};
-ghost use Rattle.cabinet.specs.Cabinet.{withPhase, withTable, withNoted, withRegisters, withImage, withOwed, withState, withVersion, withPieces, nothingNoted, absent, inUse, coordinator, sending, taking, hurtFrom, beginning, comparing, cutting, wrote, owing, savedFor, resuming, faultNoted, alarmed, blanked, hearing, recovering, fetched, restoredFor, unsureFor, crashing};
+ghost use Rattle.cabinet.specs.Cabinet.{withPhase, withTable, withNoted, withRegisters, withImage, withOwed, withState, withVersion, withPieces, nothingNoted, absent, inUse, coordinator, sending, taking, hurtFrom, beginning, comparing, cutting, wrote, owing, owingAlso, owingBut, owingNone, savedFor, resuming, faultNoted, alarmed, blanked, hearing, recovering, fetched, restoredFor, unsureFor, crashing};
 
 // The fault that a cabinet entered error for.
 pub enum Alarm {
@@ -44,8 +44,6 @@ pub struct Cabinet {
     pub noted: Noted,
     pub registers: Registers,
     pub image: Image,
-    pub home: u8,
-    pub store: bool,
     pub owed: [bool; 8],
 }
 
@@ -113,8 +111,6 @@ impl Cabinet {
             noted: nothing_noted(),
             registers: registers::start_registers(),
             image: Image::blank(),
-            home: 0,
-            store: false,
             owed: [false; 8],
         }
     }
@@ -330,6 +326,28 @@ impl Cabinet {
         self.with_owed(marks::set_mark(owed, j, owes))
     }
 
+    // .. and the reports of a home that it takes over from.
+    pub fn owing_also(self, more: [bool; 8]) -> Cabinet
+        ensures { λ r. ⌜ r ≡ owingAlso self more ⌝ }
+    {
+        let owed = self.owed;
+        self.with_owed(marks::either(owed, more))
+    }
+
+    // .. and none of these any more.
+    pub fn owing_but(self, dropped: [bool; 8]) -> Cabinet
+        ensures { λ r. ⌜ r ≡ owingBut self dropped ⌝ }
+    {
+        let owed = self.owed;
+        self.with_owed(marks::without(owed, dropped))
+    }
+
+    pub fn owing_none(self) -> Cabinet
+        ensures { λ r. ⌜ r ≡ owingNone self ⌝ }
+    {
+        self.with_owed([false; 8])
+    }
+
     // The coordinator has the saved report on j.
     pub fn saved_for(self, j: u8) -> Cabinet
         ensures { λ r. ⌜ r ≡ savedFor self j ⌝ }
@@ -370,7 +388,7 @@ impl Cabinet {
         let noted = fault_noted(table::is_at(place, table.lead));
         let table = table::faulted_at(i, place, table);
         let c = self.with_phase(phase).with_table(table);
-        let forgetful = c.with_owed([false; 8]);
+        let forgetful = c.owing_none();
         forgetful.with_noted(noted)
     }
 

@@ -193,6 +193,7 @@ fn main() {
     container(Kind::Listing, b"unsure", b"unsure.cases");
     container(Kind::Listing, b"own checks", b"own_checks.cases");
     container(Kind::Listing, b"workshop", b"workshop.cases");
+    container(Kind::Listing, b"partners", b"partners.cases");
     container(Kind::Listing, b"made", b"made.cases");
     container(Kind::Evening, b"points", b"points.cases");
     container(Kind::Evening, b"planned", b"planned.cases");

@@ -13,3 +13,4 @@ pub mod Versions
 pub mod Word
 pub mod Written
 pub mod Instances
+pub mod Stores

@@ -36,6 +36,8 @@ pub mod Hurting
 pub mod Damaging
 pub mod Losing
 -- failing and tripping
+pub mod Rehoming
+pub mod Leaving
 pub mod Undoing
 pub mod Emptying
 pub mod Failing
@@ -47,6 +49,7 @@ pub mod Tripping
 pub mod TripStep
 -- recovering
 pub mod Fetching
+pub mod ComingBack
 pub mod Restoring
 pub mod Remembering
 pub mod EndPairs

@@ -14,6 +14,7 @@ use Rattle.packet.specs.declared.Packet.the-variants.{Normal as NormalPacket, R
 use Rattle.line.specs.Line.{oldest}
 use Rattle.image.specs.Image.{blankImage}
 use Rattle.state.specs.declared.State.the-variants.{Recovering}
+use Rattle.store.specs.Store.{isPresent}
 use Rattle.group.specs.Group.{stateOf, line}
 use Rattle.load.specs.Load.{cabinetCount, feederTotal}
 use Rattle.protocol.specs.declared.Step.the-variants.{Deliver, Lose}
@@ -27,6 +28,8 @@ use Rattle.protocol.specs.Losses.{lose}
 use Rattle.protocol.specs.Unsure.{storeBetween, untilWait, endUnderWait}
 use Rattle.protocol.specs.Entry.{step}
 use Rattle.protocol.specs.Examples.{toA, toB, damage, fetches, row, ring, ringCommitted, fourCabinets, fourSaved, thirdLost, threeCommitted}
+use Rattle.protocol.specs.Partners.{crossed, untilReported}
+use Rattle.claims.specs.Stores.{awayAfter}
 use Rattle.claims.specs.Bounds.{packets, Undamaged, HasRoom}
 use Rattle.claims.specs.Fifo.{lineAfter}
 use Rattle.claims.specs.Hurts.{Compares, AsHurt}
@@ -149,3 +152,10 @@ LastFirst =
 abbrev pub StandingReport : Type 0
 StandingReport =
     WaitTaken (advance inDoubt (report 0) .group) 2 × (step (advance inDoubt (report 0) .group) (unsureRecord 0) .answer ≡ 19)
+
+-- ---- stores: 2 trips and is away, and is back in the step in which it reports
+
+abbrev pub BackAgain : Type 0
+BackAgain =
+    (awayAfter crossed (steps untilReported) 1 ≡ true) × (awayAfter crossed (steps (untilReported ++ restored 2 ∷ [])) 1 ≡ false)
+    × (isPresent (worldAfter crossed (steps (untilReported ++ restored 2 ∷ [])) .group .store) 1 ≡ true)

@@ -77,9 +77,9 @@ ResumeOfNewest =
 
 -- ---- which save a slot belongs to: the one whose image of the cabinet it holds; a return counts as a save
 
--- slot v of cabinet c belongs to the newest save
+-- slot v of cabinet c, as its home has it, belongs to the newest save
 abbrev pub OfNewest : Group → History → ℕ → Bool → Type 0
-OfNewest g h c v = (y : Cut) × (latest h .cut c ≡ some y) × (slot g c v ≡ y .image)
+OfNewest g h c v = (y : Cut) × (latest h .cut c ≡ some y) × (slot g (home g c) c v ≡ y .image)
 
 -- every version that is known, of whichever working cabinet, names the newest save in the slots of every working cabinet
 abbrev pub VersionsNameNewest : Type 0

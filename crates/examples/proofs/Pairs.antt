@@ -9,19 +9,20 @@ use lib.Dec.{eqb}
 use borrow.Author.Tests.{eqb-true}
 use native.Mathlib.Omega.{arith}
 use Rattle.crc.specs.Crc.{crcBit, crcBits, crcOctet, crcFrom}
-use Rattle.marks.specs.Marks.{lowest, covers, both, nextUp}
+use Rattle.marks.specs.Marks.{lowest, covers, both, nextUp, either, without}
 use Rattle.marks.specs.Reach.{struck, connected}
 use Rattle.packet.specs.Packet.{ownCheck, fits, shifted, patternRight, hurtBy}
 use Rattle.outgoing.specs.Lines.{emptyLines, lineTo, withLineTo, laden, putAll, putCheckps}
 use Rattle.points.specs.Points.{noPoints, pointAt, withPoint, imageAt, sameName, placeOf, placeFor}
-use Rattle.group.specs.Group.{cabinet, withCabinet, outgoing, withOutgoing, line, withLine, blankSlots, slot, withSlots, withSlot, rowsOf, ofRows, withSound, some, working, normalOnes, ladenOnes, quiet, recoveringOnes, tripsOf, withTripsOf, forgetTrips, isCrashed, sum, settle, settleOver}
+use Rattle.store.specs.Store.{homeIn, isLast, isAway, homedAt, copyAt, withCopyAt, slotAt, pieceAt, putPiece, leaves, comesBack, setSlots, blankSlots}
+use Rattle.group.specs.Group.{cabinet, withCabinet, outgoing, withOutgoing, line, withLine, rowsOf, ofRows, withSound, some, working, normalOnes, ladenOnes, quiet, recoveringOnes, tripsOf, withTripsOf, forgetTrips, isCrashed, sum, settle, settleOver}
 use Rattle.load.specs.Load.{versionOf, load}
-use Rattle.protocol.specs.Moves.{broadcast, join, cutIfAll, takeCheckp, resumeWith, commit, adopt, recoverWith, raise, enterError, hear, findLinkFault, trip, alarmTo, endRecovery, noteLost}
+use Rattle.protocol.specs.Moves.{broadcast, join, cutIfAll, takeCheckp, resumeWith, commit, adopt, recoverWith, raise, enterError, hear, findLinkFault, markFailed, trip, alarmTo, endRecovery, noteLost, passReports, leave, dropReports, comeBack}
 use Rattle.protocol.specs.Receive.{receiveNormal, receiveCheckp, receiveResume, receiveRecover, receiveFault}
-use Rattle.protocol.specs.Kinds.{sent, sendStep, beginStep, delivered, deliverStep, writePiece, writeStep, reportSaved, commitIfAll, savedStep, fetchPiece, fetchStep, reportRestored, endIfAll, restoredStep, hurt, damageStep, lost, loseStep, tripOnce, tripStep}
+use Rattle.protocol.specs.Kinds.{sent, sendStep, noteStep, beginStep, delivered, deliverStep, writePiece, writeStep, reportSaved, commitIfAll, savedStep, fetchPiece, fetchStep, reportRestored, endIfAll, restoredStep, failStep, hurt, damageStep, lost, loseStep, tripOnce, tripStep, comeBackIfAway}
 use Rattle.protocol.specs.Entry.{step}
 use Rattle.protocol.specs.Points.{imagesKept, takePoint, returned, returnTo}
-use Rattle.protocol.specs.Evening.{operate}
+use Rattle.protocol.specs.Evening.{operate, operateAll, answersTo}
 use Rattle.protocol.specs.declared.Site.{Site}
 use Rattle.protocol.specs.declared.Turn.{Turn}
 use Rattle.protocol.specs.History.{Operation, stepping, pointing, returning}
@@ -30,7 +31,7 @@ use Rattle.claims.proofs.State.Fun.{and-true}
 use Rattle.claims.proofs.Invariant.Points.{same-name}
 use Rattle.pairs.specs.TwoRuns.{workshopSend, SameBut, none, same, amounts, sendsForWorkshop, SendsTaken, loaded}
 use Rattle.pairs.proofs.TwoRuns.{two-runs}
-use Rattle.examples.specs.Pairs.{firstOf, secondOf, Meets, AgreeIn, TwinsAgree}
+use Rattle.examples.specs.Pairs.{firstOf, secondOf, Meets, AgreeIn, TwinsAgree, twinsAway, AwayAgree}
 use Rattle.claims.proofs.Claims.Written.{allOctets, allIn, octets-of, operations-of}
 
 -- ---- the same but for amounts
@@ -76,9 +77,9 @@ sameBut [] (y ∷ ys) = false
 sameBut (x ∷ xs) [] = false
 sameBut (x ∷ xs) (y ∷ ys) = matches x y && sameBut xs ys
 
-either : (t : Bool) {u : Bool} → (t || u) ≡ true → (t ≡ true) ⊎ (u ≡ true)
-either true e = inl refl
-either false e = inr e
+one-of : (t : Bool) {u : Bool} → (t || u) ≡ true → (t ≡ true) ⊎ (u ≡ true)
+one-of true e = inl refl
+one-of false e = inr e
 
 is-same-but : (xs ys : List Operation) → sameBut xs ys ≡ true → SameBut xs ys
 is-same-but [] [] e = none
@@ -87,7 +88,7 @@ is-same-but (x ∷ xs) [] e = absurd (false≢true e)
 is-same-but (x ∷ xs) (y ∷ ys) e = let b = and-true {s = matches x y} e in one x y (b .0) (is-same-but xs ys (b .1))
   where
     one : (x y : Operation) → matches x y ≡ true → SameBut xs ys → SameBut (x ∷ xs) (y ∷ ys)
-    one (stepping r) (stepping s) m later = ⊎-elim (λ q. subst (λ (z : List ℕ). SameBut (stepping r ∷ xs) (stepping z ∷ ys)) (same-name r s .0 q) (same (stepping r) later)) other (either (sameName r s) m)
+    one (stepping r) (stepping s) m later = ⊎-elim (λ q. subst (λ (z : List ℕ). SameBut (stepping r ∷ xs) (stepping z ∷ ys)) (same-name r s .0 q) (same (stepping r) later)) other (one-of (sameName r s) m)
       where
         other : overOneLine r s ≡ true → SameBut (stepping r ∷ xs) (stepping s ∷ ys)
         other q =
@@ -141,12 +142,20 @@ agree-in : (t : Twins) → Meets t → AgreeIn t
 agree-in t m = two-runs (t .file) (m .octets) (m .loads) (firstOf t) (secondOf t) (m .first) (m .second) (m .same) (m .taken) (m .takenToo)
 
 one-meets : Meets twinsOne
-unfolding takenFrom crcBit crcBits crcOctet crcFrom ownCheck fits shifted patternRight hurtBy lowest covers both nextUp struck connected emptyLines lineTo withLineTo laden putAll putCheckps noPoints pointAt withPoint imageAt sameName placeOf placeFor cabinet withCabinet outgoing withOutgoing line withLine blankSlots slot withSlots withSlot rowsOf ofRows withSound some working normalOnes ladenOnes quiet recoveringOnes tripsOf withTripsOf forgetTrips isCrashed sum versionOf load broadcast join cutIfAll takeCheckp resumeWith commit adopt recoverWith raise enterError hear findLinkFault trip alarmTo endRecovery noteLost receiveNormal receiveCheckp receiveResume receiveRecover receiveFault sent sendStep beginStep delivered deliverStep writePiece writeStep reportSaved commitIfAll savedStep fetchPiece fetchStep reportRestored endIfAll restoredStep hurt damageStep lost loseStep tripOnce tripStep step imagesKept takePoint returned returnTo operate settle settleOver
+unfolding takenFrom crcBit crcBits crcOctet crcFrom ownCheck fits shifted patternRight hurtBy lowest covers both nextUp struck connected emptyLines lineTo withLineTo laden putAll putCheckps noPoints pointAt withPoint imageAt sameName placeOf placeFor cabinet withCabinet outgoing withOutgoing line withLine blankSlots rowsOf ofRows withSound some working normalOnes ladenOnes quiet recoveringOnes tripsOf withTripsOf forgetTrips isCrashed sum versionOf load broadcast join cutIfAll takeCheckp resumeWith commit adopt recoverWith raise enterError hear findLinkFault trip alarmTo endRecovery noteLost receiveNormal receiveCheckp receiveResume receiveRecover receiveFault sent sendStep beginStep delivered deliverStep writePiece writeStep reportSaved commitIfAll savedStep fetchPiece fetchStep reportRestored endIfAll restoredStep hurt damageStep lost loseStep tripOnce tripStep step imagesKept takePoint returned returnTo operate settle settleOver homeIn copyAt slotAt withCopyAt pieceAt putPiece isLast leaves either passReports leave isAway homedAt comesBack without dropReports comeBack comeBackIfAway setSlots
 one-meets = meets twinsOne refl refl refl refl refl refl refl
 
 two-meets : Meets twinsTwo
-unfolding takenFrom crcBit crcBits crcOctet crcFrom ownCheck fits shifted patternRight hurtBy lowest covers both nextUp struck connected emptyLines lineTo withLineTo laden putAll putCheckps noPoints pointAt withPoint imageAt sameName placeOf placeFor cabinet withCabinet outgoing withOutgoing line withLine blankSlots slot withSlots withSlot rowsOf ofRows withSound some working normalOnes ladenOnes quiet recoveringOnes tripsOf withTripsOf forgetTrips isCrashed sum versionOf load broadcast join cutIfAll takeCheckp resumeWith commit adopt recoverWith raise enterError hear findLinkFault trip alarmTo endRecovery noteLost receiveNormal receiveCheckp receiveResume receiveRecover receiveFault sent sendStep beginStep delivered deliverStep writePiece writeStep reportSaved commitIfAll savedStep fetchPiece fetchStep reportRestored endIfAll restoredStep hurt damageStep lost loseStep tripOnce tripStep step imagesKept takePoint returned returnTo operate settle settleOver
+unfolding takenFrom crcBit crcBits crcOctet crcFrom ownCheck fits shifted patternRight hurtBy lowest covers both nextUp struck connected emptyLines lineTo withLineTo laden putAll putCheckps noPoints pointAt withPoint imageAt sameName placeOf placeFor cabinet withCabinet outgoing withOutgoing line withLine blankSlots rowsOf ofRows withSound some working normalOnes ladenOnes quiet recoveringOnes tripsOf withTripsOf forgetTrips isCrashed sum versionOf load broadcast join cutIfAll takeCheckp resumeWith commit adopt recoverWith raise enterError hear findLinkFault trip alarmTo endRecovery noteLost receiveNormal receiveCheckp receiveResume receiveRecover receiveFault sent sendStep beginStep delivered deliverStep writePiece writeStep reportSaved commitIfAll savedStep fetchPiece fetchStep reportRestored endIfAll restoredStep hurt damageStep lost loseStep tripOnce tripStep step imagesKept takePoint returned returnTo operate settle settleOver homeIn copyAt slotAt withCopyAt pieceAt putPiece isLast leaves either passReports leave isAway homedAt comesBack without dropReports comeBack comeBackIfAway setSlots
 two-meets = meets twinsTwo refl refl refl refl refl refl refl
 
 pub twins-agree : TwinsAgree
 twins-agree = (one-meets, two-meets, agree-in twinsOne one-meets, agree-in twinsTwo two-meets)
+
+away-meets : Meets twinsAway
+unfolding takenFrom crcBit crcBits crcOctet crcFrom ownCheck fits shifted patternRight hurtBy lowest covers both nextUp struck connected emptyLines lineTo withLineTo laden putAll putCheckps noPoints pointAt withPoint imageAt sameName placeOf placeFor cabinet withCabinet outgoing withOutgoing line withLine blankSlots rowsOf ofRows withSound some working normalOnes ladenOnes quiet recoveringOnes tripsOf withTripsOf forgetTrips isCrashed sum versionOf load broadcast join cutIfAll takeCheckp resumeWith commit adopt recoverWith raise enterError hear findLinkFault trip alarmTo endRecovery noteLost receiveNormal receiveCheckp receiveResume receiveRecover receiveFault sent sendStep beginStep delivered deliverStep writePiece writeStep reportSaved commitIfAll savedStep fetchPiece fetchStep reportRestored endIfAll restoredStep hurt damageStep lost loseStep tripOnce tripStep step imagesKept takePoint returned returnTo operate settle settleOver homeIn copyAt slotAt withCopyAt pieceAt putPiece isLast leaves either passReports leave isAway homedAt comesBack without dropReports comeBack comeBackIfAway setSlots noteStep failStep markFailed
+away-meets = meets twinsAway refl refl refl refl refl refl refl
+
+pub away-agree : AwayAgree
+unfolding crcBit crcBits crcOctet crcFrom ownCheck fits shifted patternRight hurtBy lowest covers both nextUp struck connected emptyLines lineTo withLineTo laden putAll putCheckps noPoints pointAt withPoint imageAt sameName placeOf placeFor cabinet withCabinet outgoing withOutgoing line withLine blankSlots rowsOf ofRows withSound some working normalOnes ladenOnes quiet recoveringOnes tripsOf withTripsOf forgetTrips isCrashed sum versionOf load broadcast join cutIfAll takeCheckp resumeWith commit adopt recoverWith raise enterError hear findLinkFault trip alarmTo endRecovery noteLost receiveNormal receiveCheckp receiveResume receiveRecover receiveFault sent sendStep beginStep delivered deliverStep writePiece writeStep reportSaved commitIfAll savedStep fetchPiece fetchStep reportRestored endIfAll restoredStep hurt damageStep lost loseStep tripOnce tripStep step imagesKept takePoint returned returnTo operate settle settleOver homeIn copyAt slotAt withCopyAt pieceAt putPiece isLast leaves either passReports leave isAway homedAt comesBack without dropReports comeBack comeBackIfAway setSlots noteStep failStep markFailed operateAll answersTo
+away-agree = (away-meets, agree-in twinsAway away-meets, refl, refl, refl)

@@ -1,4 +1,4 @@
--- Demand 3 for each of the runs of `specs/Examples`, `specs/Returns`, `specs/Outlets`, `specs/Losses`, `specs/Trips`, `specs/Unsure`, `specs/OwnChecks` and `specs/Workshop`: its premises are met in runs that restore a save.
+-- Demand 3 for each of the runs of `specs/Examples`, `specs/Returns`, `specs/Outlets`, `specs/Losses`, `specs/Trips`, `specs/Unsure`, `specs/OwnChecks`, `specs/Workshop` and `specs/Partners`: its premises are met in runs that restore a save.
 use mathlib.Core.Path.{_≡_, refl, ap, sym, subst, _∙_}
 use mathlib.Core.Bool.{true}
 use mathlib.Core.List.{List, [], _∷_}
@@ -28,6 +28,8 @@ use Rattle.protocol.specs.Unsure.{decided-after-fail, decided-after-fail-finds,
 use Rattle.runs.proofs.Closed.Unsure.{decisions-found}
 use Rattle.protocol.specs.OwnChecks.{hurt-on-taking, hurt-on-taking-finds, check-hurt, check-hurt-finds, hurt-until-checkp, hurt-until-checkp-finds, fitting-loss, fitting-loss-finds}
 use Rattle.runs.proofs.Closed.OwnChecks.{own-checks-found}
+use Rattle.protocol.specs.Partners.{home-fails, home-fails-finds, home-fails-undone, home-fails-undone-finds, partner-fails-next, partner-fails-next-finds, store-passed-over, store-passed-over-finds, lead-goes-round, lead-goes-round-finds, return-at-both, return-at-both-finds, partner-in-error, partner-in-error-finds, third-trip-of-a-store, third-trip-of-a-store-finds}
+use Rattle.runs.proofs.Closed.Partners.{partners-found}
 
 -- ---- demand 3 for each
 
@@ -145,3 +147,29 @@ hurt-until-checkp-restored = demanded hurt-until-checkp hurt-until-checkp-finds 
 
 pub fitting-loss-restored : Demanded fitting-loss
 fitting-loss-restored = demanded fitting-loss fitting-loss-finds (own-checks-found .3) refl refl refl refl refl
+
+-- recoveries in which a store or its partner was lost
+
+pub home-fails-restored : Demanded home-fails
+home-fails-restored = demanded home-fails home-fails-finds (partners-found .0) refl refl refl refl refl
+
+pub home-fails-undone-restored : Demanded home-fails-undone
+home-fails-undone-restored = demanded home-fails-undone home-fails-undone-finds (partners-found .1) refl refl refl refl refl
+
+pub partner-fails-next-restored : Demanded partner-fails-next
+partner-fails-next-restored = demanded partner-fails-next partner-fails-next-finds (partners-found .2) refl refl refl refl refl
+
+pub store-passed-over-restored : Demanded store-passed-over
+store-passed-over-restored = demanded store-passed-over store-passed-over-finds (partners-found .3) refl refl refl refl refl
+
+pub lead-goes-round-restored : Demanded lead-goes-round
+lead-goes-round-restored = demanded lead-goes-round lead-goes-round-finds (partners-found .4) refl refl refl refl refl
+
+pub return-at-both-restored : Demanded return-at-both
+return-at-both-restored = demanded return-at-both return-at-both-finds (partners-found .5) refl refl refl refl refl
+
+pub partner-in-error-restored : Demanded partner-in-error
+partner-in-error-restored = demanded partner-in-error partner-in-error-finds (partners-found .6) refl refl refl refl refl
+
+pub third-trip-of-a-store-restored : Demanded third-trip-of-a-store
+third-trip-of-a-store-restored = demanded third-trip-of-a-store third-trip-of-a-store-finds (partners-found .7) refl refl refl refl refl

@@ -9,8 +9,9 @@ ghost use mathlib.Core.Path.{_≡_};
 ghost use mathlib.Core.Bool.{false, not, _||_};
 ghost use lib.ListN.{set};
 ghost use Rattle.marks.specs.Reach.{connected};
-ghost use Rattle.group.specs.Group.{cabinet, rowsOf, some, working, recoveringOnes};
-ghost use Rattle.protocol.specs.Moves.{enterErrorIf, emptiedTo, markFailed, trip, neighbours, alarmTo};
+ghost use Rattle.store.specs.Store.{isLast};
+ghost use Rattle.group.specs.Group.{rowsOf, some, working, recoveringOnes};
+ghost use Rattle.protocol.specs.Moves.{enterErrorIf, emptiedTo, passReports, leave, markFailed, trip, neighbours, alarmTo};
 ghost use Rattle.protocol.specs.Kinds.{failCrashes, failStep, tripCrashes, tripOnce, tripStep};
 
 // The lines to cabinet a are emptied.
@@ -24,6 +25,24 @@ fn emptied(g: Group, a: u8) -> Group
         i += 1;
     }
     h
+}
+
+// What cabinet a owes, its partner p owes from now on.
+fn pass_reports(g: Group, a: u8, p: u8) -> Group
+    ensures { λ r. ⌜ r ≡ passReports g a p ⌝ }
+{
+    let c = g.cabinet(a);
+    let owed = c.owed;
+    let h = g.with_cabinet(p, g.cabinet(p).owing_also(owed));
+    h.with_cabinet(a, c.owing_none())
+}
+
+// If cabinet a is a store, it is present no more and its partner owes its reports.
+fn leave(g: Group, a: u8) -> Group
+    ensures { λ r. ⌜ r ≡ leave g a ⌝ }
+{
+    let store = g.store;
+    pass_reports(g.with_store(store.leaves(a)), a, store.partner(a))
 }
 
 fn mark_failed(g: Group, a: u8) -> Group
@@ -82,13 +101,13 @@ fn parts(g: Group, a: u8) -> bool
     !marks::connected(g.sound_rows(), others)
 }
 
-// Cabinet a is a store, some working cabinet recovers, or the group is cut.
+// Without cabinet a no store of its pair is left, some working cabinet recovers, or the group is cut.
 fn crashes(g: Group, a: u8, cut: bool) -> bool
-    ensures { λ r. ⌜ r ≡ cabinet g a .store || (some (recoveringOnes g) || cut) ⌝ }
+    ensures { λ r. ⌜ r ≡ isLast (g .store) a || (some (recoveringOnes g) || cut) ⌝ }
 {
-    let c = g.cabinet(a);
+    let store = g.store;
     marks::or(
-        c.store,
+        store.is_last(a),
         marks::or(survey::some(survey::recovering_ones(g)), cut),
     )
 }
@@ -107,7 +126,8 @@ pub fn fail_step(g: Group, a: u8) -> Outcome
     if fail_crashes(g, a) {
         survey::crashed(g)
     } else {
-        group::taken(alarm_neighbours(mark_failed(g, a), a, Place::Failed(a)))
+        let h = mark_failed(leave(g, a), a);
+        group::taken(alarm_neighbours(h, a, Place::Failed(a)))
     }
 }
 
@@ -128,7 +148,7 @@ fn trip_once(g: Group, a: u8, count: u8) -> Outcome
     if trip_crashes(g, a) {
         survey::crashed(g)
     } else {
-        let h = trip(g.with_trips_of(a, count), a);
+        let h = trip(leave(g.with_trips_of(a, count), a), a);
         group::taken(alarm_neighbours(h, a, Place::Tripped(a)))
     }
 }

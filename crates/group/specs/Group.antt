@@ -1,7 +1,7 @@
 -- The whole group: one accessor and one store function for each component, and what is asked of all cabinets at once.
 -- Those marked `unfoldable` stay shut unless unfolded, so that a caller's goal names them and does not spell them out.
 use Prim.Native.Nat.{ℕ, zero, suc, _+_}
-use mathlib.Core.Bool.{Bool, cond, not, _&&_}
+use mathlib.Core.Bool.{Bool, not, _&&_}
 use mathlib.Core.List.{List, [], _∷_}
 use lib.ListN.{getD, set, replicate}
 use lib.Dec.{ltb}
@@ -11,17 +11,17 @@ use Rattle.line.specs.declared.Line.{Line}
 use Rattle.state.specs.declared.State.{State}
 use Rattle.state.specs.declared.State.the-variants.{Normal, Crashed}
 use Rattle.image.specs.declared.Image.{Image}
+use Rattle.store.specs.Store.{homeIn, slotAt}
 use Rattle.cabinet.specs.declared.Cabinet.{Cabinet}
 use Rattle.group.specs.declared.Row.{Row}
 use Rattle.outgoing.specs.declared.Outgoing.{Outgoing}
-use Rattle.group.specs.declared.Slots.{Slots}
+use Rattle.store.specs.declared.Store.{Store}
 use Rattle.group.specs.declared.Group.{Group}
 use Rattle.group.specs.declared.Outcome.{Outcome}
 use Rattle.settled.specs.declared.Reason.{Reason}
 use Rattle.settled.specs.declared.Settled.{Settled}
 use Rattle.settled.specs.Settled.{enters, ends}
 use Rattle.state.specs.State.{works, isIn, inRecovery}
-use Rattle.image.specs.Image.{blankImage}
 use Rattle.cabinet.specs.Cabinet.{absent, crashing}
 use Rattle.outgoing.specs.Lines.{emptyLines, lineTo, withLineTo, laden}
 
@@ -36,8 +36,8 @@ withSoundRows g rs = record { n = g .n; cabinets = g .cabinets; links = g .links
 abbrev pub withLines : Group → List Outgoing → Group
 withLines g os = record { n = g .n; cabinets = g .cabinets; links = g .links; sound = g .sound; outgoing = os; store = g .store; trips = g .trips; packets = g .packets; settled = g .settled }
 
-abbrev pub withStore : Group → List Slots → Group
-withStore g ss = record { n = g .n; cabinets = g .cabinets; links = g .links; sound = g .sound; outgoing = g .outgoing; store = ss; trips = g .trips; packets = g .packets; settled = g .settled }
+abbrev pub withStore : Group → Store → Group
+withStore g s = record { n = g .n; cabinets = g .cabinets; links = g .links; sound = g .sound; outgoing = g .outgoing; store = s; trips = g .trips; packets = g .packets; settled = g .settled }
 
 abbrev pub withTrips : Group → List ℕ → Group
 withTrips g ts = record { n = g .n; cabinets = g .cabinets; links = g .links; sound = g .sound; outgoing = g .outgoing; store = g .store; trips = ts; packets = g .packets; settled = g .settled }
@@ -56,10 +56,6 @@ withCabinet g i c = withCabinets g (set (g .cabinets) i c)
 abbrev pub stateOf : Group → ℕ → State
 stateOf g i = cabinet g i .phase .state
 
--- "each cabinet has one store cabinet as its home"
-abbrev pub home : Group → ℕ → ℕ
-home g i = cabinet g i .home
-
 -- ---- lines
 
 unfoldable pub outgoing : Group → ℕ → Outgoing
@@ -75,27 +71,13 @@ line g a b = lineTo (outgoing g a) b
 unfoldable pub withLine : Group → ℕ → ℕ → Line → Group
 withLine g a b l = withOutgoing g a (withLineTo (outgoing g a) b l)
 
--- ---- the store: slot 0 and slot 1 of each cabinet
+-- ---- the store: the home that serves a cabinet, and its slot 0 or 1 as store h has it
 
-unfoldable pub blankSlots : Slots
-blankSlots = record { zero = blankImage; one = blankImage }
+abbrev pub home : Group → ℕ → ℕ
+home g c = homeIn (g .store) c
 
-unfoldable pub slot : Group → ℕ → Bool → Image
-slot g i v = cond v (getD (g .store) i blankSlots .one) (getD (g .store) i blankSlots .zero)
-
-unfoldable pub withSlots : Group → ℕ → Slots → Group
-withSlots g i s = withStore g (set (g .store) i s)
-
-abbrev pub withZero : Slots → Image → Slots
-withZero s m = record { zero = m; one = s .one }
-
-abbrev pub withOne : Slots → Image → Slots
-withOne s m = record { zero = s .zero; one = m }
-
-unfoldable pub withSlot : Group → ℕ → Bool → Image → Group
-withSlot g i v m =
-    withSlots g i
-    (cond v (withOne (getD (g .store) i blankSlots) m) (withZero (getD (g .store) i blankSlots) m))
+abbrev pub slot : Group → ℕ → ℕ → Bool → Image
+slot g h c v = slotAt (g .store) h c v
 
 -- ---- how often each cabinet has tripped since the last commit
 

@@ -8,22 +8,17 @@ use packet::PacketVersion;
 use settled::Reason;
 use settled::Settled;
 use state::State;
+use store::Store;
 ghost use mathlib.Core.Path.{_≡_};
 ghost use mathlib.Core.Bool.{cond};
 ghost use Prim.Native.Nat.{_<_};
 ghost use lib.ListN.{getD};
 ghost use Rattle.outgoing.specs.Lines.{emptyLines};
-ghost use Rattle.group.specs.Group.{cabinet, withCabinet, stateOf, outgoing, withOutgoing, line, withLine, blankSlots, slot, withSlots, withSlot, noRow, rowsOf, rowAt, ofRows, withSound, tripsOf, withTripsOf, forgetTrips, withSettled, settle, settleOver, answering, taken};
+ghost use Rattle.group.specs.Group.{cabinet, withCabinet, stateOf, outgoing, withOutgoing, line, withLine, withStore, home, slot, noRow, rowsOf, rowAt, ofRows, withSound, tripsOf, withTripsOf, forgetTrips, withSettled, settle, settleOver, answering, taken};
 
 // One row of eight marks for a cabinet: its links.
 pub struct Row {
     pub marks: [bool; 8],
-}
-
-// A cabinet's two slots in the store.
-pub struct Slots {
-    pub zero: Image,
-    pub one: Image,
 }
 
 // links: the file's; sound: those of them not found faulty; trips: how often each cabinet tripped since the last commit;
@@ -34,7 +29,7 @@ pub struct Group {
     pub links: [Row; 8],
     pub sound: [Row; 8],
     pub outgoing: [Outgoing; 8],
-    pub store: [Slots; 8],
+    pub store: Store,
     pub trips: [u8; 8],
     pub packets: PacketVersion,
     pub settled: Settled,
@@ -106,37 +101,6 @@ pub fn taken(g: Group) -> Outcome
     ensures { λ r. ⌜ r ≡ taken g ⌝ }
 {
     answering(0, g)
-}
-
-// The two slots of a cabinet, read and replaced one at a time.
-impl Slots {
-    pub fn blank() -> Slots
-        ensures { λ r. ⌜ r ≡ blankSlots ⌝ }
-    {
-        let image = Image::blank();
-        Slots {
-            zero: image,
-            one: image,
-        }
-    }
-
-    fn image(self, v: bool) -> Image
-        ensures { λ r. ⌜ r ≡ cond v (self .one) (self .zero) ⌝ }
-    {
-        if v { self.one } else { self.zero }
-    }
-
-    fn with_image(self, v: bool, m: Image) -> Slots
-        ensures { λ r. ⌜ r ≡ cond v (record { zero = self .zero; one = m }) (record { zero = m; one = self .one }) ⌝ }
-    {
-        let mut s = self;
-        if v {
-            s.one = m;
-        } else {
-            s.zero = m;
-        }
-        s
-    }
 }
 
 impl Group {
@@ -229,35 +193,28 @@ impl Group {
         g
     }
 
-    fn with_slots(self, i: u8, s: Slots) -> Group
-        ensures { λ r. ⌜ r ≡ withSlots self i s ⌝ }
+    pub fn with_store(self, s: Store) -> Group
+        ensures { λ r. ⌜ r ≡ withStore self s ⌝ }
     {
-        let k = i as usize;
         let mut g = self;
-        if k < 8 {
-            g.store[k] = s;
-        }
+        g.store = s;
         g
     }
 
-    fn slots(self, i: u8) -> Slots
-        ensures { λ r. ⌜ r ≡ getD (self .store) i blankSlots ⌝ }
+    // The store that serves cabinet c.
+    pub fn home(self, c: u8) -> u8
+        ensures { λ r. ⌜ r ≡ home self c ⌝ }
     {
-        let k = i as usize;
-        if k < 8 { self.store[k] } else { Slots::blank() }
+        let store = self.store;
+        store.home(c)
     }
 
-    // The image in cabinet i's slot 0 or 1.
-    pub fn slot(self, i: u8, v: bool) -> Image
-        ensures { λ r. ⌜ r ≡ slot self i v ⌝ }
+    // The image in slot 0 or 1 of cabinet c, as store h has it.
+    pub fn slot(self, h: u8, c: u8, v: bool) -> Image
+        ensures { λ r. ⌜ r ≡ slot self h c v ⌝ }
     {
-        self.slots(i).image(v)
-    }
-
-    pub fn with_slot(self, i: u8, v: bool, m: Image) -> Group
-        ensures { λ r. ⌜ r ≡ withSlot self i v m ⌝ }
-    {
-        self.with_slots(i, self.slots(i).with_image(v, m))
+        let store = self.store;
+        store.slot_at(h, c, v)
     }
 
     // How often cabinet i has tripped since the last commit.

@@ -2,5 +2,7 @@
 pub mod Lists
 pub mod Passed
 pub mod Links
+pub mod Entries
+pub mod Stored
 pub mod Loaded
 pub mod Versions

@@ -1,10 +1,11 @@
 -- Laws of lists and choices that the proofs of this crate share.
-use Prim.Native.Nat.{ℕ, zero, suc, _<_}
-use mathlib.Core.Path.{_≡_, refl, sym}
+use Prim.Native.Nat.{ℕ, zero, suc, _≤_, _<_}
+use mathlib.Core.Path.{_≡_, refl, sym, _∙_}
 use mathlib.Core.Bool.{Bool, true, false, cond}
 use mathlib.Core.List.{List, [], _∷_}
 use native.Mathlib.Omega.{arith}
-use lib.ListN.{length, getD, replicate}
+use native.Mathlib.Decide.{decLt}
+use lib.ListN.{length, getD, replicate, List·getD-eq-default}
 use lib.Seq.{ext-getD}
 
 module _ {A : Type 0} where
@@ -25,6 +26,13 @@ module _ {A : Type 0} where
   made F d (suc (suc (suc (suc (suc (suc zero)))))) h = refl
   made F d (suc (suc (suc (suc (suc (suc (suc zero))))))) h = refl
   made F d (suc (suc (suc (suc (suc (suc (suc (suc i)))))))) h = absurd (omega arith)
+
+  -- .. and anywhere, where it makes the default past the eighth
+  pub made-all : (F : ℕ → A) (d : A) → ((i : ℕ) → 8 ≤ i → F i ≡ d) → (i : ℕ) → getD (F 0 ∷ F 1 ∷ F 2 ∷ F 3 ∷ F 4 ∷ F 5 ∷ F 6 ∷ F 7 ∷ []) i d ≡ F i
+  made-all F d past i = elim (decLt i 8) [
+    | yes h ↦ made F d i h
+    | no h ↦ List·getD-eq-default (F 0 ∷ F 1 ∷ F 2 ∷ F 3 ∷ F 4 ∷ F 5 ∷ F 6 ∷ F 7 ∷ []) d {n = i} (omega arith) ∙ sym (past i (omega arith))
+  ]
 
   -- a list of eight, its elements read one by one
   pub read-back : (xs : List A) (d : A) → length xs ≡ 8

@@ -1,19 +1,16 @@
 -- What holds of every file that is loaded: the group, lines and store start as document 01 says.
-use Prim.Native.Nat.{ℕ, zero, suc, _+_, _-_, _≤_, _<_}
+use Prim.Native.Nat.{ℕ, zero, suc, _+_, _≤_, _<_}
 use mathlib.Core.Path.{_≡_, refl, sym, _∙_, ap}
-use mathlib.Core.Bool.{Bool, true, false, cond, _&&_, and-eq-true-iff}
+use mathlib.Core.Bool.{Bool, true, false, cond}
 use mathlib.Core.List.{List, []}
-use mathlib.Core.Logic.{⊎-elim}
 use native.Mathlib.Omega.{arith}
 use native.Mathlib.Decide.{ℕ-discrete, decLt}
-use native.Mathlib.Nat.{eq-or-lt-of-le}
 use lib.ListN.{length, getD, List·getD-eq-default}
-use lib.Dec.{leb, ltb, eqb, lit<}
-use borrow.Author.Tests.{lt-ltb, le-ltb, leb-true, eq-eqb, ne-eqb}
+use lib.Dec.{ltb, eqb, lit<}
+use borrow.Author.Tests.{lt-ltb, le-ltb, eq-eqb, ne-eqb}
 use Rattle.marks.specs.Marks.{marked, noMarks}
 use Rattle.marks.specs.Reach.{Rows, mark}
 use Rattle.line.specs.Line.{emptyLine}
-use Rattle.image.specs.declared.Image.{Image}
 use Rattle.cabinet.specs.declared.Cabinet.{Cabinet}
 use Rattle.state.specs.State.{works}
 use Rattle.outlet.specs.declared.Outlet.{Outlet}
@@ -24,16 +21,17 @@ use Rattle.image.specs.Image.{blankImage, booked, withBooking}
 use Rattle.image.proofs.Laws.{booking-small}
 use Rattle.cabinet.specs.Cabinet.{absent}
 use Rattle.outgoing.specs.declared.Outgoing.{Outgoing}
-use Rattle.group.specs.declared.Slots.{Slots}
 use Rattle.group.specs.declared.Group.{Group}
 use Rattle.group.specs.declared.Outcome.{Outcome}
 use Rattle.outgoing.specs.Lines.{emptyLines, lineTo}
-use Rattle.group.specs.Group.{cabinet, outgoing, line, blankSlots, slot, rowsOf, ofRows, working, answering, sum}
-use Rattle.load.specs.Load.{cabinetCount, linkCount, entryAt, homeOf, storeMark, bookingOf, entryTotal, cabinetRight, cabinetsRight, rowsIn, present, loadRefusal, imageOf, startingCabinet, cabinetOf, cabinetsOf, slotsOf, storeOf, groupOf, noGroup, loadWith, load}
+use Rattle.group.specs.Group.{cabinet, outgoing, line, rowsOf, ofRows, working, answering, sum}
+use Rattle.load.specs.Load.{cabinetCount, linkCount, entryAt, bookingOf, entryTotal, rowsIn, present, loadRefusal, imageOf, startingCabinet, cabinetOf, cabinetsOf, groupOf, noGroup, loadWith, load}
 use Rattle.load.specs.Starts.{Starts}
 use Rattle.load.proofs.Lists.{eight, made, read-back, repeated, chosen, other}
 use Rattle.marks.proofs.Lists.{getD-in}
 use Rattle.load.proofs.Passed.{Passed, passed}
+use Rattle.load.proofs.Entries.{Entry, right-at, right-entry}
+use Rattle.load.proofs.Stored.{slot-here, slot-gone, slot-one, either-slot, served, home-is-in, home-there, present-within}
 use Rattle.load.proofs.Links.{Fair, fair-links, connected-same}
 
 -- ---- an answer of 0 is a group that no check refused
@@ -54,28 +52,6 @@ unfolding load
 the-group f e =
     ap (λ (o : Outcome). o .group)
     (chosen (eqb (loadRefusal f) 0) (answering 0 (groupOf f (rowsIn f))) (answering (loadRefusal f) noGroup) (eq-eqb (loadRefusal f) 0 (no-refusal f e)))
-
--- ---- right cabinet entries
-
-module _ (f : List ℕ) where
-  right-at : (n : ℕ) → cabinetsRight n f ≡ true → (i : ℕ) → i < n → cabinetRight f i ≡ true
-  right-at zero r i h = absurd (omega arith)
-  right-at (suc n) r i h =
-      let parts = and-eq-true-iff (cabinetsRight n f) (cabinetRight f n) .0 r in
-      ⊎-elim (λ q. ap (cabinetRight f) q ∙ parts .1) (λ l. right-at n (parts .0) i l) (eq-or-lt-of-le (upto h))
-    where
-      upto : i < suc n → i ≤ n
-      upto l = omega arith
-
-  -- the home is 1 to n, and is a store
-  right-home : (i : ℕ) → cabinetRight f i ≡ true → (1 ≤ homeOf f i) × (homeOf f i ≤ cabinetCount f) × (eqb (storeMark f (homeOf f i - 1)) 1 ≡ true)
-  right-home i r =
-      let home = homeOf f i in
-      let stores = eqb (storeMark f (home - 1)) 1 in
-      let all = and-eq-true-iff (leb (storeMark f i) 1) (leb 1 home && (leb home (cabinetCount f) && stores)) .0 r .1 in
-      let first = and-eq-true-iff (leb 1 home) (leb home (cabinetCount f) && stores) .0 all in
-      let rest = and-eq-true-iff (leb home (cabinetCount f)) stores .0 (first .1) in
-      (leb-true 1 home (first .0), leb-true home (cabinetCount f) (rest .0), rest .1)
 
 -- ---- octets
 
@@ -126,9 +102,6 @@ module _ (f : List ℕ) (rows : Rows) where
   unfolding cabinet
   cabinet-out i h = List·getD-eq-default (cabinetsOf f rows) absent h
 
-  slots-at : (i : ℕ) → i < 8 → getD (storeOf f) i blankSlots ≡ slotsOf f i
-  slots-at i h = made (slotsOf f) blankSlots i h
-
   module _ (most : cabinetCount f ≤ 8) where
     pub here : (i : ℕ) → i < cabinetCount f → cabinet g i ≡ startingCabinet f rows i
     here i h = cabinet-at i (omega arith) ∙ chosen (ltb i (cabinetCount f)) (startingCabinet f rows i) absent (lt-ltb i (cabinetCount f) h)
@@ -143,37 +116,6 @@ module _ (f : List ℕ) (rows : Rows) where
     -- what holds of a cabinet of the file and of none, holds at every number
     either : (P : Cabinet → Type 0) (i : ℕ) → P (startingCabinet f rows i) → P absent → P (cabinet g i)
     either P i s a = elim (decLt i (cabinetCount f)) [ yes h ↦ rw (here i h) s | no h ↦ rw (gone i (omega arith)) a ]
-
-    -- ---- the store
-
-    slots-here : (i : ℕ) → i < cabinetCount f → getD (storeOf f) i blankSlots ≡ record { zero = imageOf f i; one = blankImage }
-    slots-here i h = slots-at i (omega arith) ∙ chosen (ltb i (cabinetCount f)) _ blankSlots (lt-ltb i (cabinetCount f) h)
-
-    slots-gone : (i : ℕ) → cabinetCount f ≤ i → getD (storeOf f) i blankSlots ≡ blankSlots
-    slots-gone i h =
-        elim (decLt i 8) [
-          | yes l ↦ slots-at i l ∙ other (ltb i (cabinetCount f)) (record { zero = imageOf f i; one = blankImage }) blankSlots (le-ltb i (cabinetCount f) h)
-          | no l ↦ List·getD-eq-default (storeOf f) blankSlots {n = i} (omega arith)
-        ]
-
-    slot-here : (i : ℕ) → i < cabinetCount f → slot g i false ≡ imageOf f i
-    unfolding slot
-    slot-here i h = ap (λ (s : Slots). s .zero) (slots-here i h)
-
-    slot-gone : (i : ℕ) (v : Bool) → cabinetCount f ≤ i → slot g i v ≡ blankImage
-    unfolding slot blankSlots
-    slot-gone i true h = ap (λ (s : Slots). s .one) (slots-gone i h)
-    slot-gone i false h = ap (λ (s : Slots). s .zero) (slots-gone i h)
-
-    slot-one : (i : ℕ) → slot g i true ≡ blankImage
-    unfolding slot
-    slot-one i = elim (decLt i (cabinetCount f)) [ yes h ↦ ap (λ (s : Slots). s .one) (slots-here i h) | no h ↦ slot-gone i true (omega arith) ]
-
-    -- what holds of the starting image and of a blank one, holds of every slot
-    either-slot : (P : Image → Type 0) (i : ℕ) (v : Bool) → P (imageOf f i) → P blankImage → P (slot g i v)
-    either-slot P i true s a = rw (slot-one i) a
-    either-slot P i false s a =
-        elim (decLt i (cabinetCount f)) [ yes h ↦ rw (slot-here i h) s | no h ↦ rw (slot-gone i false (omega arith)) a ]
 
     -- ---- the bookings
 
@@ -231,14 +173,8 @@ module _ (f : List ℕ) (rows : Rows) where
           | no h ↦ List·getD-eq-default (present f) false {n = i} (omega arith) ∙ sym (le-ltb i (cabinetCount f) (omega (arith, ok .most)))
         ]
 
-    home-at : (i : ℕ) → i < cabinetCount f → cabinet g i .home ≡ homeOf f i - 1
-    home-at i h = ap (λ (c : Cabinet). c .home) (here (ok .most) i h)
-
-    home-fact : (i : ℕ) → i < cabinetCount f → (1 ≤ homeOf f i) × (homeOf f i ≤ cabinetCount f) × (eqb (storeMark f (homeOf f i - 1)) 1 ≡ true)
-    home-fact i h = right-home f i (right-at f (cabinetCount f) (ok .cabinets) i h)
-
-    home-within : (i : ℕ) → i < cabinetCount f → homeOf f i - 1 < cabinetCount f
-    home-within i h = let p = home-fact i h in omega arith
+    entry : (i : ℕ) → i < cabinetCount f → Entry f i
+    entry i h = right-entry f i (right-at f (cabinetCount f) (ok .cabinets) i h)
 
     sound-links : Fair (cabinetCount f) (rowsOf (ofRows rows))
     sound-links = rw (rows-back (fair .size)) fair
@@ -255,12 +191,11 @@ module _ (f : List ℕ) (rows : Rows) where
       eight-links = eight-rows;
       eight-sound = eight-rows;
       eight-outgoing = refl;
-      eight-slots = refl;
       eight-rows = sound-links .size;
       eight-marks = λ i h. ap (λ (r : Rows). length (getD r i noMarks)) (rows-back (fair .size)) ∙ row-eight i;
       eight-in-tables = λ i. either (ok .most) (λ c. (length (c .table .cabinets) ≡ 8) × (length (c .table .links) ≡ 8)) i (refl, row-eight i) (refl, refl);
       image-size = λ i. either (ok .most) (λ c. length (c .image .octets) ≡ 32) i refl refl;
-      slot-size = λ i v. either-slot (ok .most) (λ m. length (m .octets) ≡ 32) i v refl refl;
+      slot-size = λ h i v. either-slot f (ok .most) (λ m. length (m .octets) ≡ 32) h i v refl refl;
       starting = λ i h. here (ok .most) i h ∙ ap (λ (r : Rows). startingCabinet f r i) file;
       phase = λ i h. ap (λ (c : Cabinet). c .phase) (here (ok .most) i h);
       in-table = λ i h. ap (λ (c : Cabinet). c .table .cabinets) (here (ok .most) i h);
@@ -275,11 +210,13 @@ module _ (f : List ℕ) (rows : Rows) where
       past = gone (ok .most);
       empty-lines = outgoing-empty;
       empty = line-empty;
-      slot-zero = λ i h. slot-here (ok .most) i h ∙ sym (ap (λ (c : Cabinet). c .image) (here (ok .most) i h));
-      slot-one = slot-one (ok .most);
-      slot-past = slot-gone (ok .most);
-      home-below = λ i h. rw (home-at i h) (home-within i h);
-      home-stores = λ i h. ap (λ (k : ℕ). cabinet g k .store) (home-at i h) ∙ (ap (λ (c : Cabinet). c .store) (here (ok .most) (homeOf f i - 1) (home-within i h)) ∙ home-fact i h .2);
+      slot-zero = λ h i l. slot-here f (ok .most) h i l ∙ sym (ap (λ (c : Cabinet). c .image) (here (ok .most) i l));
+      slot-one = slot-one f (ok .most);
+      slot-past = slot-gone f (ok .most);
+      stored = served f (ok .most) entry;
+      homed = home-is-in f (ok .most) entry;
+      home-present = home-there f (ok .most) entry;
+      present-below = present-within f (ok .most) entry;
       file-links = rows-back (fair .size) ∙ file;
       all-sound = refl;
       both-ways = λ i j. same-truth (mark (rowsOf (ofRows rows)) i j) (mark (rowsOf (ofRows rows)) j i) (sound-links .both-ways i j) (sound-links .both-ways j i);
@@ -290,7 +227,7 @@ module _ (f : List ℕ) (rows : Rows) where
       total = λ y. booked-to (ok .most) y (cabinetCount f) (le-refl (cabinetCount f));
       total-most = ok .total;
       image-octets = λ i k. either (ok .most) (λ c. getD (c .image .octets) k 0 < 256) i (image-octet f small i k) (blank-octet k);
-      slot-octets = λ i v k. either-slot (ok .most) (λ m. getD (m .octets) k 0 < 256) i v (image-octet f small i k) (blank-octet k);
+      slot-octets = λ h i v k. either-slot f (ok .most) (λ m. getD (m .octets) k 0 < 256) h i v (image-octet f small i k) (blank-octet k);
     }
 
 -- every group that load answers with 0 starts as document 01 says

@@ -1,5 +1,5 @@
 -- A file that loads is one of its packet version, and is read as that.
-use Prim.Native.Nat.{ℕ, _+_, _-_, _*_}
+use Prim.Native.Nat.{ℕ, _+_, _-_, _*_, _<_}
 use mathlib.Core.Path.{_≡_, refl, sym, _∙_, ap}
 use mathlib.Core.Bool.{true, and-eq-true-iff}
 use mathlib.Core.List.{List}
@@ -14,10 +14,12 @@ use Rattle.packet.specs.declared.PacketVersion.{PacketVersion}
 use Rattle.packet.specs.declared.PacketVersion.the-variants.{One, Two}
 use Rattle.image.specs.Image.{booking}
 use Rattle.cabinet.specs.declared.Cabinet.{Cabinet}
-use Rattle.load.specs.Load.{number, linkCount, tableOffset, tableIn, versionOf, linkTable, totalLength, bookingOf, versionNamed, offsetsRight, rowsIn, imageOf, groupOf}
-use Rattle.load.specs.Versions.{tableStart, SixthNumber, Written, Read, OneVersion, ReadAsWritten, NeverAsOther}
+use Rattle.load.specs.Load.{number, cabinetCount, linkCount, tableOffset, tableIn, versionOf, linkTable, totalLength, bookingOf, versionNamed, offsetsRight, rowsIn, imageOf, groupOf}
+use Rattle.load.specs.Versions.{tableStart, partnerNamed, SixthNumber, Written, Read, OneVersion, ReadAsWritten, NeverAsOther}
 use Rattle.load.proofs.Lists.{chosen, other}
 use Rattle.load.proofs.Passed.{Passed, passed}
+use Rattle.load.proofs.Entries.{Entry, right-at, right-entry}
+use Rattle.load.proofs.Stored.{store-in, store-at, partner-in, partner-at, home-is}
 use Rattle.load.proofs.Links.{fair-links, entry-linked, only-entries}
 use Rattle.load.proofs.Loaded.{no-refusal, the-group, here, rows-back}
 
@@ -62,18 +64,20 @@ read : (f : List ℕ) → Passed f → Read (versionOf f) f (groupOf f (rowsIn f
 read f ok =
     let table = same-start (versionOf f) in
     let rows = rowsIn f in
+    let entry : (i : ℕ) → i < cabinetCount f → Entry f i = λ i h. right-entry f i (right-at f (cabinetCount f) (ok .cabinets) i h) in
     let marks = rows-back f rows (fair-links f (linkCount f) (ok .most) (ok .links) .size) in
     record {
       version = refl;
       count = refl;
-      home = λ i h. ap (λ (c : Cabinet). c .home) (here f rows (ok .most) i h) ∙ ap (λ (at : ℕ). getD f (at + 8 * i) 0 - 1) table;
-      store = λ i h. ap (λ (c : Cabinet). c .store) (here f rows (ok .most) i h) ∙ ap (λ (at : ℕ). eqb (getD f (at + 8 * i + 1) 0) 1) table;
+      home = λ i h. home-is f (ok .most) entry i h ∙ ap (λ (at : ℕ). getD f (at + 9 * i) 0 - 1) table;
+      store = λ i h. store-at f (ok .most) i ∙ (store-in f i h ∙ ap (λ (at : ℕ). eqb (getD f (at + 9 * i + 1) 0) 1) table);
       bookedA = λ i h. ap (λ (c : Cabinet). booking A (c .image)) (here f rows (ok .most) i h)
-          ∙ (image-bookings A f i ∙ ap (λ (at : ℕ). number f (at + 8 * i + 2)) table);
+          ∙ (image-bookings A f i ∙ ap (λ (at : ℕ). number f (at + 9 * i + 2)) table);
       bookedB = λ i h. ap (λ (c : Cabinet). booking B (c .image)) (here f rows (ok .most) i h)
-          ∙ (image-bookings B f i ∙ ap (λ (at : ℕ). number f (at + 8 * i + 4)) table);
+          ∙ (image-bookings B f i ∙ ap (λ (at : ℕ). number f (at + 9 * i + 4)) table);
       bookedW = λ i h. ap (λ (c : Cabinet). booking W (c .image)) (here f rows (ok .most) i h)
-          ∙ (image-bookings W f i ∙ ap (λ (at : ℕ). number f (at + 8 * i + 6)) table);
+          ∙ (image-bookings W f i ∙ ap (λ (at : ℕ). number f (at + 9 * i + 6)) table);
+      partner = λ i h. partner-at f (ok .most) i ∙ (partner-in f i h ∙ ap (λ (at : ℕ). partnerNamed (getD f (at + 9 * i + 8) 0)) table);
       linked = λ k h. rw (marks, ← table) (entry-linked f (linkCount f) (ok .most) (ok .links) k h);
       only = λ i j h e. rw (← table) (only-entries f (linkCount f) (ok .most) (ok .links) i j h (sym (ap (λ (r : Rows). mark r i j) marks) ∙ e));
     }

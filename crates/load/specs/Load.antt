@@ -1,7 +1,7 @@
--- Document 01, "The group file" and the refusals of a load, with document 02, cards 2, 7 and 9: a file's octets to the group, lines and store, or a
+-- Document 01, "The group file" and the refusals of a load, with document 02, cards 2, 7, 9 and 10: a file's octets to the group, lines and store, or a
 -- number 1 to 7.
 use Prim.Native.Nat.{ℕ, zero, suc, _+_, _-_, _*_}
-use mathlib.Core.Bool.{Bool, true, false, cond, _&&_}
+use mathlib.Core.Bool.{Bool, true, false, cond, not, _&&_, _||_}
 use mathlib.Core.List.{List, [], _∷_}
 use lib.ListN.{length, getD, set, replicate}
 use lib.Dec.{eqb, ltb, leb}
@@ -19,14 +19,16 @@ use Rattle.state.specs.declared.Version.the-variants.{Known}
 use Rattle.cabinet.specs.declared.Alarm.the-variants.{Quiet}
 use Rattle.image.specs.declared.Image.{Image}
 use Rattle.cabinet.specs.declared.Cabinet.{Cabinet}
-use Rattle.group.specs.declared.Slots.{Slots}
+use Rattle.store.specs.declared.Slots.{Slots}
+use Rattle.store.specs.declared.Store.{Store}
 use Rattle.group.specs.declared.Group.{Group}
 use Rattle.group.specs.declared.Outcome.{Outcome}
 use Rattle.image.specs.Image.{blankImage, withBooking}
+use Rattle.store.specs.Store.{blankSlots, emptyStore, ofEach}
 use Rattle.registers.specs.Registers.{startRegisters}
 use Rattle.cabinet.specs.Cabinet.{nothingNoted, absent}
 use Rattle.outgoing.specs.Lines.{emptyLines}
-use Rattle.group.specs.Group.{noRow, blankSlots, noTrips, ofRows, sum, answering}
+use Rattle.group.specs.Group.{noRow, noTrips, ofRows, sum, answering}
 
 -- ---- the fields
 
@@ -53,10 +55,10 @@ tableIn Two = 12
 unfoldable pub versionOf : List ℕ → PacketVersion
 versionOf f = cond (eqb (tableOffset f) 12) Two One
 
--- "The cabinet entry in the group file grows to six octets", and has "two octets more" for the workshop: where that of cabinet i, numbered
--- from 0, stands
+-- "The cabinet entry in the group file grows to six octets", has "two octets more" for the workshop and "a store-partner octet after its entry's
+-- bookings": where that of cabinet i, numbered from 0, stands
 abbrev pub entryAt : List ℕ → ℕ → ℕ
-entryAt f i = tableIn (versionOf f) + 8 * i
+entryAt f i = tableIn (versionOf f) + 9 * i
 
 -- "offset of the link table .., total length", both "following" the size of an entry
 abbrev pub linkTable : List ℕ → ℕ
@@ -65,8 +67,7 @@ linkTable f = entryAt f (cabinetCount f)
 abbrev pub totalLength : List ℕ → ℕ
 totalLength f = linkTable f + 2 * linkCount f
 
--- "home (one octet), store mark (one octet, 0 or 1), booking (two octets)", of outlet A, then B's booking, and the workshop's "at the end of the
--- cabinet entry"
+-- "home (one octet), store mark (one octet, 0 or 1), booking (two octets)", of outlet A, then B's booking, the workshop's, and the partner
 abbrev pub homeOf : List ℕ → ℕ → ℕ
 homeOf f i = getD f (entryAt f i) 0
 
@@ -77,6 +78,10 @@ abbrev pub bookingOf : Outlet → List ℕ → ℕ → ℕ
 bookingOf A f i = number f (entryAt f i + 2)
 bookingOf B f i = number f (entryAt f i + 4)
 bookingOf W f i = number f (entryAt f i + 6)
+
+-- "A store cabinet may name one partner store .., 0 for none"
+abbrev pub partnerOf : List ℕ → ℕ → ℕ
+partnerOf f i = getD f (entryAt f i + 8) 0
 
 -- link entry k: "two cabinet numbers, lower first"
 abbrev pub lowerOf : List ℕ → ℕ → ℕ
@@ -99,10 +104,20 @@ offsetsRight f =
     && (versionNamed (versionOf f) f
     && (eqb (number f 6) (linkTable f) && (eqb (number f 8) (totalLength f) && eqb (totalLength f) (length f))))
 
--- 4: the mark is 0 or 1, the home is 1 to n, and the home is a store
+-- the partner that a store names is 1 to n, "4 also for a partner that is itself, not a store, or not mutual"
+abbrev pub partnersRight : List ℕ → ℕ → ℕ → Bool
+partnersRight f i p =
+    leb p (cabinetCount f) && (not (eqb p (i + 1)) && (eqb (storeMark f (p - 1)) 1 && eqb (partnerOf f (p - 1)) (i + 1)))
+
+-- none is named, or a store names one
+abbrev pub partnerRight : List ℕ → ℕ → Bool
+partnerRight f i = eqb (partnerOf f i) 0 || (eqb (storeMark f i) 1 && partnersRight f i (partnerOf f i))
+
+-- 4: the mark is 0 or 1, the home is 1 to n, the home is a store, and the partner is right
 abbrev pub cabinetRight : List ℕ → ℕ → Bool
 cabinetRight f i =
-    leb (storeMark f i) 1 && (leb 1 (homeOf f i) && (leb (homeOf f i) (cabinetCount f) && eqb (storeMark f (homeOf f i - 1)) 1))
+    leb (storeMark f i) 1
+    && (leb 1 (homeOf f i) && (leb (homeOf f i) (cabinetCount f) && (eqb (storeMark f (homeOf f i - 1)) 1 && partnerRight f i)))
 
 abbrev pub cabinetsRight : ℕ → List ℕ → Bool
 cabinetsRight zero f = true
@@ -187,8 +202,6 @@ startingCabinet f rows i = record {
   noted = nothingNoted;
   registers = startRegisters;
   image = imageOf f i;
-  home = homeOf f i - 1;
-  store = eqb (storeMark f i) 1;
   owed = noMarks;
 }
 
@@ -204,8 +217,40 @@ cabinetsOf f rows =
 abbrev pub slotsOf : List ℕ → ℕ → Slots
 slotsOf f i = cond (ltb i (cabinetCount f)) (record { zero = imageOf f i; one = blankImage }) blankSlots
 
-abbrev pub storeOf : List ℕ → List Slots
-storeOf f = slotsOf f 0 ∷ slotsOf f 1 ∷ slotsOf f 2 ∷ slotsOf f 3 ∷ slotsOf f 4 ∷ slotsOf f 5 ∷ slotsOf f 6 ∷ slotsOf f 7 ∷ []
+-- the numbers past n are at home nowhere, and are no stores
+abbrev pub homeNumber : List ℕ → ℕ → ℕ
+homeNumber f i = cond (ltb i (cabinetCount f)) (homeOf f i - 1) 8
+
+abbrev pub isStoreIn : List ℕ → ℕ → Bool
+isStoreIn f i = ltb i (cabinetCount f) && eqb (storeMark f i) 1
+
+-- a partner's number, 8 for none
+abbrev pub partnerNumber : List ℕ → ℕ → ℕ
+partnerNumber f i = cond (ltb i (cabinetCount f) && ltb 0 (partnerOf f i)) (partnerOf f i - 1) 8
+
+abbrev pub storesIn : List ℕ → Marks
+storesIn f =
+    isStoreIn f 0 ∷ isStoreIn f 1 ∷ isStoreIn f 2 ∷ isStoreIn f 3 ∷ isStoreIn f 4 ∷ isStoreIn f 5 ∷ isStoreIn f 6 ∷ isStoreIn f 7 ∷ []
+
+abbrev pub homesIn : List ℕ → List ℕ
+homesIn f =
+    homeNumber f 0 ∷ homeNumber f 1 ∷ homeNumber f 2 ∷ homeNumber f 3 ∷ homeNumber f 4 ∷ homeNumber f 5 ∷ homeNumber f 6 ∷ homeNumber f 7 ∷ []
+
+abbrev pub partnersIn : List ℕ → List ℕ
+partnersIn f =
+    partnerNumber f 0 ∷ partnerNumber f 1 ∷ partnerNumber f 2 ∷ partnerNumber f 3 ∷ partnerNumber f 4 ∷ partnerNumber f 5
+    ∷ partnerNumber f 6 ∷ partnerNumber f 7 ∷ []
+
+-- every store is present, and both stores of a pair have the same slots
+abbrev pub storeOf : List ℕ → Store
+storeOf f = record {
+  homes = homesIn f;
+  stores = storesIn f;
+  partners = partnersIn f;
+  present = storesIn f;
+  firsts = ofEach (slotsOf f);
+  seconds = ofEach (slotsOf f);
+}
 
 abbrev pub groupOf : List ℕ → Rows → Group
 groupOf f rows = record {
@@ -228,7 +273,7 @@ noGroup = record {
   links = replicate 8 noRow;
   sound = replicate 8 noRow;
   outgoing = replicate 8 emptyLines;
-  store = replicate 8 blankSlots;
+  store = emptyStore;
   trips = noTrips;
   packets = One;
   settled = Nobody;

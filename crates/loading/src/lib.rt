@@ -6,7 +6,6 @@ use cabinet::Phase;
 use group::Group;
 use group::Outcome;
 use group::Row;
-use group::Slots;
 use image::Image;
 use outgoing::Outgoing;
 use outlet::Outlet;
@@ -14,12 +13,15 @@ use packet::PacketVersion;
 use settled::Settled;
 use state::State;
 use state::Version;
+use store::Slots;
+use store::Store;
 use table::Table;
 ghost use mathlib.Core.Path.{_≡_};
 ghost use Prim.Native.Nat.{_<_, _≤_};
 ghost use lib.ListN.{getD};
 ghost use Rattle.marks.specs.Marks.{noMarks};
-ghost use Rattle.load.specs.Load.{cabinetCount, imageOf, startingCabinet, cabinetOf, cabinetsOf, slotsOf, storeOf, groupOf, noGroup, load};
+ghost use Rattle.store.specs.Store.{ofEach};
+ghost use Rattle.load.specs.Load.{cabinetCount, imageOf, startingCabinet, cabinetOf, cabinetsOf, slotsOf, homeNumber, isStoreIn, partnerNumber, homesIn, storesIn, partnersIn, storeOf, groupOf, noGroup, load};
 
 // The image of cabinet i: the bookings of its entry, and no notes.
 fn image_of(file: &[u8], i: usize) -> Image
@@ -46,7 +48,6 @@ fn starting_cabinet(file: &[u8], rows: [[bool; 8]; 8], i: usize) -> Cabinet
     requires { ⌜ i < 8 ⌝ }
     ensures { λ r. ⌜ r ≡ startingCabinet (now (file .entry)) rows i ⌝ }
 {
-    let at = reading::entry_at(file, i as u16);
     Cabinet {
         phase: Phase {
             state: State::Normal,
@@ -61,8 +62,6 @@ fn starting_cabinet(file: &[u8], rows: [[bool; 8]; 8], i: usize) -> Cabinet
         noted: cabinet::nothing_noted(),
         registers: registers::start_registers(),
         image: image_of(file, i),
-        home: reading::less_one(reading::small(file, at)) as u8,
-        store: reading::small(file, at + 1) == 1,
         owed: [false; 8],
     }
 }
@@ -109,8 +108,8 @@ fn slots_of(file: &[u8], i: usize) -> Slots
     }
 }
 
-fn store_of(file: &[u8]) -> [Slots; 8]
-    ensures { λ r. ⌜ r ≡ storeOf (now (file .entry)) ⌝ }
+fn all_slots(file: &[u8]) -> [Slots; 8]
+    ensures { λ r. ⌜ r ≡ ofEach (slotsOf (now (file .entry))) ⌝ }
 {
     [
         slots_of(file, 0),
@@ -122,6 +121,104 @@ fn store_of(file: &[u8]) -> [Slots; 8]
         slots_of(file, 6),
         slots_of(file, 7),
     ]
+}
+
+// The number of the home of cabinet i, 8 past the last one.
+fn home_number(file: &[u8], i: usize) -> u8
+    requires { ⌜ i < 8 ⌝ }
+    ensures { λ r. ⌜ r ≡ homeNumber (now (file .entry)) i ⌝ }
+{
+    if i < reading::cabinet_count(file) {
+        let at = reading::entry_at(file, i as u16);
+        reading::less_one(reading::small(file, at)) as u8
+    } else {
+        8
+    }
+}
+
+fn is_store(file: &[u8], i: usize) -> bool
+    requires { ⌜ i < 8 ⌝ }
+    ensures { λ r. ⌜ r ≡ isStoreIn (now (file .entry)) i ⌝ }
+{
+    let within = i < reading::cabinet_count(file);
+    let at = reading::entry_at(file, i as u16);
+    marks::and(within, reading::small(file, at + 1) == 1)
+}
+
+// The number of the partner that cabinet i names, 8 for none.
+fn partner_number(file: &[u8], i: usize) -> u8
+    requires { ⌜ i < 8 ⌝ }
+    ensures { λ r. ⌜ r ≡ partnerNumber (now (file .entry)) i ⌝ }
+{
+    let within = i < reading::cabinet_count(file);
+    let at = reading::entry_at(file, i as u16);
+    let named = reading::small(file, at + 8);
+    if marks::and(within, 0 < named) {
+        reading::less_one(named) as u8
+    } else {
+        8
+    }
+}
+
+fn homes_in(file: &[u8]) -> [u8; 8]
+    ensures { λ r. ⌜ r ≡ homesIn (now (file .entry)) ⌝ }
+{
+    [
+        home_number(file, 0),
+        home_number(file, 1),
+        home_number(file, 2),
+        home_number(file, 3),
+        home_number(file, 4),
+        home_number(file, 5),
+        home_number(file, 6),
+        home_number(file, 7),
+    ]
+}
+
+fn stores_in(file: &[u8]) -> [bool; 8]
+    ensures { λ r. ⌜ r ≡ storesIn (now (file .entry)) ⌝ }
+{
+    [
+        is_store(file, 0),
+        is_store(file, 1),
+        is_store(file, 2),
+        is_store(file, 3),
+        is_store(file, 4),
+        is_store(file, 5),
+        is_store(file, 6),
+        is_store(file, 7),
+    ]
+}
+
+fn partners_in(file: &[u8]) -> [u8; 8]
+    ensures { λ r. ⌜ r ≡ partnersIn (now (file .entry)) ⌝ }
+{
+    [
+        partner_number(file, 0),
+        partner_number(file, 1),
+        partner_number(file, 2),
+        partner_number(file, 3),
+        partner_number(file, 4),
+        partner_number(file, 5),
+        partner_number(file, 6),
+        partner_number(file, 7),
+    ]
+}
+
+// Every store is present, and both stores of a pair have the same slots.
+fn store_of(file: &[u8]) -> Store
+    ensures { λ r. ⌜ r ≡ storeOf (now (file .entry)) ⌝ }
+{
+    let stores = stores_in(file);
+    let slots = all_slots(file);
+    Store {
+        homes: homes_in(file),
+        stores: stores,
+        partners: partners_in(file),
+        present: stores,
+        firsts: slots,
+        seconds: slots,
+    }
 }
 
 // The group of a file that no check refuses. The count fits an octet then.
@@ -154,7 +251,7 @@ fn no_group() -> Group
         links: [row; 8],
         sound: [row; 8],
         outgoing: [Outgoing::empty(); 8],
-        store: [Slots::blank(); 8],
+        store: Store::empty(),
         trips: [0; 8],
         packets: PacketVersion::One,
         settled: Settled::Nobody,

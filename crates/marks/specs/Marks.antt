@@ -1,5 +1,5 @@
--- Eight marks, one for each cabinet: the lowest one marked, those wanted and had, those in both, the next one up.
--- `lowest`, `covers`, `both` and `nextUp` stay shut unless unfolded, so that a caller's goal names them and does not spell them out.
+-- Eight marks, one for each cabinet: the lowest one marked, those wanted and had, those in both, in either or in one alone, the next one up.
+-- `lowest`, `covers`, `both`, `either`, `without` and `nextUp` stay shut unless unfolded, so that a caller's goal names them and does not spell them out.
 use Prim.Native.Nat.{ℕ, zero, suc, _+_}
 use mathlib.Core.List.{List, [], _∷_}
 use mathlib.Core.Bool.{Bool, true, false, cond, not, _&&_, _||_}
@@ -41,6 +41,22 @@ inBoth a b i = marked a i && marked b i
 unfoldable pub both : Marks → Marks → Marks
 both a b =
     inBoth a b 0 ∷ inBoth a b 1 ∷ inBoth a b 2 ∷ inBoth a b 3 ∷ inBoth a b 4 ∷ inBoth a b 5 ∷ inBoth a b 6 ∷ inBoth a b 7 ∷ []
+
+-- the marks that stand in either
+abbrev pub inEither : Marks → Marks → ℕ → Bool
+inEither a b i = marked a i || marked b i
+
+unfoldable pub either : Marks → Marks → Marks
+either a b =
+    inEither a b 0 ∷ inEither a b 1 ∷ inEither a b 2 ∷ inEither a b 3 ∷ inEither a b 4 ∷ inEither a b 5 ∷ inEither a b 6 ∷ inEither a b 7 ∷ []
+
+-- the marks of a that do not stand in b
+abbrev pub inFirst : Marks → Marks → ℕ → Bool
+inFirst a b i = marked a i && not (marked b i)
+
+unfoldable pub without : Marks → Marks → Marks
+without a b =
+    inFirst a b 0 ∷ inFirst a b 1 ∷ inFirst a b 2 ∷ inFirst a b 3 ∷ inFirst a b 4 ∷ inFirst a b 5 ∷ inFirst a b 6 ∷ inFirst a b 7 ∷ []
 
 -- the numbers above x
 abbrev pub above : ℕ → Marks

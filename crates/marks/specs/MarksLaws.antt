@@ -1,4 +1,4 @@
--- Laws of marks: which is the lowest, what covers, what stands in both.
+-- Laws of marks: which is the lowest, what covers, what stands in both, in either and in one alone.
 use Prim.Native.Nat.{ℕ, zero, suc, _+_, _≤_, _<_}
 use mathlib.Core.Path.{_≡_, refl, sym, _∙_, ap}
 use mathlib.Core.Bool.{Bool, true, false, cond, not, _&&_, _||_, true≢false, and-eq-true-iff}
@@ -6,7 +6,7 @@ use mathlib.Core.Logic.{⊎-elim}
 use native.Mathlib.Decide.{decLt}
 use native.Mathlib.Nat.{eq-or-lt-of-le}
 use native.Mathlib.Omega.{arith}
-use Rattle.marks.specs.Marks.{Marks, marked, lowestFrom, lowest, coversTo, covers, both}
+use Rattle.marks.specs.Marks.{Marks, marked, lowestFrom, lowest, coversTo, covers, both, either, without}
 
 -- what holds of each answer, given the test, holds of the choice
 pub cond-elim : {A : Type 0} (P : A → Type 0) (b : Bool) (x y : A) → (b ≡ true → P x) → (b ≡ false → P y) → P (cond b x y)
@@ -106,3 +106,27 @@ marked-both a b (suc (suc (suc (suc (suc zero))))) h = refl
 marked-both a b (suc (suc (suc (suc (suc (suc zero)))))) h = refl
 marked-both a b (suc (suc (suc (suc (suc (suc (suc zero))))))) h = refl
 marked-both a b (suc (suc (suc (suc (suc (suc (suc (suc i)))))))) h = absurd (omega arith)
+
+pub marked-either : (a b : Marks) (i : ℕ) → i < 8 → marked (either a b) i ≡ (marked a i || marked b i)
+unfolding either
+marked-either a b zero h = refl
+marked-either a b (suc zero) h = refl
+marked-either a b (suc (suc zero)) h = refl
+marked-either a b (suc (suc (suc zero))) h = refl
+marked-either a b (suc (suc (suc (suc zero)))) h = refl
+marked-either a b (suc (suc (suc (suc (suc zero))))) h = refl
+marked-either a b (suc (suc (suc (suc (suc (suc zero)))))) h = refl
+marked-either a b (suc (suc (suc (suc (suc (suc (suc zero))))))) h = refl
+marked-either a b (suc (suc (suc (suc (suc (suc (suc (suc i)))))))) h = absurd (omega arith)
+
+pub marked-without : (a b : Marks) (i : ℕ) → i < 8 → marked (without a b) i ≡ (marked a i && not (marked b i))
+unfolding without
+marked-without a b zero h = refl
+marked-without a b (suc zero) h = refl
+marked-without a b (suc (suc zero)) h = refl
+marked-without a b (suc (suc (suc zero))) h = refl
+marked-without a b (suc (suc (suc (suc zero)))) h = refl
+marked-without a b (suc (suc (suc (suc (suc zero))))) h = refl
+marked-without a b (suc (suc (suc (suc (suc (suc zero)))))) h = refl
+marked-without a b (suc (suc (suc (suc (suc (suc (suc zero))))))) h = refl
+marked-without a b (suc (suc (suc (suc (suc (suc (suc (suc i)))))))) h = absurd (omega arith)

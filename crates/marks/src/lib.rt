@@ -3,7 +3,7 @@ ghost use mathlib.Core.Path.{_≡_};
 ghost use mathlib.Core.Bool.{false, _&&_, _||_};
 ghost use Prim.Native.Nat.{ℕ, _<_, _≤_};
 ghost use lib.ListN.{set};
-ghost use Rattle.marks.specs.Marks.{marked, inBoth, lowest, covers, both, above, orLowest, nextUp};
+ghost use Rattle.marks.specs.Marks.{marked, inBoth, inEither, inFirst, lowest, covers, both, either, without, above, orLowest, nextUp};
 ghost use Rattle.marks.specs.Reach.{
   mark,
   cleared,
@@ -95,6 +95,50 @@ pub fn both(a: [bool; 8], b: [bool; 8]) -> [bool; 8]
         in_both(a, b, 5),
         in_both(a, b, 6),
         in_both(a, b, 7),
+    ]
+}
+
+fn in_either(a: [bool; 8], b: [bool; 8], i: u8) -> bool
+    ensures { λ r. ⌜ r ≡ inEither a b i ⌝ }
+{
+    or(marked(a, i), marked(b, i))
+}
+
+// The marks that stand in either row.
+pub fn either(a: [bool; 8], b: [bool; 8]) -> [bool; 8]
+    ensures { λ r. ⌜ r ≡ either a b ⌝ }
+{
+    [
+        in_either(a, b, 0),
+        in_either(a, b, 1),
+        in_either(a, b, 2),
+        in_either(a, b, 3),
+        in_either(a, b, 4),
+        in_either(a, b, 5),
+        in_either(a, b, 6),
+        in_either(a, b, 7),
+    ]
+}
+
+fn in_first(a: [bool; 8], b: [bool; 8], i: u8) -> bool
+    ensures { λ r. ⌜ r ≡ inFirst a b i ⌝ }
+{
+    and(marked(a, i), !marked(b, i))
+}
+
+// The marks of the first row that do not stand in the second.
+pub fn without(a: [bool; 8], b: [bool; 8]) -> [bool; 8]
+    ensures { λ r. ⌜ r ≡ without a b ⌝ }
+{
+    [
+        in_first(a, b, 0),
+        in_first(a, b, 1),
+        in_first(a, b, 2),
+        in_first(a, b, 3),
+        in_first(a, b, 4),
+        in_first(a, b, 5),
+        in_first(a, b, 6),
+        in_first(a, b, 7),
     ]
 }
 

@@ -3,7 +3,7 @@ use Prim.Native.Nat.{ℕ, zero, suc}
 use mathlib.Core.Path.{_≡_, refl, sym, ap, _∙_}
 use mathlib.Core.Bool.{Bool, true, false, cond, _&&_}
 use mathlib.Core.List.{List, map}
-use lib.ListN.{getD, set, List·getD-map}
+use lib.ListN.{set, List·getD-map}
 use Rattle.marks.specs.Marks.{marked}
 use Rattle.marks.specs.Reach.{struck, connected}
 use Rattle.packet.specs.declared.Place.{Place}
@@ -15,24 +15,25 @@ use Rattle.line.specs.declared.Line.{Line}
 use Rattle.line.specs.Line.{emptyLine}
 use Rattle.outgoing.specs.declared.Outgoing.{Outgoing}
 use Rattle.outgoing.specs.Lines.{emptyLines, lineTo, withLineTo, laden, putAll, putCheckps}
-use Rattle.image.specs.declared.Image.{Image}
 use Rattle.state.specs.declared.State.the-variants.{Failed, Normal, Crashed}
 use Rattle.state.specs.declared.Version.{Version}
 use Rattle.state.specs.declared.Version.the-variants.{Known, Unknown, Lost}
 use Rattle.state.specs.State.{flipped, adopted, works, isIn, inRecovery}
 use Rattle.settled.specs.declared.Reason.{Reason}
+use Rattle.store.specs.declared.Store.{Store}
+use Rattle.store.specs.Store.{partner, homeIn, homedAt, slotAt, leaves, comesBack}
 use Rattle.cabinet.specs.declared.Alarm.{Alarm}
 use Rattle.cabinet.specs.declared.Alarm.the-variants.{Quiet, Fault as At}
 use Rattle.cabinet.specs.declared.Cabinet.{Cabinet}
-use Rattle.cabinet.specs.Cabinet.{absent, inUse, withState, withVersion, beginning, comparing, cutting, resuming, alarmed, blanked, hearing, recovering, crashing}
-use Rattle.group.specs.declared.Slots.{Slots}
+use Rattle.cabinet.specs.Cabinet.{absent, inUse, withState, withVersion, beginning, comparing, cutting, resuming, alarmed, blanked, hearing, recovering, crashing, owingAlso, owingBut, owingNone}
 use Rattle.group.specs.declared.Group.{Group}
 use Rattle.group.specs.declared.Outcome.{Outcome}
-use Rattle.group.specs.Group.{cabinet, withCabinets, withCabinet, outgoing, withOutgoing, line, withLine, blankSlots, slot, withSlots, withSlot, withZero, withOne, rowsOf, withSound, those, some, working, recoveringOnes, isCrashed, normalOnes, ladenOnes, quiet, forgetTrips, settle, answering, taken, crashAll, crashed}
-use Rattle.protocol.specs.Moves.{broadcast, join, cutIfAll, takeCheckp, resumeWith, commit, adopt, recoverWith, recoverIfKnown, raise, reasonFor, enterError, hear, findLinkFault, emptiedTo, markFailed, trip, neighbours, enterErrorIf, alarmTo, endRecovery, noteFor, noteLost}
-use Rattle.pairs.specs.Covered.{coverFrom, coverImage, coverPacket, coverLine, coverOutgoing, coverCabinet, coverSlots, cover, coverOutcome}
+use Rattle.group.specs.Group.{cabinet, withCabinets, withCabinet, outgoing, withOutgoing, line, withLine, withStore, home, slot, rowsOf, withSound, those, some, working, recoveringOnes, isCrashed, normalOnes, ladenOnes, quiet, forgetTrips, settle, answering, taken, crashAll, crashed}
+use Rattle.protocol.specs.Moves.{broadcast, join, cutIfAll, takeCheckp, resumeWith, commit, adopt, recoverWith, recoverIfKnown, raise, reasonFor, enterError, hear, findLinkFault, emptiedTo, passReports, leave, dropReports, comeBack, markFailed, trip, neighbours, enterErrorIf, alarmTo, endRecovery, noteFor, noteLost}
+use Rattle.pairs.specs.Covered.{coverFrom, coverImage, coverPacket, coverLine, coverOutgoing, coverCabinet, coverStore, cover, coverOutcome}
 use Rattle.pairs.proofs.Parts.{map-set, choose, line-covered, with-line-covered, no-lines-covered, put-all-covered, put-checkps-covered, laden-covered}
 use Rattle.pairs.proofs.Cabinets.{begin-covered, compare-covered, cut-covered, blank-covered, crash-covered}
+use Rattle.pairs.proofs.Stores.{home-kept, homed-kept, slot-kept, leaves-covered, back-covered}
 
 -- ---- the components, read
 
@@ -48,15 +49,16 @@ pub line-at : (g : Group) (a b : ℕ) → line (cover g) a b ≡ coverLine (line
 unfolding line
 line-at g a b = ap (λ (o : Outgoing). lineTo o b) (lines-at g a) ∙ line-covered (outgoing g a) b
 
-slots-at : (g : Group) (i : ℕ) → getD (cover g .store) i blankSlots ≡ coverSlots (getD (g .store) i blankSlots)
-unfolding cover blankSlots coverImage coverFrom
-slots-at g i = List·getD-map coverSlots (g .store) i blankSlots
+-- the store is there as covered, so who is home and which stores are present read the same
+pub store-at : (g : Group) → cover g .store ≡ coverStore (g .store)
+unfolding cover
+store-at g = refl
 
-pub slot-at : (g : Group) (i : ℕ) (v : Bool) → slot (cover g) i v ≡ coverImage (slot g i v)
-unfolding slot
-slot-at g i v =
-    ap (λ (s : Slots). cond v (s .one) (s .zero)) (slots-at g i)
-    ∙ sym (choose coverImage v (getD (g .store) i blankSlots .one) (getD (g .store) i blankSlots .zero))
+pub home-at : (g : Group) (c : ℕ) → home (cover g) c ≡ home g c
+home-at g c = ap (λ (s : Store). homeIn s c) (store-at g) ∙ home-kept (g .store) c
+
+pub slot-at : (g : Group) (h c : ℕ) (v : Bool) → slot (cover g) h c v ≡ coverImage (slot g h c v)
+slot-at g h c v = ap (λ (s : Store). slotAt s h c v) (store-at g) ∙ slot-kept (g .store) h c v
 
 -- ---- and replaced
 
@@ -67,7 +69,7 @@ cabinet-put g i c = ap (withCabinets (cover g)) (map-set coverCabinet (g .cabine
 pub lines-put : (g : Group) (i : ℕ) (o : Outgoing) → cover (withOutgoing g i o) ≡ withOutgoing (cover g) i (coverOutgoing o)
 unfolding cover withOutgoing
 lines-put g i o =
-    ap (λ (os : List Outgoing). record { n = g .n; cabinets = map coverCabinet (g .cabinets); links = g .links; sound = g .sound; outgoing = os; store = map coverSlots (g .store); trips = g .trips; packets = g .packets; settled = g .settled })
+    ap (λ (os : List Outgoing). record { n = g .n; cabinets = map coverCabinet (g .cabinets); links = g .links; sound = g .sound; outgoing = os; store = coverStore (g .store); trips = g .trips; packets = g .packets; settled = g .settled })
     (map-set coverOutgoing (g .outgoing) i o)
 
 pub line-put : (g : Group) (a b : ℕ) (l : Line) → cover (withLine g a b l) ≡ withLine (cover g) a b (coverLine l)
@@ -76,21 +78,9 @@ line-put g a b l =
     lines-put g a (withLineTo (outgoing g a) b l)
     ∙ ap (withOutgoing (cover g) a) (with-line-covered (outgoing g a) b l ∙ ap (λ (o : Outgoing). withLineTo o b (coverLine l)) (sym (lines-at g a)))
 
-pub slot-put : (g : Group) (i : ℕ) (v : Bool) (m : Image) → cover (withSlot g i v m) ≡ withSlot (cover g) i v (coverImage m)
-unfolding cover withSlot withSlots blankSlots coverImage coverFrom
-slot-put g i v m =
-    ap (λ (ss : List Slots). record { n = g .n; cabinets = map coverCabinet (g .cabinets); links = g .links; sound = g .sound; outgoing = map coverOutgoing (g .outgoing); store = ss; trips = g .trips; packets = g .packets; settled = g .settled })
-    (map-set coverSlots (g .store) i (chosen v) ∙ ap (set (map coverSlots (g .store)) i) (same v))
-  where
-    old : Slots
-    old = getD (g .store) i blankSlots
-
-    chosen : Bool → Slots
-    chosen t = cond t (withOne old m) (withZero old m)
-
-    same : (t : Bool) → coverSlots (chosen t) ≡ cond t (withOne (getD (map coverSlots (g .store)) i blankSlots) (coverImage m)) (withZero (getD (map coverSlots (g .store)) i blankSlots) (coverImage m))
-    same true = ap (λ (s : Slots). withOne s (coverImage m)) (sym (List·getD-map coverSlots (g .store) i blankSlots))
-    same false = ap (λ (s : Slots). withZero s (coverImage m)) (sym (List·getD-map coverSlots (g .store) i blankSlots))
+pub store-put : (g : Group) (s : Store) → cover (withStore g s) ≡ withStore (cover g) (coverStore s)
+unfolding cover
+store-put g s = refl
 
 -- ---- a move makes of a covered group what it makes of the group, covered
 
@@ -229,6 +219,40 @@ hear-covered a b g = at-cabinet (λ c. hearing c a) (λ c. refl) b g
 emptied-covered : (n a : ℕ) → Commutes (λ g. emptiedTo n g a)
 emptied-covered zero a g = is refl
 emptied-covered (suc n) a g = onto {m = λ x. withLine x n a emptyLine} (λ x. is (line-put x n a emptyLine)) (emptied-covered n a g)
+
+at-store : (f : Store → Store) → ((s : Store) → coverStore (f s) ≡ f (coverStore s)) → Commutes (λ g. withStore g (f (g .store)))
+at-store f same g =
+    is (store-put g (f (g .store)) ∙ ap (withStore (cover g)) (same (g .store) ∙ ap f (sym (store-at g))))
+
+partner-at : (g : Group) (a : ℕ) → partner (cover g .store) a ≡ partner (g .store) a
+unfolding cover
+partner-at g a = refl
+
+-- what a store owes goes to its partner
+pass-covered : (a p : ℕ) → Commutes (λ g. passReports g a p)
+unfolding passReports
+pass-covered a p g =
+    is (cabinet-put (withCabinet g p (owingAlso (cabinet g p) (cabinet g a .owed))) a (owingNone (cabinet g a))
+    ∙ rw (cabinet-put g p (owingAlso (cabinet g p) (cabinet g a .owed)), cabinet-at g p, cabinet-at g a))
+
+pub leave-covered : (a : ℕ) → Commutes (λ g. leave g a)
+unfolding leave
+leave-covered a g =
+    is (path (onto (pass-covered a (partner (g .store) a)) (at-store (λ s. leaves s a) (leaves-covered a) g))
+    ∙ ap (passReports (withStore (cover g) (leaves (cover g .store) a)) a) (sym (partner-at g a)))
+
+-- .. and what its partner still owes on its cabinets is dropped where it comes back
+drop-covered : (a p : ℕ) → Commutes (λ g. dropReports g a p)
+unfolding dropReports
+drop-covered a p g =
+    is (path (at-cabinet (λ c. owingBut c (homedAt (g .store) a)) (λ c. refl) p g)
+    ∙ ap (λ m. withCabinet (cover g) p (owingBut (cabinet (cover g) p) m)) (sym (ap (λ (s : Store). homedAt s a) (store-at g) ∙ homed-kept (g .store) a)))
+
+pub come-back-covered : (a : ℕ) → Commutes (λ g. comeBack g a)
+unfolding comeBack
+come-back-covered a g =
+    is (path (onto (drop-covered a (partner (g .store) a)) (at-store (λ s. comesBack s a) (back-covered a) g))
+    ∙ ap (dropReports (withStore (cover g) (comesBack (cover g .store) a)) a) (sym (partner-at g a)))
 
 pub failed-covered : (a : ℕ) → Commutes (λ g. markFailed g a)
 unfolding markFailed

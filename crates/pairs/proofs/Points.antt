@@ -13,14 +13,16 @@ use Rattle.cabinet.specs.Cabinet.{withImage}
 use Rattle.points.specs.declared.Point.{Point}
 use Rattle.points.specs.declared.Points.{Points}
 use Rattle.points.specs.Points.{noPoint, pointAt, withPoint, imageAt, sameName, isNamed, isFree, firstPlace, placeOf, placeFor}
-use Rattle.group.specs.declared.Slots.{Slots}
+use Rattle.store.specs.declared.Slots.{Slots}
+use Rattle.store.specs.Store.{ofEach, setSlots}
 use Rattle.group.specs.declared.Group.{Group}
-use Rattle.group.specs.Group.{cabinet, withCabinets, withStore, slot}
+use Rattle.group.specs.Group.{cabinet, withCabinets, withStore, home, slot}
 use Rattle.protocol.specs.declared.Noted.{Noted}
-use Rattle.protocol.specs.Points.{imageKept, imagesKept, pointOf, pointRefusal, noting, takePoint, withPointImage, imagesSet, slotsSet, returned, returnRefusal, returnTo}
-use Rattle.pairs.specs.Covered.{coverFrom, coverImage, coverCabinet, coverSlots, cover, coverPoint, coverPoints}
+use Rattle.protocol.specs.Points.{imageKept, imagesKept, pointOf, pointRefusal, noting, takePoint, withPointImage, bothSlots, imagesSet, returned, returnRefusal, returnTo}
+use Rattle.pairs.specs.Covered.{coverFrom, coverImage, coverCabinet, coverStore, cover, coverPoint, coverPoints}
 use Rattle.pairs.proofs.Parts.{map-set, choose}
-use Rattle.pairs.proofs.Groups.{cabinet-at, slot-at, crashed-covered, quiet-covered, is}
+use Rattle.pairs.proofs.Stores.{slots-set}
+use Rattle.pairs.proofs.Groups.{cabinet-at, home-at, slot-at, crashed-covered, quiet-covered, is}
 use Rattle.pairs.proofs.Steps.{Gives, took, refused}
 
 -- ---- places and names
@@ -57,7 +59,9 @@ place-for-same ps name = rw (place-same ps name, first-same (isFree (coverPoints
 -- ---- a point taken
 
 kept-same : (g : Group) (i : ℕ) → imageKept (cover g) i ≡ coverImage (imageKept g i)
-kept-same g i = ap (λ (c : Cabinet). slot (cover g) i (bitOf (c .phase .version))) (cabinet-at g i) ∙ slot-at g i (bitOf (cabinet g i .phase .version))
+kept-same g i =
+    ap (λ (c : Cabinet). slot (cover g) (home (cover g) i) i (bitOf (c .phase .version))) (cabinet-at g i)
+    ∙ ap (λ h. slot (cover g) h i (bitOf (cabinet g i .phase .version))) (home-at g i) ∙ slot-at g (home g i) i (bitOf (cabinet g i .phase .version))
 
 images-same : (g : Group) → map coverImage (imagesKept g) ≡ imagesKept (cover g)
 unfolding imagesKept
@@ -85,9 +89,10 @@ point-covered ps g name =
 returned-covered : (p : Point) (g : Group) → cover (returned g p) ≡ returned (cover g) (coverPoint p)
 unfolding returned cover
 returned-covered p g =
-    ap (λ (cs : List Cabinet). withStore (withCabinets (cover g) cs) (map coverSlots (slotsSet p)))
+    ap (λ (cs : List Cabinet). withStore (withCabinets (cover g) cs) (coverStore (setSlots (g .store) (ofEach (bothSlots p)))))
     (rw (at 0, at 1, at 2, at 3, at 4, at 5, at 6, at 7))
-    ∙ ap (λ (ss : List Slots). withStore (withCabinets (cover g) (imagesSet (cover g) (coverPoint p))) ss)
+    ∙ ap (withStore (withCabinets (cover g) (imagesSet (cover g) (coverPoint p)))) (slots-set (g .store) (ofEach (bothSlots p)))
+    ∙ ap (λ (ss : List Slots). withStore (withCabinets (cover g) (imagesSet (cover g) (coverPoint p))) (setSlots (coverStore (g .store)) ss))
     (rw (image-at p 0, image-at p 1, image-at p 2, image-at p 3, image-at p 4, image-at p 5, image-at p 6, image-at p 7))
   where
     at : (i : ℕ) → coverCabinet (withPointImage g p i) ≡ withPointImage (cover g) (coverPoint p) i

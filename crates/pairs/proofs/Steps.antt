@@ -20,21 +20,24 @@ use Rattle.image.specs.Image.{firstNote, withOctet, withPiece}
 use Rattle.state.specs.declared.State.the-variants.{Normal, CheckpBegin, Checkpointing, Checkpointed, Error, Recovering, Recovered}
 use Rattle.state.specs.State.{isIn, inRecovery, inRestoring, inSaving, bitOf}
 use Rattle.settled.specs.declared.Reason.the-variants.{Decided}
+use Rattle.store.specs.declared.Store.{Store}
+use Rattle.store.specs.Store.{isLast, isAway, putPiece}
 use Rattle.cabinet.specs.declared.Cabinet.{Cabinet}
 use Rattle.cabinet.specs.Alarm.{isFor}
 use Rattle.cabinet.specs.Cabinet.{inUse, coordinator, withImage, taking, hurtFrom, wrote, owing, savedFor, fetched, restoredFor, unsureFor}
 use Rattle.group.specs.declared.Group.{Group}
 use Rattle.group.specs.declared.Outcome.{Outcome}
-use Rattle.group.specs.Group.{cabinet, withCabinet, stateOf, withOutgoing, line, withLine, slot, withSlots, withSlot, rowsOf, some, working, recoveringOnes, tripsOf, withTripsOf, settleOver, answering, taken, crashed}
+use Rattle.group.specs.Group.{cabinet, withCabinet, stateOf, withOutgoing, line, withLine, withStore, home, slot, rowsOf, some, working, recoveringOnes, tripsOf, withTripsOf, settleOver, answering, taken, crashed}
 use Rattle.protocol.specs.Moves.{takeCheckp, recoverWith, findLinkFault}
 use Rattle.protocol.specs.Receive.{serving, takes, takesFrom, joinIf, resumesFrom, receiveNormal, receiveCheckp, receiveResume, receiveRecover, receiveFault, receiveInvalid, receive}
-use Rattle.protocol.specs.Kinds.{need, orRefuse, noteRefusal, noteStep, beginStep, deliverRefusal, delivered, deliverStep, writePiece, oweIf, writeStep, reportSaved, commitIfAll, savedStep, fetchPiece, fetchStep, reportRestored, endIfAll, restoredStep, failCrashes, failStep, hurtAlready, markHurt, unlessRecovering, loseRefusal, lost, loseStep, tripCrashes, tripOnce, tripStep, isUnsure, takesUnsure, reportUnsure, decideIfAll, unsureStep}
+use Rattle.protocol.specs.Kinds.{need, orRefuse, noteRefusal, noteStep, beginStep, deliverRefusal, delivered, deliverStep, pieceSaved, writePiece, oweIf, writeStep, reportSaved, commitIfAll, savedStep, fetchPiece, fetchStep, reportRestored, comeBackIfAway, endIfAll, restoredStep, failCrashes, failStep, hurtAlready, markHurt, unlessRecovering, loseRefusal, lost, loseStep, tripCrashes, tripOnce, tripStep, isUnsure, takesUnsure, reportUnsure, decideIfAll, unsureStep}
 use Rattle.claims.proofs.State.Fun.{and-true}
 use Rattle.claims.proofs.State.Every.{second}
-use Rattle.pairs.specs.Covered.{coverImage, coverPayload, coverPacket, coverCabinet, cover, coverOutcome}
+use Rattle.pairs.specs.Covered.{coverImage, coverPayload, coverPacket, coverCabinet, coverStore, cover, coverOutcome}
 use Rattle.pairs.proofs.Parts.{note-covered, whole-piece-covered, empty-covered, normal-covered, at-covered, rest-covered, without-covered, fits-covered}
 use Rattle.pairs.proofs.Cabinets.{takingBus, take-covered, wrote-covered, fetch-covered}
-use Rattle.pairs.proofs.Groups.{cabinet-at, line-at, slot-at, cabinet-put, line-put, slot-put, Covers, is, path, Commutes, onto, at-cabinet, reads, working-covered, recovering-covered, join-covered, cut-all-covered, take-checkp-covered, reading, commit-covered, adopt-covered, recover-covered, settle-covered, error-covered, hear-covered, failed-covered, trip-covered, alarm-covered, end-covered, lost-covered, crash-all-covered, link-fault-covered}
+use Rattle.pairs.proofs.Stores.{last-kept, away-kept, piece-put}
+use Rattle.pairs.proofs.Groups.{cabinet-at, line-at, store-at, home-at, slot-at, cabinet-put, line-put, store-put, Covers, is, path, Commutes, onto, at-cabinet, reads, working-covered, recovering-covered, join-covered, cut-all-covered, take-checkp-covered, reading, commit-covered, adopt-covered, recover-covered, settle-covered, error-covered, hear-covered, leave-covered, come-back-covered, failed-covered, trip-covered, alarm-covered, end-covered, lost-covered, crash-all-covered, link-fault-covered}
 
 -- ---- outcomes
 
@@ -221,44 +224,57 @@ unfolding beginStep
 begin-step a g =
     refused (at (λ c. need (isIn (c .phase .state) Normal && eqb (coordinator c) a) 14 0) (λ c. refl) g a) g (took (onto (cut-all-covered a) (join-covered a g)))
 
--- what is read of a cabinet, and then of another that it names
+-- what is read of a cabinet, and of another
+of-two : {A B : Type 0} (f : Cabinet → B) (k : B → Cabinet → A) → ((x : Cabinet) → f (coverCabinet x) ≡ f x) → ((y : B) (x : Cabinet) → k y (coverCabinet x) ≡ k y x)
+    → (g : Group) (a : ℕ) {i j : ℕ} → i ≡ j → k (f (cabinet g a)) (cabinet g i) ≡ k (f (cabinet (cover g) a)) (cabinet (cover g) j)
+of-two f k kept same g a {i} named =
+    at (k (f (cabinet g a))) (same (f (cabinet g a))) g i
+    ∙ ap (λ y. k y (cabinet (cover g) i)) (at f kept g a)
+    ∙ ap (λ j. k (f (cabinet (cover g) a)) (cabinet (cover g) j)) named
+
+-- .. that the first names
 twice : {A B : Type 0} (f : Cabinet → B) (i : Cabinet → ℕ) (k : B → Cabinet → A)
     → ((x : Cabinet) → f (coverCabinet x) ≡ f x) → ((x : Cabinet) → i (coverCabinet x) ≡ i x) → ((y : B) (x : Cabinet) → k y (coverCabinet x) ≡ k y x)
     → (g : Group) (a : ℕ) → k (f (cabinet g a)) (cabinet g (i (cabinet g a))) ≡ k (f (cabinet (cover g) a)) (cabinet (cover g) (i (cabinet (cover g) a)))
-twice f i k kept named same g a =
-    at (k (f (cabinet g a))) (same (f (cabinet g a))) g (i (cabinet g a))
-    ∙ ap (λ y. k y (cabinet (cover g) (i (cabinet g a)))) (at f kept g a)
-    ∙ ap (λ j. k (f (cabinet (cover g) a)) (cabinet (cover g) j)) (at i named g a)
+twice f i k kept named same g a = of-two f k kept same g a (at i named g a)
+
+-- .. or that is its home
+home-same : (g : Group) (a : ℕ) → home g a ≡ home (cover g) a
+home-same g a = sym (home-at g a)
+
+at-home : {A : Type 0} (f : Cabinet → A) → ((x : Cabinet) → f (coverCabinet x) ≡ f x) → (g : Group) (a : ℕ) → f (cabinet g (home g a)) ≡ f (cabinet (cover g) (home (cover g) a))
+at-home f kept g a = at f kept g (home g a) ∙ ap (λ h. f (cabinet (cover g) h)) (home-same g a)
+
+-- piece k of c's image goes to the slot that its version does not name
+abbrev saves : Store → ℕ → Cabinet → Store
+saves s a c = putPiece s a (not (bitOf (c .phase .version))) (c .noted .pieces) (c .image)
 
 write-piece : (a : ℕ) → Commutes (λ g. writePiece g a)
-unfolding writePiece withSlot withSlots cabinet
+unfolding writePiece cabinet
 write-piece a g =
     onto {m = λ x. withCabinet x a (wrote (cabinet x a) a)} (at-cabinet (λ c. wrote c a) (wrote-covered a) a)
-    (is (slot-put g a (other (cabinet g a)) (withPiece (cabinet g a .noted .pieces) (cabinet g a .image) (slot g a (other (cabinet g a))))
-    ∙ ap (withSlot (cover g) a (other (cabinet g a))) (whole-piece-covered (cabinet g a .noted .pieces) (cabinet g a .image) (slot g a (other (cabinet g a)))
-    ∙ ap (withPiece (cabinet g a .noted .pieces) (coverImage (cabinet g a .image))) (sym (slot-at g a (other (cabinet g a)))))
-    ∙ ap (λ (c : Cabinet). withSlot (cover g) a (other c) (withPiece (c .noted .pieces) (c .image) (slot (cover g) a (other c)))) (sym (cabinet-at g a))))
-  where
-    other : Cabinet → Bool
-    other c = not (bitOf (c .phase .version))
+    (is (store-put g (pieceSaved g a)
+    ∙ ap (withStore (cover g)) (piece-put a (not (bitOf (cabinet g a .phase .version))) (cabinet g a .noted .pieces) (cabinet g a .image) (g .store)
+    ∙ ap (λ (c : Cabinet). saves (coverStore (g .store)) a c) (sym (cabinet-at g a)) ∙ ap (λ (s : Store). saves s a (cabinet (cover g) a)) (sym (store-at g)))))
 
 pub write-step : (a : ℕ) → Kind (λ g. writeStep g a)
 unfolding writeStep
 write-step a g =
-    refused (twice (λ c. isIn (c .phase .state) Checkpointing) (λ c. c .home) (λ t c. need t 14 (need (not (inRecovery (c .phase .state))) 19 0)) (λ c. refl) (λ c. refl) (λ t c. refl) g a) g
-    (took (is (path (owed (not (ltb (cabinet g a .noted .pieces) 3)) (cabinet g a .home) (write-piece a g))
-    ∙ ap (λ (c : Cabinet). oweIf (not (ltb (c .noted .pieces) 3)) (writePiece (cover g) a) (c .home) a) (sym (cabinet-at g a)))))
+    refused (of-two (λ c. isIn (c .phase .state) Checkpointing) (λ t c. need t 14 (need (not (inRecovery (c .phase .state))) 19 0)) (λ c. refl) (λ t c. refl) g a (home-same g a)) g
+    (took (is (path (owed (not (ltb (cabinet g a .noted .pieces) 3)) (home g a) (write-piece a g))
+    ∙ ap (λ (c : Cabinet). oweIf (not (ltb (c .noted .pieces) 3)) (writePiece (cover g) a) (home g a) a) (sym (cabinet-at g a))
+    ∙ ap (λ h. oweIf (not (ltb (cabinet (cover g) a .noted .pieces) 3)) (writePiece (cover g) a) h a) (home-same g a))))
   where
     owed : (t : Bool) (h : ℕ) {x y : Group} → Covers x y → Covers (oweIf t x h a) (oweIf t y h a)
     owed true h e = onto {m = λ x. withCabinet x h (owing (cabinet x h) a true)} (at-cabinet (λ c. owing c a true) (λ c. refl) h) e
     owed false h e = e
 
--- the home of a, and the coordinator in its table
+-- the coordinator in the table of a's home
 abbrev leads : Group → ℕ → ℕ
-leads g a = coordinator (cabinet g (cabinet g a .home))
+leads g a = coordinator (cabinet g (home g a))
 
 leads-same : (g : Group) (a : ℕ) → leads g a ≡ leads (cover g) a
-leads-same g a = twice (λ c. c .home) (λ c. c .home) (λ h c. coordinator c) (λ c. refl) (λ c. refl) (λ h c. refl) g a
+leads-same g a = at-home coordinator (λ c. refl) g a
 
 report-saved : (a h k : ℕ) → Commutes (λ g. reportSaved g a h k)
 unfolding reportSaved
@@ -272,26 +288,33 @@ commit-all k g = either (at (λ c. covers (c .noted .saved) (c .table .cabinets)
 pub saved-step : (a : ℕ) → Kind (λ g. savedStep g a)
 unfolding savedStep
 saved-step a g =
-    refused (ap (λ k. need (marked (cabinet g (cabinet g a .home) .owed) a && inSaving (stateOf g k)) 19 0) (leads-same g a)
-    ∙ ap (λ t. need (t && inSaving (stateOf g (leads (cover g) a))) 19 0) (twice (λ c. c .home) (λ c. c .home) (λ h c. marked (c .owed) a) (λ c. refl) (λ c. refl) (λ h c. refl) g a)
-    ∙ at (λ c. need (marked (cabinet (cover g) (cabinet (cover g) a .home) .owed) a && inSaving (c .phase .state)) 19 0) (λ c. refl) g (leads (cover g) a)) g
-    (took (is (path (onto (commit-all (leads g a)) (report-saved a (cabinet g a .home) (leads g a) g))
-    ∙ ap (λ k. commitIfAll (reportSaved (cover g) a (cabinet g a .home) k) k) (leads-same g a)
-    ∙ ap (λ h. commitIfAll (reportSaved (cover g) a h (leads (cover g) a)) (leads (cover g) a)) (at (λ c. c .home) (λ c. refl) g a))))
+    refused (ap (λ k. need (marked (cabinet g (home g a) .owed) a && inSaving (stateOf g k)) 19 0) (leads-same g a)
+    ∙ ap (λ t. need (t && inSaving (stateOf g (leads (cover g) a))) 19 0) (at-home (λ c. marked (c .owed) a) (λ c. refl) g a)
+    ∙ at (λ c. need (marked (cabinet (cover g) (home (cover g) a) .owed) a && inSaving (c .phase .state)) 19 0) (λ c. refl) g (leads (cover g) a)) g
+    (took (is (path (onto (commit-all (leads g a)) (report-saved a (home g a) (leads g a) g))
+    ∙ ap (λ k. commitIfAll (reportSaved (cover g) a (home g a) k) k) (leads-same g a)
+    ∙ ap (λ h. commitIfAll (reportSaved (cover g) a h (leads (cover g) a)) (leads (cover g) a)) (home-same g a))))
 
 pub fetch-step : (a : ℕ) → Kind (λ g. fetchStep g a)
 unfolding fetchStep fetchPiece
 fetch-step a g =
-    refused (twice (λ c. isIn (c .phase .state) Recovering) (λ c. c .home) (λ t c. need t 14 (need (inRestoring (c .phase .state)) 19 0)) (λ c. refl) (λ c. refl) (λ t c. refl) g a) g
-    (took (is (cabinet-put g a (fetched (cabinet g a) (withPiece (cabinet g a .noted .pieces) (slot g a v) (cabinet g a .image)))
-    ∙ ap (withCabinet (cover g) a) (fetch-covered (cabinet g a) (withPiece (cabinet g a .noted .pieces) (slot g a v) (cabinet g a .image))
-    ∙ ap (fetched (coverCabinet (cabinet g a))) (whole-piece-covered (cabinet g a .noted .pieces) (slot g a v) (cabinet g a .image)
-    ∙ ap (λ (m : Image). withPiece (cabinet g a .noted .pieces) m (coverImage (cabinet g a .image))) (sym (slot-at g a v)
-    ∙ ap (slot (cover g) a) (twice (λ c. c .home) (λ c. c .home) (λ h c. bitOf (c .phase .version)) (λ c. refl) (λ c. refl) (λ h c. refl) g a))))
-    ∙ ap (λ (c : Cabinet). withCabinet (cover g) a (fetched c (withPiece (c .noted .pieces) (slot (cover g) a (bitOf (cabinet (cover g) (cabinet (cover g) a .home) .phase .version))) (c .image)))) (sym (cabinet-at g a)))))
+    refused (of-two (λ c. isIn (c .phase .state) Recovering) (λ t c. need t 14 (need (inRestoring (c .phase .state)) 19 0)) (λ c. refl) (λ t c. refl) g a (home-same g a)) g
+    (took (is (cabinet-put g a (fetched (cabinet g a) (withPiece (cabinet g a .noted .pieces) kept (cabinet g a .image)))
+    ∙ ap (withCabinet (cover g) a) (fetch-covered (cabinet g a) (withPiece (cabinet g a .noted .pieces) kept (cabinet g a .image))
+    ∙ ap (fetched (coverCabinet (cabinet g a))) (whole-piece-covered (cabinet g a .noted .pieces) kept (cabinet g a .image)
+    ∙ ap (λ (m : Image). withPiece (cabinet g a .noted .pieces) m (coverImage (cabinet g a .image))) kept-same))
+    ∙ ap (λ (c : Cabinet). withCabinet (cover g) a (fetched c (withPiece (c .noted .pieces) (slot (cover g) (home (cover g) a) a (bitOf (cabinet (cover g) (home (cover g) a) .phase .version))) (c .image)))) (sym (cabinet-at g a)))))
   where
     v : Bool
-    v = bitOf (cabinet g (cabinet g a .home) .phase .version)
+    v = bitOf (cabinet g (home g a) .phase .version)
+
+    kept : Image
+    kept = slot g (home g a) a v
+
+    kept-same : coverImage kept ≡ slot (cover g) (home (cover g) a) a (bitOf (cabinet (cover g) (home (cover g) a) .phase .version))
+    kept-same =
+        sym (slot-at g (home g a) a v) ∙ ap (λ h. slot (cover g) h a v) (home-same g a)
+        ∙ ap (slot (cover g) (home (cover g) a) a) (at-home (λ c. bitOf (c .phase .version)) (λ c. refl) g a)
 
 -- the coordinator in the table of a
 abbrev chief : Group → ℕ → ℕ
@@ -310,35 +333,44 @@ end-all k g =
     either (at (λ c. isIn (c .phase .state) Recovered && covers (c .noted .restored) (c .table .cabinets)) (λ c. refl) g k)
     (onto settle-over (onto (end-covered k) (lost-covered k g))) (is refl)
 
+back-if-away : (a : ℕ) → Commutes (λ g. comeBackIfAway g a)
+unfolding comeBackIfAway
+back-if-away a g =
+    either (sym (ap (λ (s : Store). isAway s a) (store-at g) ∙ away-kept (g .store) a)) (come-back-covered a g) (is refl)
+
 pub restored-step : (a : ℕ) → Kind (λ g. restoredStep g a)
 unfolding restoredStep reportRestored
 restored-step a g =
     refused (twice {A = ℕ} {B = Bool × Bool} (λ c. (isIn (c .phase .state) Recovered, covers (c .noted .heard) (inUse c))) coordinator
     (λ t k. need (t .0) 14 (need (not (marked (k .noted .restored) a) && (t .1 && inRestoring (k .phase .state))) 19 0)) (λ c. refl) (λ c. refl) (λ t c. refl) g a) g
-    (took (is (path (onto (end-all (chief g a)) (at-cabinet (λ c. restoredFor c a) (λ c. refl) (chief g a) g))
-    ∙ ap (λ k. endIfAll (reportRestored (cover g) a k) k) (chief-same g a))))
+    (took (is (path (onto (end-all (chief g a)) (onto (back-if-away a) (at-cabinet (λ c. restoredFor c a) (λ c. refl) (chief g a) g)))
+    ∙ ap (λ k. endIfAll (comeBackIfAway (reportRestored (cover g) a k) a) k) (chief-same g a))))
 
 -- what a fail and a trip ask before they crash the group
 reach-same : (g : Group) (a : ℕ) → connected (rowsOf (g .sound)) (set (working g) a false) ≡ connected (rowsOf (cover g .sound)) (set (working (cover g)) a false)
 unfolding cover
 reach-same g a = ap (λ m. connected (rowsOf (g .sound)) (set m a false)) (sym (working-covered g))
 
+last-same : (g : Group) (a : ℕ) → isLast (g .store) a ≡ isLast (cover g .store) a
+last-same g a = sym (ap (λ (s : Store). isLast s a) (store-at g) ∙ last-kept (g .store) a)
+
 fail-crashes : (g : Group) (a : ℕ) → failCrashes g a ≡ failCrashes (cover g) a
 fail-crashes g a =
-    ap (λ t. cabinet g a .store || (some (recoveringOnes g) || not t)) (reach-same g a)
-    ∙ ap (λ m. cabinet g a .store || (some m || not (connected (rowsOf (cover g .sound)) (set (working (cover g)) a false)))) (sym (recovering-covered g))
-    ∙ at (λ c. c .store || (some (recoveringOnes (cover g)) || not (connected (rowsOf (cover g .sound)) (set (working (cover g)) a false)))) (λ c. refl) g a
+    ap (λ t. isLast (g .store) a || (some (recoveringOnes g) || not t)) (reach-same g a)
+    ∙ ap (λ m. isLast (g .store) a || (some m || not (connected (rowsOf (cover g .sound)) (set (working (cover g)) a false)))) (sym (recovering-covered g))
+    ∙ ap (λ t. t || (some (recoveringOnes (cover g)) || not (connected (rowsOf (cover g .sound)) (set (working (cover g)) a false)))) (last-same g a)
 
 pub fail-step : (a : ℕ) → Kind (λ g. failStep g a)
 unfolding failStep
 fail-step a g =
-    both (fail-crashes g a) (gives (crash-all-covered g)) (took (onto (alarm-covered 8 a (AtFailed a)) (failed-covered a g)))
+    both (fail-crashes g a) (gives (crash-all-covered g)) (took (onto (alarm-covered 8 a (AtFailed a)) (onto (failed-covered a) (leave-covered a g))))
 
 trip-crashes : (g : Group) (a : ℕ) → tripCrashes g a ≡ tripCrashes (cover g) a
 trip-crashes g a =
-    ap (λ t. cabinet g a .store || (some (recoveringOnes g) || (eqb (coordinator (cabinet g a)) a && not t))) (reach-same g a)
-    ∙ ap (λ m. cabinet g a .store || (some m || (eqb (coordinator (cabinet g a)) a && not (connected (rowsOf (cover g .sound)) (set (working (cover g)) a false))))) (sym (recovering-covered g))
-    ∙ at (λ c. c .store || (some (recoveringOnes (cover g)) || (eqb (coordinator c) a && not (connected (rowsOf (cover g .sound)) (set (working (cover g)) a false))))) (λ c. refl) g a
+    ap (λ t. isLast (g .store) a || (some (recoveringOnes g) || (eqb (coordinator (cabinet g a)) a && not t))) (reach-same g a)
+    ∙ ap (λ m. isLast (g .store) a || (some m || (eqb (coordinator (cabinet g a)) a && not (connected (rowsOf (cover g .sound)) (set (working (cover g)) a false))))) (sym (recovering-covered g))
+    ∙ at (λ c. isLast (g .store) a || (some (recoveringOnes (cover g)) || (eqb (coordinator c) a && not (connected (rowsOf (cover g .sound)) (set (working (cover g)) a false))))) (λ c. refl) g a
+    ∙ ap (λ t. t || (some (recoveringOnes (cover g)) || (eqb (coordinator (cabinet (cover g) a)) a && not (connected (rowsOf (cover g .sound)) (set (working (cover g)) a false))))) (last-same g a)
 
 count-trip : (a k : ℕ) → Commutes (λ g. withTripsOf g a k)
 unfolding withTripsOf cover
@@ -352,7 +384,7 @@ trip-once : (a k : ℕ) → Kind (λ g. tripOnce g a k)
 unfolding tripOnce
 trip-once a k g =
     both (trip-crashes g a) (gives (crash-all-covered g))
-    (took (onto (alarm-covered 8 a (AtTripped a)) (onto (trip-covered a) (count-trip a k g))))
+    (took (onto (alarm-covered 8 a (AtTripped a)) (onto (trip-covered a) (onto (leave-covered a) (count-trip a k g)))))
 
 pub trip-step : (a : ℕ) → Kind (λ g. tripStep g a)
 unfolding tripStep

@@ -397,11 +397,11 @@ image-buses g h e i = seen g ∙ ap (λ (x : Group). busesOf (cabinet x i .image
     seen : (g : Group) → busesOf (cabinet g i .image) ≡ busesOf (cabinet (cover g) i .image)
     seen g = bus (cabinet g i .image) ∙ ap (λ (c : Cabinet). busesOf (c .image)) (sym (cabinet-at g i))
 
-slot-buses : (g h : Group) → cover g ≡ cover h → (i : ℕ) (v : Bool) → busesOf (slot g i v) ≡ busesOf (slot h i v)
-slot-buses g h e i v = seen g ∙ ap (λ (x : Group). busesOf (slot x i v)) e ∙ sym (seen h)
+slot-buses : (g h : Group) → cover g ≡ cover h → (s i : ℕ) (v : Bool) → busesOf (slot g s i v) ≡ busesOf (slot h s i v)
+slot-buses g h e s i v = seen g ∙ ap (λ (x : Group). busesOf (slot x s i v)) e ∙ sym (seen h)
   where
-    seen : (g : Group) → busesOf (slot g i v) ≡ busesOf (slot (cover g) i v)
-    seen g = bus (slot g i v) ∙ ap busesOf (sym (slot-at g i v))
+    seen : (g : Group) → busesOf (slot g s i v) ≡ busesOf (slot (cover g) s i v)
+    seen g = bus (slot g s i v) ∙ ap busesOf (sym (slot-at g s i v))
 
 point-buses : (p q : Points) → coverPoints p ≡ coverPoints q → (k i : ℕ) → busesOf (imageAt (pointAt p k) i) ≡ busesOf (imageAt (pointAt q k) i)
 point-buses p q e k i = seen p ∙ ap (λ (x : Points). busesOf (imageAt (pointAt x k) i)) e ∙ sym (seen q)

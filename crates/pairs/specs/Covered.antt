@@ -25,7 +25,9 @@ use Rattle.cabinet.specs.declared.Cabinet.{Cabinet}
 use Rattle.cabinet.specs.Cabinet.{withImage, withRegisters}
 use Rattle.points.specs.declared.Point.{Point}
 use Rattle.points.specs.declared.Points.{Points}
-use Rattle.group.specs.declared.Slots.{Slots}
+use Rattle.store.specs.declared.Slots.{Slots}
+use Rattle.store.specs.declared.Store.{Store}
+use Rattle.store.specs.Store.{withFirsts, withSeconds}
 use Rattle.group.specs.declared.Group.{Group}
 use Rattle.group.specs.declared.Outcome.{Outcome}
 use Rattle.group.specs.Group.{withCabinets, withLines, withStore, answering}
@@ -91,9 +93,13 @@ coverCabinet c = withImage (withRegisters c (coverRegisters (c .registers))) (co
 abbrev pub coverSlots : Slots → Slots
 coverSlots s = record { zero = coverImage (s .zero); one = coverImage (s .one) }
 
+-- both copies of each slot, and no more of the store
+abbrev pub coverStore : Store → Store
+coverStore s = withSeconds (withFirsts s (map coverSlots (s .firsts))) (map coverSlots (s .seconds))
+
 unfoldable pub cover : Group → Group
 cover g =
-    withStore (withLines (withCabinets g (map coverCabinet (g .cabinets))) (map coverOutgoing (g .outgoing))) (map coverSlots (g .store))
+    withStore (withLines (withCabinets g (map coverCabinet (g .cabinets))) (map coverOutgoing (g .outgoing))) (coverStore (g .store))
 
 abbrev pub coverPoint : Point → Point
 coverPoint p = record { kept = p .kept; name = p .name; images = map coverImage (p .images) }

@@ -54,9 +54,9 @@ abbrev pub busesOf : Image → ℕ × ℕ
 busesOf m = (booking A m, booking B m)
 
 pub record Agree (s t : Site) : Type 0 where
-  -- of every cabinet, in the image that it works on and in both slots, and of every point
+  -- of every cabinet, in the image that it works on and in both slots, as each store has them, and of every point
   pub buses : (i : ℕ) → busesOf (cabinet (s .group) i .image) ≡ busesOf (cabinet (t .group) i .image)
-  pub slots : (i : ℕ) (v : Bool) → busesOf (slot (s .group) i v) ≡ busesOf (slot (t .group) i v)
+  pub slots : (h i : ℕ) (v : Bool) → busesOf (slot (s .group) h i v) ≡ busesOf (slot (t .group) h i v)
   pub points : (k i : ℕ) → busesOf (imageAt (pointAt (s .points) k) i) ≡ busesOf (imageAt (pointAt (t .points) k) i)
   -- "logical states", with the versions
   pub states : (i : ℕ) → stateOf (s .group) i ≡ stateOf (t .group) i
@@ -64,7 +64,8 @@ pub record Agree (s t : Site) : Type 0 where
   -- the answer to the question which word settled it
   pub words : whichWord (s .group) ≡ whichWord (t .group)
   -- What may differ is what `Covered` covers: octets 4 and 5 of images, slots and points, amount and own check of workshop packets, and the
-  -- CRCs of registers and checkps. All else is equal: notes, tables, lines, hurt marks, reports, counts of packets and of trips.
+  -- CRCs of registers and checkps. All else is equal: notes, tables, lines, hurt marks, reports, which stores are away, counts of packets and of
+  -- trips.
   pub allElse : coverSite s ≡ coverSite t
 
 -- After every operation: the first k, whatever k is. The answers are those of all operations, in order.

@@ -2,14 +2,15 @@
 use cabinet::Cabinet;
 use group::Group;
 use group::Outcome;
-use group::Slots;
 use image::Image;
 use points::Point;
 use points::Points;
 use protocol::Noted;
+use store::Slots;
 ghost use mathlib.Core.Path.{_≡_};
 ghost use Rattle.state.specs.State.{bitOf};
-ghost use Rattle.protocol.specs.Points.{imageKept, imagesKept, pointOf, pointRefusal, noting, takePoint, withPointImage, bothSlots, imagesSet, slotsSet, returned, returnRefusal, returnTo};
+ghost use Rattle.store.specs.Store.{ofEach};
+ghost use Rattle.protocol.specs.Points.{imageKept, imagesKept, pointOf, pointRefusal, noting, takePoint, withPointImage, bothSlots, imagesSet, returned, returnRefusal, returnTo};
 
 // ---- take a point
 
@@ -26,7 +27,7 @@ fn image_kept(g: Group, i: u8) -> Image
     ensures { λ r. ⌜ r ≡ imageKept g i ⌝ }
 {
     let c = g.cabinet(i);
-    g.slot(i, named_slot(c))
+    g.slot(g.home(i), i, named_slot(c))
 }
 
 fn images_kept(g: Group) -> [Image; 8]
@@ -120,7 +121,7 @@ fn both_slots(p: Point, i: u8) -> Slots
 }
 
 fn slots_set(p: Point) -> [Slots; 8]
-    ensures { λ r. ⌜ r ≡ slotsSet p ⌝ }
+    ensures { λ r. ⌜ r ≡ ofEach (bothSlots p) ⌝ }
 {
     [
         both_slots(p, 0),
@@ -134,16 +135,15 @@ fn slots_set(p: Point) -> [Slots; 8]
     ]
 }
 
-// Every cabinet, a failed one too, has the point's image, and so have both of its slots.
+// Every cabinet, a failed one too, has the point's image, and so have both of its slots, at both stores of its pair.
 fn returned(g: Group, p: Point) -> Group
     ensures { λ r. ⌜ r ≡ returned g p ⌝ }
 {
-    let mut h = g;
+    let store = g.store;
     let cabinets = images_set(g, p);
-    let store = slots_set(p);
+    let mut h = g;
     h.cabinets = cabinets;
-    h.store = store;
-    h
+    h.with_store(store.set_slots(slots_set(p)))
 }
 
 fn return_refusal(points: Points, g: Group, name: [u8; 8]) -> u8

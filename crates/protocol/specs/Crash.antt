@@ -20,6 +20,7 @@ use Rattle.line.specs.Line.{oldest}
 use Rattle.state.specs.declared.State.{State}
 use Rattle.state.specs.declared.State.the-variants.{Normal, CheckpBegin, Checkpointing, Checkpointed, Error, Recovering, Recovered}
 use Rattle.cabinet.specs.declared.Alarm.the-variants.{Fault as For}
+use Rattle.store.specs.Store.{isStore, isPresent, partner}
 use Rattle.cabinet.specs.declared.Cabinet.{Cabinet}
 use Rattle.group.specs.declared.Group.{Group}
 use Rattle.cabinet.specs.Cabinet.{inUse, coordinator}
@@ -86,12 +87,16 @@ pub data LinkFault (c : Cabinet) (a : ℕ) : Packet → Type 0 where
 abbrev pub LineInUse : Group → ℕ → ℕ → Type 0
 LineInUse g a b = marked (inUse (cabinet g b)) a ≡ true
 
+-- "for a store the group crashes only when neither is left": a store fails or trips, and its partner, if it names one, is not present
+abbrev pub NeitherLeft : Group → ℕ → Type 0
+NeitherLeft g a = (isStore (g .store) a ≡ true) × (isPresent (g .store) (partner (g .store) a) ≡ false)
+
 -- ---- the sentence
 
 -- "The group crashes when, and only when:"
 pub data Cause (g : Group) : Step → Type 0 where
-  -- "a store cabinet fails;"
-  store-fails : {a : ℕ} → cabinet g (a - 1) .store ≡ true → Cause g (Fail a)
+  -- "a store cabinet fails;" where document 02, card 10 leaves it
+  store-fails : {a : ℕ} → NeitherLeft g (a - 1) → Cause g (Fail a)
   -- "a cabinet fails, .., while some working cabinet is in error, recovering or recovered;"
   fails-in-recovery : {a : ℕ} → SomeRecovers g → Cause g (Fail a)
   -- "or damage is done, while some working cabinet is in error, recovering or recovered;"
@@ -105,8 +110,8 @@ pub data Cause (g : Group) : Step → Type 0 where
   -- "or at the finding of a link fault (that link left out) some working cabinet is not reached"
   link-parts : {a b : ℕ} → LineInUse g (a - 1) (b - 1) → LinkFault (cabinet g (b - 1)) (a - 1) (oldest (line g (a - 1) (b - 1)))
       → Unreached (struck (soundLinks g) (a - 1) (b - 1)) (working g) → Cause g (Deliver a b)
-  -- document 02, card 5: "A store cabinet's trip crashes the group,"
-  store-trips : {a : ℕ} → cabinet g (a - 1) .store ≡ true → Cause g (Trip a)
+  -- document 02, card 5: "A store cabinet's trip crashes the group," where card 10 leaves it
+  store-trips : {a : ℕ} → NeitherLeft g (a - 1) → Cause g (Trip a)
   -- "and so does a trip while some working cabinet is in error, recovering or recovered."
   trips-in-recovery : {a : ℕ} → SomeRecovers g → Cause g (Trip a)
   -- "The coordinator's trip also crashes the group wherever its fail would"

@@ -16,14 +16,16 @@ use Rattle.packet.specs.Packet.{packed, isEmpty, isNormal, patternRight, damage
 use Rattle.line.specs.Line.{oldest, rest, put, normals, packetAt, replaced, without}
 use Rattle.state.specs.declared.State.the-variants.{Normal, Checkpointing, Error, Recovering, Recovered}
 use Rattle.settled.specs.declared.Reason.the-variants.{Decided}
+use Rattle.store.specs.declared.Store.{Store}
+use Rattle.store.specs.Store.{isLast, isAway, putPiece}
 use Rattle.cabinet.specs.declared.Cabinet.{Cabinet}
 use Rattle.group.specs.declared.Group.{Group}
 use Rattle.group.specs.declared.Outcome.{Outcome}
 use Rattle.state.specs.State.{isIn, isUnknown, inRecovery, inRestoring, inSaving, bitOf}
 use Rattle.image.specs.Image.{booking, firstNote, withOctet, withPiece}
 use Rattle.cabinet.specs.Cabinet.{inUse, coordinator, withImage, sending, hurtFrom, wrote, owing, savedFor, fetched, restoredFor, unsureFor}
-use Rattle.group.specs.Group.{cabinet, withCabinet, stateOf, home, line, withLine, slot, withSlot, rowsOf, some, working, recoveringOnes, tripsOf, withTripsOf, settle, settleOver, answering, taken, crashed}
-use Rattle.protocol.specs.Moves.{join, cutIfAll, commit, recoverWith, markFailed, trip, alarmTo, endRecovery, noteLost}
+use Rattle.group.specs.Group.{cabinet, withCabinet, stateOf, home, line, withLine, withStore, slot, rowsOf, some, working, recoveringOnes, tripsOf, withTripsOf, settle, settleOver, answering, taken, crashed}
+use Rattle.protocol.specs.Moves.{join, cutIfAll, commit, recoverWith, leave, comeBack, markFailed, trip, alarmTo, endRecovery, noteLost}
 use Rattle.protocol.specs.Receive.{receive}
 
 -- a check of a refusal: where the test does not hold the answer is k, else the next check decides
@@ -95,13 +97,13 @@ abbrev pub writeRefusal : Group → ℕ → ℕ
 writeRefusal g a =
     need (isIn (stateOf g a) Checkpointing) 14 (need (not (inRecovery (stateOf g (home g a)))) 19 0)
 
--- "Pieces go to slot 1 − version."
+-- "Pieces go to slot 1 − version.", at each store of the pair that is present
+abbrev pub pieceSaved : Group → ℕ → Store
+pieceSaved g a =
+    putPiece (g .store) a (not (bitOf (cabinet g a .phase .version))) (cabinet g a .noted .pieces) (cabinet g a .image)
+
 unfoldable pub writePiece : Group → ℕ → Group
-writePiece g a =
-    withCabinet
-    (withSlot g a (not (bitOf (cabinet g a .phase .version)))
-    (withPiece (cabinet g a .noted .pieces) (cabinet g a .image) (slot g a (not (bitOf (cabinet g a .phase .version))))))
-    a (wrote (cabinet g a) a)
+writePiece g a = withCabinet (withStore g (pieceSaved g a)) a (wrote (cabinet g a) a)
 
 -- with piece 3 "The home then owes one saved report"
 abbrev pub oweIf : Bool → Group → ℕ → ℕ → Group
@@ -142,12 +144,12 @@ savedStep g a =
 abbrev pub fetchRefusal : Group → ℕ → ℕ
 fetchRefusal g a = need (isIn (stateOf g a) Recovering) 14 (need (inRestoring (stateOf g (home g a))) 19 0)
 
--- "from the slot of the home's version"
+-- "from the slot of the home's version", as the home has it
 unfoldable pub fetchPiece : Group → ℕ → Group
 fetchPiece g a =
     withCabinet g a
     (fetched (cabinet g a)
-    (withPiece (cabinet g a .noted .pieces) (slot g a (bitOf (cabinet g (home g a) .phase .version))) (cabinet g a .image)))
+    (withPiece (cabinet g a .noted .pieces) (slot g (home g a) a (bitOf (cabinet g (home g a) .phase .version))) (cabinet g a .image)))
 
 unfoldable pub fetchStep : Group → ℕ → Outcome
 fetchStep g a = orRefuse (fetchRefusal g a) g (taken (fetchPiece g a))
@@ -165,6 +167,10 @@ restoredRefusal g a =
 unfoldable pub reportRestored : Group → ℕ → ℕ → Group
 reportRestored g a k = withCabinet g k (restoredFor (cabinet g k) a)
 
+-- a store that is away comes back in the step in which it reports
+unfoldable pub comeBackIfAway : Group → ℕ → Group
+comeBackIfAway g a = cond (isAway (g .store) a) (comeBack g a) g
+
 -- "When the coordinator, in recovered, has restored reports from all in its table": the end of the recovery. A failed cabinet's image is
 -- then that of the save restored; who settled the recovery stays
 unfoldable pub endIfAll : Group → ℕ → Group
@@ -174,18 +180,18 @@ endIfAll g k =
 unfoldable pub restoredStep : Group → ℕ → Outcome
 restoredStep g a =
     orRefuse (restoredRefusal g a) g
-    (taken (endIfAll (reportRestored g a (coordinator (cabinet g a))) (coordinator (cabinet g a))))
+    (taken (endIfAll (comeBackIfAway (reportRestored g a (coordinator (cabinet g a))) a) (coordinator (cabinet g a))))
 
 -- ---- 10 fail
 
--- "a store cabinet fails; a cabinet fails .. while some working cabinet is in error, recovering or recovered; .. or at a fail
+-- "for a store the group crashes only when neither is left"; "a cabinet fails .. while some working cabinet is in error, recovering or recovered; .. or at a fail
 -- (the failing one left out) .. some working cabinet is not reached"
 abbrev pub failCrashes : Group → ℕ → Bool
 failCrashes g a =
-    cabinet g a .store || (some (recoveringOnes g) || not (connected (rowsOf (g .sound)) (set (working g) a false)))
+    isLast (g .store) a || (some (recoveringOnes g) || not (connected (rowsOf (g .sound)) (set (working g) a false)))
 
 unfoldable pub failStep : Group → ℕ → Outcome
-failStep g a = cond (failCrashes g a) (crashed g) (taken (alarmTo 8 (markFailed g a) a (AtFailed a)))
+failStep g a = cond (failCrashes g a) (crashed g) (taken (alarmTo 8 (markFailed (leave g a) a) a (AtFailed a)))
 
 -- ---- what damage and loss share
 
@@ -240,17 +246,17 @@ loseStep g a b p = orRefuse (loseRefusal g a b p) g (unlessRecovering g (lost g 
 
 -- ---- 13 trip
 
--- "A store cabinet's trip crashes the group, and so does a trip while some working cabinet is in error, recovering or recovered. The
+-- a store's trip as its fail; "and so does a trip while some working cabinet is in error, recovering or recovered. The
 -- coordinator's trip also crashes the group wherever its fail would"
 abbrev pub tripCrashes : Group → ℕ → Bool
 tripCrashes g a =
-    cabinet g a .store
+    isLast (g .store) a
     || (some (recoveringOnes g)
     || (eqb (coordinator (cabinet g a)) a && not (connected (rowsOf (g .sound)) (set (working g) a false))))
 
 -- the k-th trip of a since the last commit
 unfoldable pub tripOnce : Group → ℕ → ℕ → Outcome
-tripOnce g a k = cond (tripCrashes g a) (crashed g) (taken (alarmTo 8 (trip (withTripsOf g a k) a) a (AtTripped a)))
+tripOnce g a k = cond (tripCrashes g a) (crashed g) (taken (alarmTo 8 (trip (leave (withTripsOf g a k) a) a) a (AtTripped a)))
 
 -- "A third trip of the same cabinet with no commit between .. is a fail."
 unfoldable pub tripStep : Group → ℕ → Outcome

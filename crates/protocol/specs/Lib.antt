@@ -22,5 +22,6 @@ pub mod Unsure
 pub mod OwnChecks
 pub mod Words
 pub mod Workshop
+pub mod Partners
 pub mod Answers
 pub mod Crash

@@ -18,7 +18,7 @@ twoOctets v = v / 256 ∷ v % 256 ∷ []
 
 -- the header of a file of n cabinets and m links
 abbrev pub header : ℕ → ℕ → List ℕ
-header n m = twoOctets n ++ twoOctets m ++ twoOctets 10 ++ twoOctets (10 + 8 * n) ++ twoOctets (10 + 8 * n + 2 * m)
+header n m = twoOctets n ++ twoOctets m ++ twoOctets 10 ++ twoOctets (10 + 9 * n) ++ twoOctets (10 + 9 * n + 2 * m)
 
 -- what a cabinet books: for outlet A, for outlet B and for the workshop
 pub record Bookings : Type 0 where
@@ -32,10 +32,10 @@ onlyA a = record { a = a; b = 0; w = 0 }
 abbrev pub forBuses : ℕ × ℕ → Bookings
 forBuses x = record { a = x .0; b = x .1; w = 0 }
 
--- the entries of cabinets i, i + 1 and so on; cabinet s is the one store and the home of all
+-- the entries of cabinets i, i + 1 and so on; cabinet s is the one store and the home of all, and has no partner
 abbrev pub entriesFrom : ℕ → ℕ → List Bookings → List ℕ
 entriesFrom s i [] = []
-entriesFrom s i (x ∷ xs) = s ∷ cond (eqb i s) 1 0 ∷ twoOctets (x .a) ++ twoOctets (x .b) ++ twoOctets (x .w) ++ entriesFrom s (suc i) xs
+entriesFrom s i (x ∷ xs) = s ∷ cond (eqb i s) 1 0 ∷ twoOctets (x .a) ++ twoOctets (x .b) ++ twoOctets (x .w) ++ 0 ∷ entriesFrom s (suc i) xs
 
 -- a link is two numbers of the list
 abbrev pub fileAll : ℕ → List Bookings → List ℕ → List ℕ

@@ -16,15 +16,16 @@ use Rattle.state.specs.declared.Version.{Version}
 use Rattle.state.specs.declared.Version.the-variants.{Known, Unknown, Lost}
 use Rattle.settled.specs.declared.Reason.{Reason}
 use Rattle.settled.specs.Settled.{reasonOf}
+use Rattle.store.specs.Store.{partner, homedAt, leaves, comesBack}
 use Rattle.cabinet.specs.declared.Cabinet.{Cabinet}
 use Rattle.cabinet.specs.declared.Alarm.{Alarm}
 use Rattle.cabinet.specs.declared.Alarm.the-variants.{Quiet, Fault as At}
 use Rattle.group.specs.declared.Group.{Group}
 use Rattle.group.specs.declared.Outcome.{Outcome}
 use Rattle.state.specs.State.{flipped, adopted, works}
-use Rattle.cabinet.specs.Cabinet.{inUse, coordinator, beginning, comparing, cutting, resuming, alarmed, blanked, hearing, recovering, withState, withVersion}
+use Rattle.cabinet.specs.Cabinet.{inUse, coordinator, beginning, comparing, cutting, resuming, alarmed, blanked, hearing, recovering, withState, withVersion, owingAlso, owingBut, owingNone}
 use Rattle.outgoing.specs.Lines.{emptyLines, putAll, putCheckps}
-use Rattle.group.specs.Group.{cabinet, withCabinet, stateOf, outgoing, withOutgoing, withLine, rowsOf, withSound, working, forgetTrips, settle, taken, crashed}
+use Rattle.group.specs.Group.{cabinet, withCabinet, withStore, stateOf, outgoing, withOutgoing, withLine, rowsOf, withSound, working, forgetTrips, settle, taken, crashed}
 
 -- a packet on all lines in use of cabinet i
 unfoldable pub broadcast : Group → ℕ → Packet → Group
@@ -98,6 +99,23 @@ findLinkFault before g a b =
 abbrev pub emptiedTo : ℕ → Group → ℕ → Group
 emptiedTo zero g a = g
 emptiedTo (suc n) g a = withLine (emptiedTo n g a) n a emptyLine
+
+-- Document 02, card 10: a store that fails or trips leaves, and its partner p "is home for its cabinets and owes its reports"; where p then
+-- enters error in that step it forgets them with its own ("none where it enters error in that step")
+unfoldable pub passReports : Group → ℕ → ℕ → Group
+passReports g a p =
+    withCabinet (withCabinet g p (owingAlso (cabinet g p) (cabinet g a .owed))) a (owingNone (cabinet g a))
+
+unfoldable pub leave : Group → ℕ → Group
+leave g a = passReports (withStore g (leaves (g .store) a)) a (partner (g .store) a)
+
+-- come back: "A tripped partner takes the other's slots in the step in which it reports restored and is home again"; what its partner p still
+-- owes on its cabinets is dropped, since p is their home no more
+unfoldable pub dropReports : Group → ℕ → ℕ → Group
+dropReports g a p = withCabinet g p (owingBut (cabinet g p) (homedAt (g .store) a))
+
+unfoldable pub comeBack : Group → ℕ → Group
+comeBack g a = dropReports (withStore g (comesBack (g .store) a)) a (partner (g .store) a)
 
 -- mark failed: "A failing cabinet's lines are emptied both ways"
 unfoldable pub markFailed : Group → ℕ → Group

@@ -36,7 +36,7 @@ use Rattle.protocol.specs.Losses.{lose, answers, pairAnswers}
 -- "Version 2 files have a sixth header number, 2 .., and offsets two higher"
 abbrev pub headerTwo : ℕ → ℕ → List ℕ
 headerTwo n m =
-    twoOctets n ++ twoOctets m ++ twoOctets 12 ++ twoOctets (12 + 8 * n) ++ twoOctets (12 + 8 * n + 2 * m) ++ twoOctets 2
+    twoOctets n ++ twoOctets m ++ twoOctets 12 ++ twoOctets (12 + 9 * n) ++ twoOctets (12 + 9 * n + 2 * m) ++ twoOctets 2
 
 abbrev pub fileAllTwo : ℕ → List Bookings → List ℕ → List ℕ
 fileAllTwo s bookings links = headerTwo (length bookings) (length links / 2) ++ entriesFrom s 1 bookings ++ links
@@ -461,12 +461,12 @@ versionCases =
     -- "A file of one version is never read as the other": each with the other's first offset
     ∷ loads (set (twoCabinets 100 50) 5 12) 3
     ∷ loads (set pairTwo 5 10) 3
-    -- neither is read with one of its offsets or its length that of the other: link table and length of a pair are 26 and 28, 28 and 30
-    ∷ loads (set pairTwo 7 26) 3
-    ∷ loads (set pairTwo 9 28) 3
-    ∷ loads (set (twoCabinets 100 50) 7 28) 3
-    ∷ loads (set (twoCabinets 100 50) 9 30) 3
-    ∷ loads (set (twoCabinets 100 50) 9 30 ++ 0 ∷ 0 ∷ []) 3
+    -- neither is read with one of its offsets or its length that of the other: link table and length of a pair are 28 and 30, 30 and 32
+    ∷ loads (set pairTwo 7 28) 3
+    ∷ loads (set pairTwo 9 30) 3
+    ∷ loads (set (twoCabinets 100 50) 7 30) 3
+    ∷ loads (set (twoCabinets 100 50) 9 32) 3
+    ∷ loads (set (twoCabinets 100 50) 9 32 ++ 0 ∷ 0 ∷ []) 3
     ∷ loads (twoCabinets 100 50 ++ 0 ∷ 0 ∷ []) 3
     -- "1 fewer than 10 octets" in both, so of 10 and 11 octets that name 12 the answer is 2 or 3
     ∷ loads (startOfTwo 9 2) 1

@@ -10,20 +10,21 @@ use Rattle.cabinet.specs.Cabinet.{withImage}
 use Rattle.points.specs.declared.Point.{Point}
 use Rattle.points.specs.declared.Points.{Points}
 use Rattle.points.specs.Points.{pointAt, withPoint, imageAt, placeOf, placeFor}
-use Rattle.group.specs.declared.Slots.{Slots}
+use Rattle.store.specs.declared.Slots.{Slots}
+use Rattle.store.specs.Store.{ofEach, setSlots}
 use Rattle.group.specs.declared.Group.{Group}
 use Rattle.group.specs.declared.Outcome.{Outcome}
-use Rattle.group.specs.Group.{cabinet, withCabinets, withStore, slot, isCrashed, quiet, taken}
+use Rattle.group.specs.Group.{cabinet, withCabinets, withStore, home, slot, isCrashed, quiet, taken}
 use Rattle.protocol.specs.declared.Noted.{Noted}
 use Rattle.protocol.specs.Kinds.{need, orRefuse}
 
 -- ---- take a point
 
 -- "keep the images of the committed version, and for a failed cabinet the image that 01 gives it or, where there was a return since it
--- failed, the one that the last return set": of each cabinet the slot that its version names. For a failed one that is noted where
--- the recovery from its fail ends (`Moves.noteLost`)
+-- failed, the one that the last return set": of each cabinet the slot that its version names, as its home has it. For a failed one that is noted
+-- where the recovery from its fail ends (`Moves.noteLost`)
 abbrev pub imageKept : Group → ℕ → Image
-imageKept g i = slot g i (bitOf (cabinet g i .phase .version))
+imageKept g i = slot g (home g i) i (bitOf (cabinet g i .phase .version))
 
 unfoldable pub imagesKept : Group → List Image
 imagesKept g =
@@ -46,7 +47,7 @@ takePoint ps g name =
 
 -- ---- return to a point
 
--- "A return sets all images, failed cabinets' saved ones too, and both slots of every cabinet to the point's."
+-- "A return sets all images, failed cabinets' saved ones too, and both slots of every cabinet to the point's.", at both stores of each pair
 abbrev pub withPointImage : Group → Point → ℕ → Cabinet
 withPointImage g p i = withImage (cabinet g i) (imageAt p i)
 
@@ -58,12 +59,8 @@ imagesSet g p =
     withPointImage g p 0 ∷ withPointImage g p 1 ∷ withPointImage g p 2 ∷ withPointImage g p 3 ∷ withPointImage g p 4 ∷ withPointImage g p 5
     ∷ withPointImage g p 6 ∷ withPointImage g p 7 ∷ []
 
-abbrev pub slotsSet : Point → List Slots
-slotsSet p =
-    bothSlots p 0 ∷ bothSlots p 1 ∷ bothSlots p 2 ∷ bothSlots p 3 ∷ bothSlots p 4 ∷ bothSlots p 5 ∷ bothSlots p 6 ∷ bothSlots p 7 ∷ []
-
 unfoldable pub returned : Group → Point → Group
-returned g p = withStore (withCabinets g (imagesSet g p)) (slotsSet p)
+returned g p = withStore (withCabinets g (imagesSet g p)) (setSlots (g .store) (ofEach (bothSlots p)))
 
 -- "21 no such name, 22 group not quiet .. ; after 10"
 abbrev pub returnRefusal : Points → Group → List ℕ → ℕ

@@ -10,7 +10,7 @@ use Rattle.image.specs.declared.Image.{Image}
 use Rattle.points.specs.declared.Points.{Points}
 use Rattle.points.specs.Points.{noPoints, pointAt, imageAt, placeOf}
 use Rattle.group.specs.declared.Group.{Group}
-use Rattle.group.specs.Group.{slot}
+use Rattle.group.specs.Group.{home, slot}
 use Rattle.load.specs.Load.{load, cabinetCount}
 use Rattle.protocol.specs.declared.Site.{Site}
 use Rattle.protocol.specs.Listing.{Text, ascii}
@@ -43,9 +43,9 @@ foundWith e names fault = (foundFrom e fault, keptAt (sizeOf e) (fault .world .p
 unfoldable pub foundKept : Example → List (List ℕ) → Found × List (List Image)
 foundKept e names = foundWith e names (walkToFault e)
 
--- slot 0 and slot 1 of each cabinet
+-- slot 0 and slot 1 of each cabinet, as its home has them
 abbrev pub storeAt : ℕ → Group → List Image
-storeAt n g = forEach n (λ c. slot g c false) ++ forEach n (λ c. slot g c true)
+storeAt n g = forEach n (λ c. slot g (home g c) c false) ++ forEach n (λ c. slot g (home g c) c true)
 
 unfoldable pub storeIn : List ℕ → List Operation → List Image
 storeIn f xs = storeAt (cabinetCount f) (siteAfter f xs .group)

@@ -257,8 +257,8 @@ trips-while-saving-finds = record {
   gone = none ∷ none ∷ none ∷ [];
 }
 
--- ---- "after the highest the lowest": no run here shows it, so it is asked of a table's marks; before partners (card 10) the lead stays with
--- the first store that it comes to, whose fail and trip crash the group
+-- ---- "after the highest the lowest": no run here shows it, since a store without a partner keeps the lead once it has it; so it is asked of a
+-- table's marks. `Partners.lead-goes-round` is a run in which it does
 
 abbrev pub RoundAgain : Type 0
 RoundAgain =

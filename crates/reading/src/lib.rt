@@ -9,7 +9,7 @@ ghost use Prim.Native.Nat.{_-_, _<_, _≤_};
 ghost use lib.ListN.{getD, set};
 ghost use lib.Dec.{leb};
 ghost use Rattle.marks.specs.Reach.{connected};
-ghost use Rattle.load.specs.Load.{number, cabinetCount, linkCount, tableOffset, versionOf, tableIn, entryAt, linkTable, totalLength, homeOf, storeMark, bookingOf, entryTotal, lowerOf, higherOf, orderOf, versionNamed, offsetsRight, cabinetRight, cabinetsRight, linkRight, risesTo, linksRight, linked, withLink, linkRows, rowsIn, present, feederTotal, totalsRight, loadRefusal};
+ghost use Rattle.load.specs.Load.{number, cabinetCount, linkCount, tableOffset, versionOf, tableIn, entryAt, linkTable, totalLength, homeOf, storeMark, partnerOf, bookingOf, entryTotal, lowerOf, higherOf, orderOf, versionNamed, offsetsRight, partnersRight, partnerRight, cabinetRight, cabinetsRight, linkRight, risesTo, linksRight, linked, withLink, linkRows, rowsIn, present, feederTotal, totalsRight, loadRefusal};
 ghost use Rattle.group.specs.Group.{sum};
 
 // One less, and 0 at 0.
@@ -91,7 +91,7 @@ pub fn entry_at(file: &[u8], i: u16) -> usize
     ensures { λ r. ⌜ r ≡ entryAt (now (file .entry)) i ⌝ }
     ensures { λ r. ⌜ r < 600000 ⌝ }
 {
-    table_in(version_of(file)) + 8 * (i as usize)
+    table_in(version_of(file)) + 9 * (i as usize)
 }
 
 // Where the link table starts.
@@ -122,6 +122,15 @@ fn store_mark(file: &[u8], i: usize) -> usize
     ensures { λ r. ⌜ r ≡ storeMark (now (file .entry)) i ⌝ }
 {
     small(file, entry_at(file, i as u16) + 1)
+}
+
+// The number of the partner that the entry of cabinet i names, 0 for none.
+fn partner_of(file: &[u8], i: usize) -> usize
+    requires { ⌜ i < 65536 ⌝ }
+    ensures { λ r. ⌜ r ≡ partnerOf (now (file .entry)) i ⌝ }
+    ensures { λ r. ⌜ r < 256 ⌝ }
+{
+    small(file, entry_at(file, i as u16) + 8)
 }
 
 // The booking of an outlet in the entry of cabinet i.
@@ -199,14 +208,37 @@ fn offsets_right(file: &[u8]) -> bool
     marks::and(table_offset(file) == table_in(version), named)
 }
 
-// The mark of cabinet i is 0 or 1, its home is 1 to n, and its home is a store.
+// The partner p that cabinet i names is 1 to n, another one, a store, and names i back.
+fn partners_right(file: &[u8], i: usize, p: usize) -> bool
+    requires { ⌜ i < 65536 ⌝ }
+    requires { ⌜ p < 256 ⌝ }
+    ensures { λ r. ⌜ r ≡ partnersRight (now (file .entry)) i p ⌝ }
+{
+    let k = less_one(p);
+    let mutual = marks::and(store_mark(file, k) == 1, partner_of(file, k) == i + 1);
+    let other = !(p == i + 1);
+    marks::and(p <= cabinet_count(file), marks::and(other, mutual))
+}
+
+// Cabinet i names no partner, or is a store that names a right one.
+fn partner_right(file: &[u8], i: usize) -> bool
+    requires { ⌜ i < 65536 ⌝ }
+    ensures { λ r. ⌜ r ≡ partnerRight (now (file .entry)) i ⌝ }
+{
+    let p = partner_of(file, i);
+    let right = marks::and(store_mark(file, i) == 1, partners_right(file, i, p));
+    marks::or(p == 0, right)
+}
+
+// The mark of cabinet i is 0 or 1, its home is 1 to n and a store, and its partner is right.
 fn cabinet_right(file: &[u8], i: usize) -> bool
     requires { ⌜ i < 65536 ⌝ }
     ensures { λ r. ⌜ r ≡ cabinetRight (now (file .entry)) i ⌝ }
 {
     let home = home_of(file, i);
     let stores = store_mark(file, less_one(home)) == 1;
-    let within = marks::and(1 <= home, marks::and(home <= cabinet_count(file), stores));
+    let paired = marks::and(stores, partner_right(file, i));
+    let within = marks::and(1 <= home, marks::and(home <= cabinet_count(file), paired));
     marks::and(store_mark(file, i) <= 1, within)
 }
 

@@ -5,15 +5,16 @@ use group::Outcome;
 use settled::Reason;
 use state::State;
 ghost use mathlib.Core.Path.{_≡_};
-ghost use Rattle.protocol.specs.Kinds.{fetchRefusal, fetchPiece, fetchStep, mayReport, restoredRefusal, reportRestored, endIfAll, restoredStep, isUnsure, takesUnsure, unsureRefusal, reportUnsure, decideIfAll, unsureStep};
+ghost use Rattle.protocol.specs.Moves.{dropReports, comeBack};
+ghost use Rattle.protocol.specs.Kinds.{fetchRefusal, fetchPiece, fetchStep, mayReport, restoredRefusal, reportRestored, comeBackIfAway, endIfAll, restoredStep, isUnsure, takesUnsure, unsureRefusal, reportUnsure, decideIfAll, unsureStep};
 
 // ---- 7 fetch
 
 fn fetch_refusal(g: Group, a: u8) -> u8
     ensures { λ r. ⌜ r ≡ fetchRefusal g a ⌝ }
 {
-    let c = g.cabinet(a);
-    let ready = records::need(state::in_restoring(g.state_of(c.home)), 19, 0);
+    let home = g.state_of(g.home(a));
+    let ready = records::need(state::in_restoring(home), 19, 0);
     records::need(state::is_in(g.state_of(a), State::Recovering), 14, ready)
 }
 
@@ -21,12 +22,12 @@ fn fetch_piece(g: Group, a: u8) -> Group
     ensures { λ r. ⌜ r ≡ fetchPiece g a ⌝ }
 {
     let c = g.cabinet(a);
-    let home = g.cabinet(c.home);
-    let phase = home.phase;
+    let h = g.home(a);
+    let phase = g.cabinet(h).phase;
     let version = phase.version;
     let noted = c.noted;
     let image = c.image;
-    let from = g.slot(a, state::bit_of(version));
+    let from = g.slot(h, a, state::bit_of(version));
     g.with_cabinet(a, c.fetched(image.with_piece(noted.pieces, from)))
 }
 
@@ -77,6 +78,29 @@ fn report_restored(g: Group, a: u8, k: u8) -> Group
     g.with_cabinet(k, g.cabinet(k).restored_for(a))
 }
 
+// What store p still owes on the cabinets of store a is dropped.
+fn drop_reports(g: Group, a: u8, p: u8) -> Group
+    ensures { λ r. ⌜ r ≡ dropReports g a p ⌝ }
+{
+    let store = g.store;
+    g.with_cabinet(p, g.cabinet(p).owing_but(store.homed_at(a)))
+}
+
+// Store a takes its partner's slots and is home again.
+fn come_back(g: Group, a: u8) -> Group
+    ensures { λ r. ⌜ r ≡ comeBack g a ⌝ }
+{
+    let store = g.store;
+    drop_reports(g.with_store(store.comes_back(a)), a, store.partner(a))
+}
+
+fn come_back_if_away(g: Group, a: u8) -> Group
+    ensures { λ r. ⌜ r ≡ comeBackIfAway g a ⌝ }
+{
+    let store = g.store;
+    if store.is_away(a) { come_back(g, a) } else { g }
+}
+
 fn end_if_all(g: Group, k: u8) -> Group
     ensures { λ r. ⌜ r ≡ endIfAll g k ⌝ }
 {
@@ -99,7 +123,8 @@ pub fn restored_step(g: Group, a: u8) -> Outcome
     let n = restored_refusal(g, a);
     if n == 0 {
         let k = g.cabinet(a).coordinator();
-        group::taken(end_if_all(report_restored(g, a, k), k))
+        let h = come_back_if_away(report_restored(g, a, k), a);
+        group::taken(end_if_all(h, k))
     } else {
         group::answering(n, g)
     }

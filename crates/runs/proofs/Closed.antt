@@ -10,3 +10,4 @@ pub mod Unsure
 pub mod OwnChecks
 pub mod Words
 pub mod Workshop
+pub mod Partners

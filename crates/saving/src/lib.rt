@@ -3,10 +3,12 @@ use cabinet::Cabinet;
 use group::Group;
 use group::Outcome;
 use state::State;
+use store::Store;
 ghost use mathlib.Core.Path.{_≡_};
 ghost use mathlib.Core.Bool.{not};
 ghost use Rattle.state.specs.declared.State.the-variants.{Checkpointing};
 ghost use Rattle.state.specs.State.{isIn, inRecovery, bitOf};
+ghost use Rattle.store.specs.Store.{putPiece};
 ghost use Rattle.group.specs.Group.{cabinet};
 ghost use Rattle.protocol.specs.Kinds.{need, beginRefusal, beginStep, writePiece, oweIf, writeStep, savedRefusal, reportSaved, commitIfAll, savedStep};
 
@@ -51,14 +53,21 @@ fn other_slot(c: Cabinet) -> bool
     !state::bit_of(version)
 }
 
-fn write_piece(g: Group, a: u8, c: Cabinet) -> Group
-    ensures { λ r. ⌜ (c ≡ cabinet g a → r ≡ writePiece g a) ⌝ }
+// The next piece, at each store of the pair that is present.
+fn piece_saved(store: Store, a: u8, c: Cabinet) -> Store
+    ensures { λ r. ⌜ r ≡ putPiece store a (not (bitOf (c .phase .version))) (c .noted .pieces) (c .image) ⌝ }
 {
     let image = c.image;
     let noted = c.noted;
-    let other = other_slot(c);
-    let written = g.slot(a, other).with_piece(noted.pieces, image);
-    g.with_slot(a, other, written).with_cabinet(a, c.wrote(a))
+    store.put_piece(a, other_slot(c), noted.pieces, image)
+}
+
+fn write_piece(g: Group, a: u8, c: Cabinet) -> Group
+    ensures { λ r. ⌜ (c ≡ cabinet g a → r ≡ writePiece g a) ⌝ }
+{
+    let store = g.store;
+    g.with_store(piece_saved(store, a, c))
+        .with_cabinet(a, c.wrote(a))
 }
 
 fn owe_if(asked: bool, g: Group, h: u8, a: u8) -> Group
@@ -78,10 +87,11 @@ pub fn write_step(g: Group, a: u8) -> Outcome
     let phase = c.phase;
     let state = phase.state;
     let noted = c.noted;
-    let k = write_refusal(state, g.state_of(c.home));
+    let h = g.home(a);
+    let k = write_refusal(state, g.state_of(h));
     if k == 0 {
         let more = noted.pieces < 3;
-        group::taken(owe_if(!more, write_piece(g, a, c), c.home, a))
+        group::taken(owe_if(!more, write_piece(g, a, c), h, a))
     } else {
         group::answering(k, g)
     }
@@ -92,8 +102,7 @@ pub fn write_step(g: Group, a: u8) -> Outcome
 fn saved_refusal(g: Group, a: u8) -> u8
     ensures { λ r. ⌜ r ≡ savedRefusal g a ⌝ }
 {
-    let c = g.cabinet(a);
-    let home = g.cabinet(c.home);
+    let home = g.cabinet(g.home(a));
     let owed = home.owed;
     let saving = state::in_saving(g.state_of(home.coordinator()));
     records::need(marks::and(marks::marked(owed, a), saving), 19, 0)
@@ -127,9 +136,9 @@ pub fn saved_step(g: Group, a: u8) -> Outcome
 {
     let n = saved_refusal(g, a);
     if n == 0 {
-        let c = g.cabinet(a);
-        let k = g.cabinet(c.home).coordinator();
-        group::taken(commit_if_all(report_saved(g, a, c.home, k), k))
+        let h = g.home(a);
+        let k = g.cabinet(h).coordinator();
+        group::taken(commit_if_all(report_saved(g, a, h, k), k))
     } else {
         group::answering(n, g)
     }

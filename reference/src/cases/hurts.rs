@@ -134,7 +134,7 @@ impl Run<'_> {
 
     /// A normal packet that may be hurt and found without a crash, or a send that puts one.
     fn spot_to_hurt(&mut self) -> Option<(Option<Record>, Spot)> {
-        let bold = self.temper.bold;
+        let bold = self.boldness_to_hurt();
         let bold = self.dice.per_thousand(bold);
         let free = |run: &Run, from, to| {
             !run.group.line(from, to).hurt && (bold || !run.dangerous_to_hurt(from, to))

@@ -58,7 +58,7 @@ impl Run<'_> {
         if self.group.recovery_under_way() {
             3 * self.temper.bold
         } else {
-            self.temper.bold
+            self.temper.bold_to_hurt
         }
     }
 
@@ -93,7 +93,7 @@ impl Run<'_> {
 
     /// Those that would be taken, on lines where the loss may be found.
     fn silent_sends(&mut self) -> Vec<Record> {
-        let bold = self.temper.bold;
+        let bold = self.boldness_to_hurt();
         let bold = self.dice.per_thousand(bold);
         let mut sends = Vec::new();
         for from in self.group.numbers() {

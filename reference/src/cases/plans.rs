@@ -14,7 +14,7 @@ use crate::points::{Name, Points, NAME_LENGTH};
 pub fn make_plan_case(seed: u64, wishes: Wishes) -> Case {
     let mut dice = Dice::new(seed);
     let draft = draft_that_can_lose_some(&mut dice, wishes.cabinets);
-    let damaged = wishes.cabinets.is_none() && dice.per_thousand(80);
+    let damaged = wishes.cabinets.is_none() && dice.per_thousand(120);
     let group = if damaged { damaged_group_file(&mut dice, draft) } else { draft.octets() };
     let mut plan = match model::load(&group) {
         Ok(group) => Planner::new(&mut dice, group, wishes).make(),
@@ -90,6 +90,9 @@ enum Scene {
     Stumble,
     SlyFault,
     Doubt,
+    StoreLeaves,
+    BothStores,
+    LeadGoesRound,
     Damage,
     Loss,
     HurtOverReturn,
@@ -100,8 +103,9 @@ enum Scene {
 }
 
 /// How often each scene comes; drawn anew for each plan.
-fn drawn_weights(dice: &mut Dice, wishes: Wishes) -> Vec<(Scene, usize)> {
+fn drawn_weights(dice: &mut Dice, group: &Group, wishes: Wishes) -> Vec<(Scene, usize)> {
     let (damage, trips) = (wishes.damage, wishes.trips());
+    let pairs = group.numbers().any(|number| group.cabinet(number).partner().is_some());
     vec![
         (Scene::Point, dice.pick(&[4, 6, 10])),
         (Scene::Return, dice.pick(&[4, 6, 10])),
@@ -115,6 +119,9 @@ fn drawn_weights(dice: &mut Dice, wishes: Wishes) -> Vec<(Scene, usize)> {
         (Scene::Stumble, if trips { dice.pick(&[0, 0, 1, 2]) } else { 0 }),
         (Scene::SlyFault, if trips { dice.pick(&[0, 2, 4]) } else { 0 }),
         (Scene::Doubt, if wishes.reports() { dice.pick(&[2, 6, 10]) } else { 0 }),
+        (Scene::StoreLeaves, if pairs { dice.pick(&[2, 6, 10]) } else { 0 }),
+        (Scene::BothStores, if pairs && trips { dice.pick(&[0, 3, 8]) } else { 0 }),
+        (Scene::LeadGoesRound, if pairs && trips { dice.pick(&[0, 0, 2, 5]) } else { 0 }),
         (Scene::Damage, if damage { dice.pick(&[0, 5, 12]) } else { 0 }),
         (Scene::Loss, if damage { dice.pick(&[0, 2, 4]) } else { 0 }),
         (Scene::HurtOverReturn, if damage { dice.pick(&[0, 1, 2]) } else { 0 }),
@@ -141,7 +148,7 @@ struct Planner<'a> {
 impl Planner<'_> {
     fn new(dice: &mut Dice, group: Group, wishes: Wishes) -> Planner<'_> {
         let names = some_names(dice);
-        let weights = drawn_weights(dice, wishes);
+        let weights = drawn_weights(dice, &group, wishes);
         let chatter = dice.pick(&[0, 50, 150]);
         let run = Run::new(dice, group, wishes);
         Planner { run, points: Points::default(), names, weights, chatter, plan: Vec::new() }
@@ -205,6 +212,9 @@ impl Planner<'_> {
             Scene::Stumble => self.stumble_scene(),
             Scene::SlyFault => self.sly_fault_scene(),
             Scene::Doubt => self.doubt_scene(),
+            Scene::StoreLeaves => self.store_leaves_scene(),
+            Scene::BothStores => self.both_stores_scene(),
+            Scene::LeadGoesRound => self.lead_goes_round_scene(),
             Scene::Damage => self.damage_scene(),
             Scene::Loss => self.loss_scene(),
             Scene::HurtOverReturn => self.hurt_over_return_scene(),
@@ -259,8 +269,10 @@ impl Planner<'_> {
 impl Planner<'_> {
     /// A step that brings a packet, a save or a recovery on, if there is one.
     fn driving_record(&mut self) -> Option<Record> {
-        let lines = self.run.filled_lines().into_iter();
-        let mut ready: Vec<Record> = lines.map(|(a, b)| record(4, a, b, 0, 0)).collect();
+        let mut lines = self.run.filled_lines();
+        lines.retain(|&(_, to)| !self.run.is_deaf(to));
+        let mut ready: Vec<Record> =
+            lines.into_iter().map(|(a, b)| record(4, a, b, 0, 0)).collect();
         for a in self.run.group.numbers() {
             let state = self.run.group.cabinet(a).state;
             if state != State::Error || !self.run.doubt.keeps_silent(a) {
@@ -278,6 +290,9 @@ impl Planner<'_> {
     fn settle(&mut self) {
         if self.chance(800) {
             self.run.doubt.end_silence();
+        }
+        if self.chance(600) {
+            self.run.end_deafness();
         }
         for _ in 0..ENOUGH_STEPS {
             let Some(record) = self.driving_record() else {
@@ -550,6 +565,105 @@ impl Planner<'_> {
         fault.map(|record| self.step(record));
         self.report_some();
         self.recover_mostly();
+    }
+
+    /// A store leaves its partner, mostly while a save goes on.
+    fn store_leaves_scene(&mut self) {
+        self.settle_mostly();
+        if self.chance(300) || !self.begin() {
+            let fault = self.run.store_fault();
+            fault.map(|record| self.step(record));
+            return self.recover_mostly();
+        }
+        let foreseen = self.chance(500);
+        for _ in 0..ENOUGH_STEPS {
+            let fault = match foreseen {
+                true => self.run.foreseen_store_fault(),
+                false if self.chance(150) => self.run.store_fault_in_save(),
+                false => None,
+            };
+            if let Some(record) = fault {
+                self.step(record);
+                self.take_what_follows();
+                break;
+            }
+            if self.drive_once().is_none() {
+                break;
+            }
+        }
+        if self.chance(300) {
+            let steps = self.run.dice.between(1, 30);
+            self.drive(steps);
+        }
+        self.report_some();
+        self.recover_mostly();
+        if let (Some(store), true) = (self.run.store_to_leave_at_once(), self.chance(800)) {
+            self.settle();
+            let fault = self.run.safe_fault_of(store);
+            fault.map(|record| self.step(record));
+            self.recover_mostly();
+        }
+    }
+
+    /// One trips and comes back, and then the other leaves; between the two there may be a save,
+    /// a point or a return.
+    fn both_stores_scene(&mut self) {
+        self.settle();
+        let Some((store, partner)) = self.run.pair_to_part() else {
+            return;
+        };
+        if self.chance(300) {
+            self.save_and_settle();
+        }
+        self.step(record(13, store, 0, 0, 0));
+        self.settle();
+        match self.run.dice.below(8) {
+            0 => self.settled_return(),
+            1 => self.point_scene(),
+            2..=4 => self.save_and_settle(),
+            5 => self.trade_scene(),
+            _ => {}
+        }
+        self.settle();
+        if let Some(record) = self.run.safe_fault_of(partner) {
+            self.trade_scene();
+            self.step(record);
+        }
+        self.recover_mostly();
+        if self.chance(300) {
+            let name = self.any_name();
+            self.take_point(name);
+        }
+        if self.chance(200) {
+            self.settled_return();
+        }
+        if self.chance(60) {
+            let last = self.run.fault_of_the_last_store();
+            last.map(|record| self.step(record));
+        }
+    }
+
+    /// The lead is lost again and again.
+    fn lead_goes_round_scene(&mut self) {
+        for _ in 0..self.run.dice.between(1, self.run.group.size() + 1) {
+            self.settle();
+            if self.chance(400) {
+                self.save_and_settle();
+            }
+            let lead = self.run.lead();
+            let safe = |lead: &Number| self.run.group.crash_by_tripping(*lead).is_none();
+            let Some(lead) = lead.filter(safe) else {
+                return;
+            };
+            if self.chance(400) && self.begin() {
+                let steps = self.run.dice.between(1, 60);
+                self.drive(steps);
+            }
+            let fault = self.run.safe_fault_of(lead);
+            fault.map(|record| self.step(record));
+            self.report_some();
+            self.settle();
+        }
     }
 
     /// The next to lead finds a link fault by a resume packet, and others report to it.

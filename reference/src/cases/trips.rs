@@ -67,7 +67,9 @@ impl Run<'_> {
 
     pub(super) fn next_to_lead(&self) -> Option<Number> {
         let lead = self.lead()?;
-        self.group.working_cabinets().range(lead + 1..).next().copied()
+        let working = self.group.working_cabinets();
+        let next = working.range(lead + 1..).next().or(working.first()).copied();
+        next.filter(|&next| next != lead)
     }
 
     pub(super) fn cabinets_safe_to_trip(&self) -> Vec<Number> {
@@ -75,7 +77,7 @@ impl Run<'_> {
         working.filter(|&a| self.group.crash_by_tripping(a).is_none()).collect()
     }
 
-    /// Each cause that there is as likely as the others, but a store's trip, which is always
+    /// Each cause that there is as likely as the others, but a store's trip, which is nearly always
     /// there, and a third trip in a recovery, which seldom is.
     pub(super) fn crashing_trip(&mut self) -> Option<Record> {
         let mut by_cause: BTreeMap<Crash, Vec<Number>> = BTreeMap::new();
@@ -183,7 +185,9 @@ impl Run<'_> {
 
     /// It is no more the one whose loss leaves the others unsure.
     pub(super) fn trip_of_the_number_before(&mut self, lead: Number) -> Option<Record> {
-        let before = self.group.working_cabinets().range(..lead).next_back().copied()?;
+        let working = self.group.working_cabinets();
+        let before = working.range(..lead).next_back().or(working.last()).copied();
+        let before = before.filter(|&before| before != lead)?;
         self.group.crash_by_tripping(before).is_none().then(|| trip_of(before))
     }
 }

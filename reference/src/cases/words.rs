@@ -20,7 +20,7 @@ pub fn make_word_case(seed: u64, wishes: Wishes) -> Case {
         return case;
     };
     let mut dice = Dice::new(seed ^ OTHER_DICE);
-    if dice.per_thousand(60) {
+    if dice.per_thousand(130) {
         return case;
     }
     if wishes.damage && dice.per_thousand(150) {

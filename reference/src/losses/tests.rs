@@ -15,10 +15,10 @@ const SILENT: u16 = 25_919;
 
 /// Three cabinets, each linked to each, so that any link may be struck; 3 is the store.
 fn file_of_three(bookings: [u16; 3]) -> Vec<u8> {
-    let mut file = vec![0, 3, 0, 3, 0, 10, 0, 34, 0, 40];
+    let mut file = vec![0, 3, 0, 3, 0, 10, 0, 37, 0, 43];
     for (index, booking) in bookings.into_iter().enumerate() {
         let [high, low] = booking.to_be_bytes();
-        file.extend_from_slice(&[3, u8::from(index == 2), high, low, 0, 0, 0, 0]);
+        file.extend_from_slice(&[3, u8::from(index == 2), high, low, 0, 0, 0, 0, 0]);
     }
     file.extend_from_slice(&[1, 2, 1, 3, 2, 3]);
     file
@@ -27,8 +27,8 @@ fn file_of_three(bookings: [u16; 3]) -> Vec<u8> {
 /// Two cabinets with one link, the second the store.
 fn file_of_two(bookings: [u16; 2]) -> Vec<u8> {
     let [[a, b], [c, d]] = bookings.map(u16::to_be_bytes);
-    let header = [0, 2, 0, 1, 0, 10, 0, 26, 0, 28];
-    let entries = [[2, 0, a, b, 0, 0, 0, 0], [2, 1, c, d, 0, 0, 0, 0]];
+    let header = [0, 2, 0, 1, 0, 10, 0, 28, 0, 30];
+    let entries = [[2, 0, a, b, 0, 0, 0, 0, 0], [2, 1, c, d, 0, 0, 0, 0, 0]];
     [&header[..], &entries.concat(), &[1, 2]].concat()
 }
 

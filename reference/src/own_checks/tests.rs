@@ -78,7 +78,7 @@ fn the_sixth_number_is_two() {
 fn a_file_of_one_version_is_not_read_as_the_other() {
     assert_eq!(refusal_with(One, &[(4, 12)]), Some(3));
     assert_eq!(refusal_with(Two, &[(4, 10)]), Some(3));
-    for (version, [table, length]) in [(One, [36, 42]), (Two, [34, 40])] {
+    for (version, [table, length]) in [(One, [39, 45]), (Two, [37, 43])] {
         assert_eq!(refusal_with(version, &[(6, table)]), Some(3));
         assert_eq!(refusal_with(version, &[(8, length)]), Some(3));
         assert_eq!(refusal_with(version, &[(6, table), (8, length)]), Some(3));
@@ -104,11 +104,11 @@ fn the_true_length_is_that_of_the_version() {
 fn two_octets_too_many_or_too_few_are_read_as_they_stand() {
     let mut file = file_of_three(One);
     file.extend([2, 3]);
-    (file[5], file[7], file[9]) = (12, 36, 42);
+    (file[5], file[7], file[9]) = (12, 39, 45);
     assert_eq!(load(&file).err(), Some(3));
     let mut file = file_of_three(Two);
     file.truncate(file.len() - 2);
-    (file[5], file[7], file[9]) = (10, 34, 40);
+    (file[5], file[7], file[9]) = (10, 37, 43);
     assert_eq!(load(&file).err(), Some(4));
 }
 
@@ -128,7 +128,7 @@ fn a_short_header_of_version_2_is_no_short_file() {
 fn entries_of_version_2_stand_two_octets_later() {
     for (version, start) in [(One, 10), (Two, 12)] {
         assert_eq!(refusal_with(version, &[(start, 0)]), Some(4));
-        assert_eq!(refusal_with(version, &[(start + 24, 0x0201)]), Some(5));
+        assert_eq!(refusal_with(version, &[(start + 27, 0x0201)]), Some(5));
         assert_eq!(refusal_with(version, &[(start + 2, 65_460)]), None);
         assert_eq!(refusal_with(version, &[(start + 2, 65_461)]), Some(7));
     }
@@ -561,15 +561,15 @@ fn mixed_files_are_told_apart() {
         Mixed::of(&file, refusal)
     };
     assert_eq!(mixed(Two, &[(11, 1)], 0), Some(Mixed::SixthNumber));
-    assert_eq!(mixed(Two, &[], -31), Some(Mixed::CutShort));
-    assert_eq!(mixed(One, &[(5, 12)], -30), Some(Mixed::CutShort));
+    assert_eq!(mixed(Two, &[], -34), Some(Mixed::CutShort));
+    assert_eq!(mixed(One, &[(5, 12)], -33), Some(Mixed::CutShort));
     assert_eq!(mixed(One, &[(5, 12)], 0), Some(Mixed::FirstOffset));
     assert_eq!(mixed(Two, &[(5, 10)], 0), Some(Mixed::FirstOffset));
     assert_eq!(mixed(One, &[], 2), Some(Mixed::TrueLength));
     assert_eq!(mixed(Two, &[], -2), Some(Mixed::TrueLength));
-    assert_eq!(mixed(One, &[(7, 36)], 0), Some(Mixed::LaterNumbers));
-    assert_eq!(mixed(Two, &[(9, 40)], -2), Some(Mixed::LaterNumbers));
-    let as_entry = [(5, 10), (7, 34), (9, 40)];
+    assert_eq!(mixed(One, &[(7, 39)], 0), Some(Mixed::LaterNumbers));
+    assert_eq!(mixed(Two, &[(9, 43)], -2), Some(Mixed::LaterNumbers));
+    let as_entry = [(5, 10), (7, 37), (9, 43)];
     assert_eq!(mixed(Two, &as_entry, -2), Some(Mixed::SixthNumberAsEntry));
     assert_eq!(mixed(Two, &[(12, 0)], 0), None);
     assert_eq!(mixed(One, &[(5, 11)], 0), None);

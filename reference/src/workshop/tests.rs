@@ -15,6 +15,7 @@ fn file(version: PacketVersion, bookings: [[u16; 3]; 3]) -> Vec<u8> {
     for (number, booked) in (1..).zip(bookings) {
         file.extend([3, u8::from(number == 3)]);
         file.extend(booked.into_iter().flat_map(u16::to_be_bytes));
+        file.push(0);
     }
     file.extend([1, 2, 1, 3, 2, 3]);
     file

@@ -1,6 +1,6 @@
 -- Theorems on the step entry: what its answers are, that a refusal changes nothing, and when and how the group crashes.
 use Prim.Native.Nat.{ℕ, _+_, _-_, _<_, _≤_}
-use mathlib.Core.Path.{_≡_, refl}
+use mathlib.Core.Path.{_≡_, refl, ap}
 use mathlib.Core.Bool.{Bool, true, false, cond, not, _&&_, _||_}
 use mathlib.Core.List.{List, _∷_}
 use mathlib.Core.Logic.{_↔_, _⊎_, inl, inr}
@@ -23,9 +23,11 @@ use Rattle.protocol.specs.declared.Decoded.the-variants.{Malformed, Unused, Tak
 use Rattle.protocol.specs.Kinds.{need, orRefuse, sendStep, noteStep, beginStep, deliverRefusal, delivered, deliverStep, writeStep, savedStep, fetchStep, restoredStep, failCrashes, failStep, damageRefusal, damageStep, loseRefusal, loseStep, tripCrashes, tripOnce, tripStep, unsureStep}
 use Rattle.protocol.specs.Entry.{decode, actorWorks, entryRefusal, perform, stepDecoded, step}
 use Rattle.protocol.specs.Answers.{among, workNumbers, kindNumbers, refusalNumbers, kindRefusal}
-use Rattle.protocol.specs.Crash.{SomeRecovers, Unreached, soundLinks, LineInUse, Cause, Crashes}
+use Rattle.store.specs.Store.{isStore, isPresent, partner, isLast}
+use Rattle.protocol.specs.Crash.{SomeRecovers, Unreached, soundLinks, LineInUse, NeitherLeft, Cause, Crashes}
 use Rattle.protocol.specs.Crash.Cause.{store-fails, fails-in-recovery, damage-in-recovery, loss-in-recovery, places-meet, fail-parts, link-parts, store-trips, trips-in-recovery, coordinator-trips, third-trip}
 use Rattle.protocol.specs.Crash.Crashes.{crashes}
+use Rattle.claims.proofs.State.Fun.{not-true-false}
 use Rattle.claims.proofs.Answers.Tests.{Reflects, itself, or-reflects, and-reflects, same-number, some-recovers, not-reached}
 use Rattle.claims.proofs.Answers.Answer.{Listed, checks, Answer, recast, refusing, guarded, only-if, crash-if, keeps, listed, crashes-all, exactly}
 use Rattle.claims.proofs.Answers.Answer.Listed.{nothing}
@@ -60,11 +62,18 @@ harmless g s g′ n = guarded (kindRefusal g s) (kind-listed g s) (took n)
 
 -- ---- fail
 
+-- of a store's pair neither is left
+last-found : (g : Group) (a : ℕ) → Reflects (isLast (g .store) a) (NeitherLeft g a)
+unfolding isLast
+last-found g a =
+    and-reflects (isStore (g .store) a) (not (isPresent (g .store) (partner (g .store) a))) (itself (isStore (g .store) a))
+    (λ e. not-true-false e, λ e. ap not e)
+
 fail-causes : (g : Group) (a : ℕ) → Reflects (failCrashes g (a - 1)) (Cause g (Fail a))
 fail-causes g a = (λ e. to (found .0 e), λ c. found .1 (from c))
   where
-    store : Bool
-    store = cabinet g (a - 1) .store
+    last : Bool
+    last = isLast (g .store) (a - 1)
 
     recovers : Bool
     recovers = some (recoveringOnes g)
@@ -73,18 +82,18 @@ fail-causes g a = (λ e. to (found .0 e), λ c. found .1 (from c))
     parted = not (connected (soundLinks g) (set (working g) (a - 1) false))
 
     found : Reflects (failCrashes g (a - 1))
-        ((cabinet g (a - 1) .store ≡ true) ⊎ (SomeRecovers g ⊎ Unreached (soundLinks g) (set (working g) (a - 1) false)))
+        (NeitherLeft g (a - 1) ⊎ (SomeRecovers g ⊎ Unreached (soundLinks g) (set (working g) (a - 1) false)))
     found =
-        or-reflects store (recovers || parted) (itself store)
+        or-reflects last (recovers || parted) (last-found g (a - 1))
         (or-reflects recovers parted (some-recovers g) (not-reached (soundLinks g) (set (working g) (a - 1) false)))
 
-    to : (cabinet g (a - 1) .store ≡ true) ⊎ (SomeRecovers g ⊎ Unreached (soundLinks g) (set (working g) (a - 1) false)) → Cause g (Fail a)
+    to : NeitherLeft g (a - 1) ⊎ (SomeRecovers g ⊎ Unreached (soundLinks g) (set (working g) (a - 1) false)) → Cause g (Fail a)
     to (inl p) = store-fails p
     to (inr (inl p)) = fails-in-recovery p
     to (inr (inr p)) = fail-parts p
 
     from : Cause g (Fail a)
-        → (cabinet g (a - 1) .store ≡ true) ⊎ (SomeRecovers g ⊎ Unreached (soundLinks g) (set (working g) (a - 1) false))
+        → NeitherLeft g (a - 1) ⊎ (SomeRecovers g ⊎ Unreached (soundLinks g) (set (working g) (a - 1) false))
     from (store-fails p) = inl p
     from (fails-in-recovery p) = inr (inl p)
     from (fail-parts p) = inr (inr p)
@@ -101,14 +110,14 @@ module _ (g : Group) (a : ℕ) where
   Parted = Unreached (soundLinks g) (set (working g) (a - 1) false)
 
   abbrev Tripping : Type 0
-  Tripping = (cabinet g (a - 1) .store ≡ true) ⊎ (SomeRecovers g ⊎ ((coordinator (cabinet g (a - 1)) ≡ a - 1) × Parted))
+  Tripping = NeitherLeft g (a - 1) ⊎ (SomeRecovers g ⊎ ((coordinator (cabinet g (a - 1)) ≡ a - 1) × Parted))
 
   abbrev parted : Bool
   parted = not (connected (soundLinks g) (set (working g) (a - 1) false))
 
   trip-found : Reflects (tripCrashes g (a - 1)) Tripping
   trip-found =
-      or-reflects (cabinet g (a - 1) .store) (some (recoveringOnes g) || (eqb (coordinator (cabinet g (a - 1))) (a - 1) && parted)) (itself (cabinet g (a - 1) .store))
+      or-reflects (isLast (g .store) (a - 1)) (some (recoveringOnes g) || (eqb (coordinator (cabinet g (a - 1))) (a - 1) && parted)) (last-found g (a - 1))
       (or-reflects (some (recoveringOnes g)) (eqb (coordinator (cabinet g (a - 1))) (a - 1) && parted) (some-recovers g)
       (and-reflects (eqb (coordinator (cabinet g (a - 1))) (a - 1)) parted (same-number (coordinator (cabinet g (a - 1))) (a - 1))
       (not-reached (soundLinks g) (set (working g) (a - 1) false))))

@@ -22,6 +22,7 @@ use Rattle.cabinet.specs.Cabinet.{absent, coordinator, crashing, withState}
 use Rattle.points.specs.declared.Point.{Point}
 use Rattle.points.specs.declared.Points.{Points}
 use Rattle.points.specs.Points.{pointAt, withPoint, placeOf, placeFor}
+use Rattle.store.specs.Store.{homeIn}
 use Rattle.group.specs.declared.Group.{Group}
 use Rattle.group.specs.declared.Outcome.{Outcome}
 use Rattle.group.specs.Group.{cabinet, stateOf, those, some as any, isCrashed, quiet, crashAll}
@@ -153,8 +154,8 @@ same-state g j e = never e (not-both (stateOf g (coordinator (cabinet g j))) Rec
 pub works-one : (total : Party → ℕ) (g : Group) (h : History) → Runs total g h → (c : ℕ) × (c < 8) × (works (stateOf g c) ≡ true)
 works-one total g h w =
     let u = w .inv .core .ground in
-    let k = cabinet g (w .ghost .big .chief) .home in
-    let v = u .storeWorks k (u .homeStores (w .ghost .big .chief) (u .within (w .ghost .big .chief) (u .chiefIn))) in
+    let k = homeIn (g .store) (w .ghost .big .chief) in
+    let v = u .presentWorks k (u .homePresent (w .ghost .big .chief) (u .within (w .ghost .big .chief) (u .chiefIn))) in
     (k, omega (arith, u .within k (w .inv .core .nodes k .placed v), u .most), v)
 
 -- ---- one step
@@ -405,7 +406,7 @@ run-n xs w = ap (λ (y : ℕ × PacketVersion). y .0) (run-fixed xs w)
 pub every-list : (f : List ℕ) → Octets f → load f .answer ≡ 0 → (xs : List Operation) → AllOctets xs → Good (feederTotal f) (worldAfter f xs)
 every-list f of e xs o =
     let st = starts f of e in
-    let fit = loaded-fit f of in
+    let fit = loaded-fit f of e in
     good-run (feederTotal f) xs (opening (load f .group)) o (record {
       fit = fit;
       points = none-held (load f .group .n) (feederTotal f);

@@ -21,9 +21,10 @@ use Rattle.cabinet.specs.declared.Alarm.{Alarm}
 use Rattle.state.specs.State.{works, inRecovery, inSaving}
 use Rattle.cabinet.specs.Cabinet.{inUse, coordinator}
 use Rattle.points.specs.Points.{placeOf}
+use Rattle.store.specs.Store.{isLast}
 use Rattle.group.specs.declared.Group.{Group}
 use Rattle.group.specs.declared.Outcome.{Outcome}
-use Rattle.group.specs.Group.{cabinet, stateOf, line, isCrashed, some as any, recoveringOnes, tripsOf, quiet}
+use Rattle.group.specs.Group.{cabinet, stateOf, line, isCrashed, some as any, recoveringOnes, tripsOf, quiet, home}
 use Rattle.protocol.specs.declared.Step.{Step}
 use Rattle.protocol.specs.declared.Step.the-variants.{Send, Note, Begin, Deliver, Write, Saved, Fetch, Restored as RestoredStep, Fail, Damage, Lose, Trip, Unsure}
 use Rattle.protocol.specs.declared.Decoded.{Decoded}
@@ -96,14 +97,14 @@ module _ (g : Group) (recovers : any (recoveringOnes g) ≡ true) where
   fail-fifty : (a : ℕ) → failStep g a .answer ≡ 0 → ⊥
   unfolding failStep
   fail-fifty a e =
-      let c : failCrashes g a ≡ true = or-right (cabinet g a .store) _ (or-left (any (recoveringOnes g)) _ recovers) in
+      let c : failCrashes g a ≡ true = or-right (isLast (g .store) a) _ (or-left (any (recoveringOnes g)) _ recovers) in
       omega (arith, rw c at e)
 
   trip-fifty : (a : ℕ) → tripStep g a .answer ≡ 0 → ⊥
   unfolding tripStep tripOnce
   trip-fifty a =
       cond-elim (λ (o : Outcome). o .answer ≡ 0 → ⊥) (ltb (tripsOf g a) 2)
-      (λ _ e. let c : tripCrashes g a ≡ true = or-right (cabinet g a .store) _ (or-left (any (recoveringOnes g)) _ recovers) in omega (arith, rw c at e))
+      (λ _ e. let c : tripCrashes g a ≡ true = or-right (isLast (g .store) a) _ (or-left (any (recoveringOnes g)) _ recovers) in omega (arith, rw c at e))
       (λ _. fail-fifty a)
 
   refused-or : (k : ℕ) (o : Outcome) → (o .answer ≡ 0 → ⊥) → orRefuse k g o .answer ≡ 0 → ⊥
@@ -127,7 +128,7 @@ module _ (g : Group) (recovers : any (recoveringOnes g) ≡ true) where
         let k = noteTaken t h (a - 1) (b - 1) p in
         same-save (latest (observe h g g′ (Deliver a b))) (latest k) (latest h) (known-same (goes g g′ (b - 1) Checkpointed Normal) k) (taken-same t h (a - 1) (b - 1) p)
     observed-same (Write a) e = (refl, refl)
-    observed-same (Saved a) e = commit-same (coordinator (cabinet g (cabinet g (a - 1) .home)))
+    observed-same (Saved a) e = commit-same (coordinator (cabinet g (home g (a - 1))))
     observed-same (Fetch a) e = known-same (goes g g′ (a - 1) Recovering Recovered) h
     observed-same (RestoredStep a) e = end-same (ends g g′ (a - 1)) h g′
     observed-same (Fail a) e = absurd (refused-or (entryRefusal g (Fail a)) (failStep g (a - 1)) (fail-fifty (a - 1)) e)

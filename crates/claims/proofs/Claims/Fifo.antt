@@ -1,8 +1,8 @@
 -- Lines are first in, first out, and none is ever too short: after every taken step each holds what a line without bounds would hold.
-use Prim.Native.Nat.{ℕ, zero, suc, _-_, _<_}
+use Prim.Native.Nat.{ℕ, zero, suc, _-_, _<_, _+_}
 use mathlib.Core.Path.{_≡_, refl, sym, ap, _∙_, subst}
 use mathlib.Core.Logic.{⊎-elim}
-use mathlib.Core.Bool.{Bool, true, false, not, _&&_, _||_}
+use mathlib.Core.Bool.{Bool, true, false, not, _&&_}
 use mathlib.Core.List.{List, [], _∷_, _++_}
 use lib.ListN.{getD}
 use lib.Dec.{eqb, ltb}
@@ -15,9 +15,12 @@ use Rattle.line.specs.declared.Cell.{Cell}
 use Rattle.packet.specs.Packet.{isEmpty}
 use Rattle.line.specs.Line.{emptyCell, oldest}
 use Rattle.state.specs.State.{works}
+use Rattle.protocol.specs.Moves.{leave, markFailed, trip, alarmTo}
+use Rattle.packet.specs.declared.Place.the-variants.{Failed as AtFailed, Tripped as AtTripped}
+use Rattle.claims.proofs.State.ViewMoves.{view-counted}
 use Rattle.group.specs.declared.Group.{Group}
 use Rattle.group.specs.declared.Outcome.{Outcome}
-use Rattle.group.specs.Group.{cabinet, stateOf, line, rowsOf, isCrashed, some, recoveringOnes, tripsOf}
+use Rattle.group.specs.Group.{cabinet, stateOf, line, rowsOf, isCrashed, some, recoveringOnes, tripsOf, withTripsOf}
 use Rattle.load.specs.Load.{feederTotal}
 use Rattle.protocol.specs.declared.Step.{Step}
 use Rattle.protocol.specs.declared.Step.the-variants.{Send, Note, Begin, Deliver, Write, Saved, Fetch, Restored, Fail, Damage, Lose, Trip, Unsure}
@@ -28,7 +31,7 @@ use Rattle.protocol.specs.History.{History}
 use Rattle.protocol.specs.Restored.{worldAfter}
 use Rattle.claims.specs.Bounds.{packets}
 use Rattle.claims.specs.Fifo.{handled, cameFrom, lineAfter, FirstInFirstOut, PacketsFirst}
-use Rattle.claims.proofs.State.Fun.{never, is-true, is-false, and-true, or-left, or-right, not-true-false, cond-elim, kept-at}
+use Rattle.claims.proofs.State.Fun.{is-true, and-true, not-true-false, cond-elim, kept-at}
 use Rattle.claims.proofs.State.Every.{passed, Fits, FitsIn, decode-fits, every-step}
 use Rattle.claims.proofs.State.View.{View, Own, view}
 use Rattle.claims.proofs.State.Cells.{Packed, nothing-there}
@@ -45,6 +48,8 @@ use Rattle.claims.proofs.Fifo.Alarms.{puts-fail, puts-trip}
 use Rattle.claims.proofs.Fifo.Rooms.{ready}
 use Rattle.claims.proofs.Fifo.Delivers.{line-at, puts-deliver}
 use Rattle.claims.proofs.Fifo.Steps.{cabinet-puts, fetch-puts, write-puts, begin-puts, saved-puts, restored-puts, unsure-puts}
+use Rattle.claims.proofs.Moves.FailStep as failing
+use Rattle.claims.proofs.Moves.TripStep as tripping
 use Rattle.claims.proofs.Claims.Stepping.{named-below}
 use Rattle.claims.proofs.Claims.Demand.{Runs, every-list}
 
@@ -68,15 +73,17 @@ module _ (total : Party → ℕ) (g : Group) (h : History) (γ : Ghost) (w : Fit
   at : (x : ℕ) → isCabinet g x ≡ true → (x - 1 < g .n) × (x - 1 < 8)
   at = named-below total g γ i
 
-  -- nobody recovers where a fail or a trip does not crash the group
-  second : (s t u : Bool) → (s || (t || u)) ≡ false → t ≡ false
-  second s t u e = is-false t (λ f. never (or-right s (t || u) (or-left t u f)) e)
-
   failed : (a : ℕ) → isCabinet g a ≡ true → works (stateOf g (a - 1)) ≡ true → Owed (Fail a) (failStep g (a - 1))
   unfolding failStep
   failed a x o =
       cond-elim (Owed (Fail a)) (failCrashes g (a - 1)) (λ _ e. absurd (omega arith))
-      (λ e _. puts-fail (λ c d. false) g w (a - 1) (at a x .1) (ready total g γ w i (a - 1) o (second (cabinet g (a - 1) .store) (some (recoveringOnes g)) _ e)))
+      (λ e _.
+      let gone = failing.gone total g h γ w i past (a - 1) (at a x .1) (at a x .0) o e in
+      let after = alarmTo 8 (markFailed (leave g (a - 1)) (a - 1)) (a - 1) (AtFailed (a - 1)) in
+      subst (λ (u : View). Unbounded (u .lines) (λ c d. false) u (view after)) (gone .seen)
+      (puts-fail (λ c d. false) (leave g (a - 1)) (gone .fit) (a - 1) (at a x .1)
+      (ready total (leave g (a - 1)) γ (gone .fit) (gone .inv) (a - 1) (failing.up1 total g h γ w i past (a - 1) (at a x .1) (at a x .0) o e)
+      (failing.found1 total g h γ w i past (a - 1) (at a x .1) (at a x .0) o e .1))))
 
   -- a third trip is a fail
   tripped : (a : ℕ) → isCabinet g a ≡ true → works (stateOf g (a - 1)) ≡ true → Owed (Trip a) (tripStep g (a - 1))
@@ -84,7 +91,16 @@ module _ (total : Party → ℕ) (g : Group) (h : History) (γ : Ghost) (w : Fit
   tripped a x o =
       cond-elim (Owed (Trip a)) (ltb (tripsOf g (a - 1)) 2)
       (λ _. cond-elim (Owed (Trip a)) (tripCrashes g (a - 1)) (λ _ e. absurd (omega arith))
-      (λ e _. puts-trip (λ c d. false) g w (a - 1) _ (at a x .1) (ready total g γ w i (a - 1) o (second (cabinet g (a - 1) .store) (some (recoveringOnes g)) _ e))))
+      (λ e _.
+      let k = tripsOf g (a - 1) + 1 in
+      let counted = withTripsOf g (a - 1) k in
+      let gone = tripping.gone total g h γ w i past (a - 1) (at a x .1) (at a x .0) o e k in
+      let after = alarmTo 8 (trip (leave counted (a - 1)) (a - 1)) (a - 1) (AtTripped (a - 1)) in
+      subst (λ (u : View). Unbounded (u .lines) (λ c d. false) u (view after)) (view-counted g (a - 1) k)
+      (subst (λ (u : View). Unbounded (u .lines) (λ c d. false) u (view after)) (gone .seen)
+      (puts-trip (λ c d. false) (leave counted (a - 1)) (gone .fit) (a - 1) (at a x .1)
+      (ready total (leave counted (a - 1)) γ (gone .fit) (gone .inv) (a - 1) (tripping.up1 total g h γ w i past (a - 1) (at a x .1) (at a x .0) o e k)
+      (tripping.found1 total g h γ w i past (a - 1) (at a x .1) (at a x .0) o e k .1))))))
       (λ _. failed a x o)
 
   performed : (s : Step) → Fits s → isCabinet g (firstOf s) ≡ true → isCabinet g (secondOf s) ≡ true → actorWorks g s ≡ true → Owed s (perform g s)

@@ -14,7 +14,7 @@ use Rattle.image.specs.declared.Image.{Image}
 use Rattle.cabinet.specs.Cabinet.{inUse, coordinator}
 use Rattle.group.specs.declared.Group.{Group}
 use Rattle.group.specs.declared.Outcome.{Outcome}
-use Rattle.group.specs.Group.{cabinet, line}
+use Rattle.group.specs.Group.{cabinet, line, home}
 use Rattle.protocol.specs.declared.Step.{Step}
 use Rattle.protocol.specs.declared.Step.the-variants.{Send, Note, Begin, Deliver, Write, Saved, Fetch, Restored, Fail, Damage, Lose, Trip, Unsure}
 use Rattle.protocol.specs.declared.Decoded.{Decoded}
@@ -75,7 +75,7 @@ observed-leaves h g g′ (Deliver a b) =
     (known-leaves (goes g g′ (b - 1) Checkpointed Normal) _)
 observed-leaves h g g′ (Write a) = nothing h
 observed-leaves h g g′ (Saved a) =
-    let k = coordinator (cabinet g (cabinet g (a - 1) .home)) in commit-leaves (commits g g′ k) h k
+    let k = coordinator (cabinet g (home g (a - 1))) in commit-leaves (commits g g′ k) h k
 observed-leaves h g g′ (Fetch a) = known-leaves (goes g g′ (a - 1) Recovering Recovered) h
 observed-leaves h g g′ (Restored a) = end-leaves (ends g g′ (a - 1)) h g′
 observed-leaves h g g′ (Fail a) = record { points = refl; lost = λ c m e. e }

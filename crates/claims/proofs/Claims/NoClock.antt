@@ -158,7 +158,7 @@ module _ (total : Party → ℕ) (w : World) (good : Good total w) (none : Silen
 
 pub before-unreported : BeforeUnreported
 before-unreported f of e _ loaded =
-    (start, λ c j x. starts-silent f (load f .group) (starts f of e) (loaded-fit f of) c (in-state (stateOf (load f .group) c) Error .1 x) j)
+    (start, λ c j x. starts-silent f (load f .group) (starts f of e) (loaded-fit f of e) c (in-state (stateOf (load f .group) c) Error .1 x) j)
 before-unreported f of e _ (operated {w} x o q b) =
     let r = before-unreported f of e w b in
     (next x o (r .0), λ c j z. silent-next (feederTotal f) w (reached-good f of e w (r .0)) (no-marks (w .group) (r .1)) x o q c (in-state (stateOf (advance w x .group) c) Error .1 z) j)

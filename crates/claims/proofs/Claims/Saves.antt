@@ -21,6 +21,7 @@ use Rattle.image.specs.declared.Image.{Image}
 use Rattle.state.specs.State.{isIn, works, inRestoring, isUnknown, bitOf}
 use Rattle.image.specs.Image.{booked}
 use Rattle.cabinet.specs.Cabinet.{coordinator}
+use Rattle.store.specs.Store.{homeIn}
 use Rattle.group.specs.declared.Group.{Group}
 use Rattle.group.specs.declared.Outcome.{Outcome}
 use Rattle.group.specs.Group.{cabinet, stateOf, line, slot, isCrashed, taken, sum}
@@ -64,33 +65,33 @@ module _ (total : Party → ℕ) (g : Group) (h : History) (w : Runs total g h) 
       w .inv .core .nodes a .unknownAt (un-of (γ .big) (view g .own a) (rw cuts) (rw cuts)) ∙ rw cuts
 
   -- a cabinet is recovering, so there is a fault, and its home is aware of it
-  fetches-known : (a : ℕ) → fetchRefusal g a ≡ 0 → isUnknown (cabinet g (cabinet g a .home) .phase .version) ≡ false
+  fetches-known : (a : ℕ) → fetchRefusal g a ≡ 0 → isUnknown (cabinet g (homeIn (g .store) a) .phase .version) ≡ false
   fetches-known a e =
-      let home = cabinet g a .home in
+      let home = homeIn (g .store) a in
       let one = passed (isIn (stateOf g a) Recovering) 13 _ e in
       let restores = restoring-works (stateOf g home) (passed (inRestoring (stateOf g home)) 18 0 (one .1) .0) in
       let faulted = is-true (γ .big .faulted) (λ f. never (one .0) (w .inv .core .nodes a .quiet f .1)) in
       w .inv .core .nodes home .unknownAware (and-intro faulted (restores .0)) ∙ restores .1
 
   names-newest : (c d : ℕ) → works (stateOf g c) ≡ true → works (stateOf g d) ≡ true → (v : Bool) → cabinet g d .phase .version ≡ Known v
-      → (y : Cut) × (latest h .cut c ≡ some y) × (slot g c v ≡ y .image)
+      → (y : Cut) × (latest h .cut c ≡ some y) × (slot g (homeIn (g .store) c) c v ≡ y .image)
   names-newest c d wc wd v e =
       let y = cut-held (w .inv) (w .past) c wc in
-      (y .0, y .1, ap (slot g c) (w .inv .core .nodes d .known wd v e) ∙ w .inv .core .nodes c .slotTop (w .inv .core .nodes c .placed wc) ∙ sym (y .2))
+      (y .0, y .1, ap (slot g (homeIn (g .store) c) c) (w .inv .core .nodes d .known wd v e) ∙ w .inv .core .nodes c .slotTop (w .inv .core .nodes c .placed wc) ∙ sym (y .2))
 
   -- the home knows its version, and that names the newest save
   fetches-newest : (a : ℕ) → fetchRefusal g a ≡ 0
-      → (y : Cut) × (latest h .cut a ≡ some y) × (slot g a (bitOf (cabinet g (cabinet g a .home) .phase .version)) ≡ y .image)
+      → (y : Cut) × (latest h .cut a ≡ some y) × (slot g (homeIn (g .store) a) a (bitOf (cabinet g (homeIn (g .store) a) .phase .version)) ≡ y .image)
   fetches-newest a e = go (cabinet g home .phase .version) refl (fetches-known a e)
     where
       home : ℕ
-      home = cabinet g a .home
+      home = homeIn (g .store) a
 
       one : (isIn (stateOf g a) Recovering ≡ true) × (need (inRestoring (stateOf g home)) 19 0 ≡ 0)
       one = passed (isIn (stateOf g a) Recovering) 13 _ e
 
       go : (v : Version) → cabinet g home .phase .version ≡ v → isUnknown v ≡ false
-          → (y : Cut) × (latest h .cut a ≡ some y) × (slot g a (bitOf v) ≡ y .image)
+          → (y : Cut) × (latest h .cut a ≡ some y) × (slot g (homeIn (g .store) a) a (bitOf v) ≡ y .image)
       go (Known v) is _ =
           names-newest a home (ap works (in-state (stateOf g a) Recovering .0 (one .0)))
           (restoring-works (stateOf g home) (passed (inRestoring (stateOf g home)) 18 0 (one .1) .0) .4) v is
@@ -106,7 +107,7 @@ module _ (total : Party → ℕ) (g : Group) (h : History) (w : Runs total g h) 
         o .1,
         λ c wc.
             let y = cut-held (w .inv) (w .past) c wc in
-            (y .0, y .1, ap (slot g c) (o .2) ∙ w .inv .core .nodes c .slotTop (w .inv .core .nodes c .placed wc) ∙ sym (y .2)),
+            (y .0, y .1, ap (slot g (homeIn (g .store) c) c) (o .2) ∙ w .inv .core .nodes c .slotTop (w .inv .core .nodes c .placed wc) ∙ sym (y .2)),
       )
     where
       one : (isUnsure (cabinet g a) && cabinet g a .noted .former) ≡ true
@@ -201,12 +202,12 @@ module _ (g : Group) (r : List ℕ) (c : Commits g r) where
       (one .0, and-true {s = isCabinet g (c .about)} (passed (isCabinet g (c .about) && isCabinet g (c .about)) 10 _ (one .1) .0) .0)
 
   abbrev K : ℕ
-  K = coordinator (cabinet g (cabinet g a .home))
+  K = coordinator (cabinet g (homeIn (g .store) a))
 
-  report : (savedRefusal g a ≡ 0) × (step g r .group ≡ commitIfAll (reportSaved g a (cabinet g a .home) K) K)
+  report : (savedRefusal g a ≡ 0) × (step g r .group ≡ commitIfAll (reportSaved g a (homeIn (g .store) a) K) K)
   unfolding savedStep
   report =
-      let s = refuses (savedRefusal g a) g (taken (commitIfAll (reportSaved g a (cabinet g a .home) K) K))
+      let s = refuses (savedRefusal g a) g (taken (commitIfAll (reportSaved g a (homeIn (g .store) a) K) K))
       (ap (λ (x : Outcome). x .answer) (sym (decoded ∙ entry .1)) ∙ c .taken) in
       (s .0, ap (λ (x : Outcome). x .group) (decoded ∙ entry .1 ∙ s .1))
 
@@ -248,7 +249,7 @@ commits-between-resumes f of e xs o r or c = no-resumes (worldAfter f xs .group)
 saved-hurts : (h : History) (g : Group) (o : Outcome) (x : ℕ) → recordDecoded h g o (Taken (Saved x)) .hurt ≡ h .hurt
 saved-hurts h g o x =
     cond-elim (λ (y : History). y .hurt ≡ h .hurt) (eqb (o .answer) 0)
-    (λ _. committed (commits g (o .group) (coordinator (cabinet g (cabinet g (x - 1) .home)))) (coordinator (cabinet g (cabinet g (x - 1) .home)))) (λ _. refl)
+    (λ _. committed (commits g (o .group) (coordinator (cabinet g (homeIn (g .store) (x - 1))))) (coordinator (cabinet g (homeIn (g .store) (x - 1))))) (λ _. refl)
   where
     committed : (t : Bool) (k : ℕ) → noteCommit t h k .hurt ≡ h .hurt
     committed true k = refl

@@ -25,7 +25,7 @@ use Rattle.cabinet.specs.declared.Alarm.the-variants.{Fault as At}
 use Rattle.state.specs.State.{isIn, works}
 use Rattle.cabinet.specs.Cabinet.{inUse}
 use Rattle.group.specs.declared.Group.{Group}
-use Rattle.group.specs.Group.{cabinet, stateOf, withTripsOf}
+use Rattle.group.specs.Group.{cabinet, stateOf}
 use Rattle.protocol.specs.Moves.{markFailed, trip, alarmTo, neighbours, enterErrorIf}
 use Rattle.protocol.specs.History.{upd}
 use Rattle.protocol.specs.Receive.{serving}
@@ -34,7 +34,7 @@ use Rattle.claims.proofs.State.Every.{ok-markFailed, ok-trip, ok-alarm}
 use Rattle.claims.proofs.State.View.{View, Own, Side, used, view}
 use Rattle.claims.proofs.State.Shape.{Shaped, Lined, Pictured, shaped}
 use Rattle.claims.proofs.State.Sim.{Fit, in-use}
-use Rattle.claims.proofs.State.ViewMoves.{vFailed, sim-failed, leadAfter, sim-tripped, view-counted, fit-counted}
+use Rattle.claims.proofs.State.ViewMoves.{vFailed, sim-failed, leadAfter, sim-tripped}
 use Rattle.claims.proofs.Invariant.States.{serving-calm, serves-or-restores}
 use Rattle.claims.proofs.Moves.ErrorSeen.{erredState, erred, erredLine, oErred, sErred, error-seen, sim-error, erred-works}
 use Rattle.claims.proofs.Moves.Failing.{failed-own, other-own, failed-side, still-works}
@@ -222,17 +222,10 @@ module _ (back : ℕ → ℕ → Bool) (v : View) (a : ℕ) (r : Ready v a) wher
       not-itself : marked (inUse (cabinet g1 a)) a ≡ false
       not-itself = in-use (cabinet g1 a) (fit1 .cabs a) a ∙ ap (λ (u : View). used (u .side a a)) seen ∙ tripped-used a ∙ r .alone
 
-trips-of : (back : ℕ → ℕ → Bool) (g : Group) → Fit g → (a : ℕ) → a < 8 → Ready (view g) a
+pub puts-trip : (back : ℕ → ℕ → Bool) (g : Group) → Fit g → (a : ℕ) → a < 8 → Ready (view g) a
     → Unbounded (view g .lines) back (view g) (view (alarmTo 8 (trip g a) a (AtTripped a)))
-trips-of back g fit a la r =
+puts-trip back g fit a la r =
     let seen = sim-tripped g fit a la ∙ tripped-seen (view g) a in
     let fit1 = ok-trip Shaped Lined Pictured shaped g a fit in
     alarms back (view g) a (AtTripped a) (trip g a) fit1 (subst (Unbounded (view g .lines) back (view g)) (sym seen) (ends-tripped back (view g) a r))
     (near-tripped back (view g) a r (trip g a) fit1 seen) 8 (omega arith) .0
-
--- the count of trips is no part of the view
-pub puts-trip : (back : ℕ → ℕ → Bool) (g : Group) → Fit g → (a k : ℕ) → a < 8 → Ready (view g) a
-    → Unbounded (view g .lines) back (view g) (view (alarmTo 8 (trip (withTripsOf g a k) a) a (AtTripped a)))
-puts-trip back g fit a k la =
-    subst (λ (u : View). Ready u a → Unbounded (u .lines) back u (view (alarmTo 8 (trip (withTripsOf g a k) a) a (AtTripped a)))) (view-counted g a k)
-    (trips-of back (withTripsOf g a k) (fit-counted g a k fit) a la)

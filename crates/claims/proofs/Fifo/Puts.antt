@@ -28,7 +28,7 @@ use Rattle.protocol.specs.History.{upd}
 use Rattle.protocol.specs.Moves.{join, cutIfAll, resumeWith, adopt, recoverWith, enterError, hear}
 use Rattle.protocol.specs.Receive.{serving}
 use Rattle.claims.proofs.State.Fun.{and-false, and-off, and-same, cond-elim, kept-at, kept-pair, upd-same, upd-id, upd-case}
-use Rattle.claims.proofs.State.View.{View, Own, Side, used, ownOf, sideOf, view, setCabinet}
+use Rattle.claims.proofs.State.View.{View, Own, Side, used, ownIn, sideOf, view, setCabinet}
 use Rattle.claims.proofs.State.Sim.{Fit, view-cabinet}
 use Rattle.claims.proofs.State.Methods.{sBegun, sCleared}
 use Rattle.claims.proofs.State.ViewMoves.{Room, vPut, oPhase, oBare, leadAfter, sim-join, sim-resume, sim-recover, vHear, vCompare, sim-hear, sim-compare}
@@ -144,6 +144,6 @@ module _ (base : ℕ → ℕ → List Packet) (back : ℕ → ℕ → Bool) (v :
             → ((d : ℕ) → used (sideOf c d) ≡ used (view u .side i d)) → Ends (view (withCabinet u i c))
         cut c s x q sides =
             subst Ends (sym (view-cabinet u (fit .frame) i c l))
-            (quiet base back v (view u) (setCabinet (view u) i (ownOf c) (sideOf c)) (λ a b. refl)
+            (quiet base back v (view u) (setCabinet (view u) i (ownIn u i c) (sideOf c)) (λ a b. refl)
             (λ a b. kept-at (λ (f : ℕ → Side). used (f b)) (view u .side) i (sideOf c) (sides b) a)
-            (upd-case (λ (j : ℕ) (o : Own). Alike (view u .own j) o) (view u .own) i (ownOf c) (s, x, q) (λ j n. (inl refl, refl, refl))) before)
+            (upd-case (λ (j : ℕ) (o : Own). Alike (view u .own j) o) (view u .own) i (ownIn u i c) (s, x, q) (λ j n. (inl refl, refl, refl))) before)

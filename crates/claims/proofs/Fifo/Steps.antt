@@ -13,14 +13,16 @@ use Rattle.settled.specs.declared.Reason.the-variants.{Decided}
 use Rattle.cabinet.specs.declared.Cabinet.{Cabinet}
 use Rattle.state.specs.State.{isIn, works, inRecovery, inRestoring, inSaving, bitOf}
 use Rattle.cabinet.specs.Cabinet.{inUse, coordinator}
+use Rattle.store.specs.Store.{isPresent, homeIn}
+use Rattle.claims.proofs.Moves.ComingBack.{Homed, back-homed}
 use Rattle.group.specs.declared.Group.{Group}
 use Rattle.group.specs.Group.{cabinet, withCabinet, stateOf}
 use Rattle.protocol.specs.Moves.{join, cutIfAll, resumeWith, commit, endRecovery, noteLost}
-use Rattle.protocol.specs.Kinds.{beginRefusal, writeRefusal, writePiece, oweIf, savedRefusal, reportSaved, commitIfAll, fetchRefusal, fetchPiece, restoredRefusal, mayReport, reportRestored, endIfAll, isUnsure, takesUnsure, unsureRefusal, reportUnsure, decideIfAll}
+use Rattle.protocol.specs.Kinds.{beginRefusal, writeRefusal, writePiece, oweIf, savedRefusal, reportSaved, commitIfAll, fetchRefusal, fetchPiece, restoredRefusal, mayReport, reportRestored, endIfAll, isUnsure, takesUnsure, unsureRefusal, reportUnsure, decideIfAll, comeBackIfAway}
 use Rattle.protocol.specs.History.{upd}
 use Rattle.claims.proofs.State.Fun.{and-true, and-false, cond-elim, kept-at, kept-pair, upd-case, upd-same}
-use Rattle.claims.proofs.State.Every.{passed, with-cabinet, ok-join, ok-writePiece, ok-reportSaved, ok-noteLost}
-use Rattle.claims.proofs.State.View.{View, Own, Side, used, ownOf, sideOf, view, setCabinet}
+use Rattle.claims.proofs.State.Every.{passed, with-cabinet, ok-join, ok-writePiece, ok-reportSaved, ok-noteLost, ok-comeBackIfAway}
+use Rattle.claims.proofs.State.View.{View, Own, Side, used, ownIn, sideOf, view, setCabinet}
 use Rattle.claims.proofs.State.Shape.{Shaped, Lined, Pictured, shaped}
 use Rattle.claims.proofs.State.Sim.{Fit, view-cabinet}
 use Rattle.claims.proofs.State.Methods.{sOwed}
@@ -55,8 +57,8 @@ module _ (total : Party → ℕ) (g : Group) (γ : Ghost) (w : Fit g) (i : Inv (
   pub cabinet-puts : (a : ℕ) (c : Cabinet) → a < 8 → Idle (stateOf g a) (c .phase .state) → Puts (view (withCabinet g a c))
   cabinet-puts a c la states =
       subst Puts (sym (view-cabinet g (w .frame) a c la))
-      (idle (v .lines) (λ c d. false) v (setCabinet v a (ownOf c) (sideOf c))
-      (upd-case (λ (j : ℕ) (o : Own). Idle (v .own j .state) (o .state)) (v .own) a (ownOf c) states (λ j n. idle-same (v .own j .state))) same-lines)
+      (idle (v .lines) (λ c d. false) v (setCabinet v a (ownIn g a c) (sideOf c))
+      (upd-case (λ (j : ℕ) (o : Own). Idle (v .own j .state) (o .state)) (v .own) a (ownIn g a c) states (λ j n. idle-same (v .own j .state))) same-lines)
 
   pub fetch-puts : (a : ℕ) → a < 8 → fetchRefusal g a ≡ 0 → Puts (view (fetchPiece g a))
   unfolding fetchPiece
@@ -74,26 +76,29 @@ module _ (total : Party → ℕ) (g : Group) (γ : Ghost) (w : Fit g) (i : Inv (
     abbrev bit : Bool
     bit = bitOf (cabinet g a .phase .version)
 
+    here : isPresent (g .store) (homeIn (g .store) a) ≡ true
+    here = i .core .ground .homePresent a ln
+
     wrote-states : (t : Bool) → ltb (cabinet g a .noted .pieces) 3 ≡ t → (c : ℕ) → Idle (v .own c .state) (view (writePiece g a) .own c .state)
     wrote-states true e c =
-        subst (λ (u : View). Idle (v .own c .state) (u .own c .state)) (sym (sim-write g w a la true e bit refl))
+        subst (λ (u : View). Idle (v .own c .state) (u .own c .state)) (sym (sim-write g w a la here true e bit refl))
         (upd-case (λ (j : ℕ) (o : Own). Idle (v .own j .state) (o .state)) (v .own) a _ (idle-same (v .own a .state)) (λ j n. idle-same (v .own j .state)) c)
     wrote-states false e c =
-        subst (λ (u : View). Idle (v .own c .state) (u .own c .state)) (sym (sim-write g w a la false e bit refl))
+        subst (λ (u : View). Idle (v .own c .state) (u .own c .state)) (sym (sim-write g w a la here false e bit refl))
         (upd-case (λ (j : ℕ) (o : Own). Idle (v .own j .state) (o .state)) (v .own) a _ (rw writing (refl, refl, λ x q k back. refl)) (λ j n. idle-same (v .own j .state)) c)
 
     wrote-lines : (c d : ℕ) → view (writePiece g a) .lines c d ≡ v .lines c d
-    wrote-lines c d = ap (λ (u : View). u .lines c d) (sim-write g w a la _ refl bit refl)
+    wrote-lines c d = ap (λ (u : View). u .lines c d) (sim-write g w a la here _ refl bit refl)
 
-    home-below : cabinet g a .home < 8
-    home-below = works-below total g γ w i (cabinet g a .home) (i .core .ground .storeWorks (cabinet g a .home) (i .core .ground .homeStores a ln))
+    home-below : homeIn (g .store) a < 8
+    home-below = works-below total g γ w i (homeIn (g .store) a) (i .core .ground .presentWorks (homeIn (g .store) a) (i .core .ground .homePresent a ln))
 
-    pub write-puts : (t : Bool) → Puts (view (oweIf t (writePiece g a) (cabinet g a .home) a))
+    pub write-puts : (t : Bool) → Puts (view (oweIf t (writePiece g a) (homeIn (g .store) a) a))
     write-puts true =
         let u = view (writePiece g a) in
-        subst Puts (sym (sim-owe (writePiece g a) (ok-writePiece Shaped Lined Pictured shaped g w a) (cabinet g a .home) a true home-below la))
-        (idle (v .lines) (λ c d. false) v (vOwe u (cabinet g a .home) a true)
-        (λ c. rw (kept-at (λ (o : Own). o .state) (u .own) (cabinet g a .home) (u .own (cabinet g a .home)) refl c) (wrote-states _ refl c)) wrote-lines)
+        subst Puts (sym (sim-owe (writePiece g a) (ok-writePiece Shaped Lined Pictured shaped g w a) (homeIn (g .store) a) a true home-below la))
+        (idle (v .lines) (λ c d. false) v (vOwe u (homeIn (g .store) a) a true)
+        (λ c. rw (kept-at (λ (o : Own). o .state) (u .own) (homeIn (g .store) a) (u .own (homeIn (g .store) a)) refl c) (wrote-states _ refl c)) wrote-lines)
     write-puts false = idle (v .lines) (λ c d. false) v (view (writePiece g a)) (wrote-states _ refl) wrote-lines
 
   -- ---- a save begins, is committed, a recovery goes on and ends
@@ -127,7 +132,7 @@ module _ (total : Party → ℕ) (g : Group) (γ : Ghost) (w : Fit g) (i : Inv (
   -- the report is on a, from its home to the coordinator k
   module _ (a : ℕ) (la : a < 8) (fine : savedRefusal g a ≡ 0) where
     abbrev home : ℕ
-    home = cabinet g a .home
+    home = homeIn (g .store) a
 
     abbrev k : ℕ
     k = coordinator (cabinet g home)
@@ -175,8 +180,11 @@ module _ (total : Party → ℕ) (g : Group) (γ : Ghost) (w : Fit g) (i : Inv (
     abbrev chief : ℕ
     chief = coordinator (cabinet g a)
 
+    abbrev r0 : Group
+    r0 = reportRestored g a chief
+
     abbrev r : Group
-    r = reportRestored g a chief
+    r = comeBackIfAway r0 a
 
     chief-restores : inRestoring (stateOf g chief) ≡ true
     chief-restores =
@@ -186,21 +194,27 @@ module _ (total : Party → ℕ) (g : Group) (γ : Ghost) (w : Fit g) (i : Inv (
     chief-works : works (stateOf g chief) ≡ true
     chief-works = restoring-works (stateOf g chief) chief-restores .4
 
-    noted : view r ≡ vRestored v chief a
+    noted : view r0 ≡ vRestored v chief a
     unfolding reportRestored
     noted = sim-restored g w chief a (works-below total g γ w i chief chief-works) la
 
-    fit : Fit r
+    fit0 : Fit r0
     unfolding reportRestored
-    fit = with-cabinet Shaped Lined Pictured shaped g chief _ (shaped .restoredFor (cabinet g chief) a (w .cabs chief)) w
+    fit0 = with-cabinet Shaped Lined Pictured shaped g chief _ (shaped .restoredFor (cabinet g chief) a (w .cabs chief)) w
+
+    fit : Fit r
+    fit = ok-comeBackIfAway Shaped Lined Pictured shaped r0 a fit0
+
+    back : Homed (view r0) (view r)
+    back = back-homed r0 fit0 a
 
     pub restored-puts : Puts (view (endIfAll r chief))
     unfolding endIfAll endRecovery
     restored-puts =
         let away = restoring-works (stateOf g chief) chief-restores .3 in
-        let states : (c : ℕ) → view r .own c .state ≡ v .own c .state = λ c. ap (λ (x : View). x .own c .state) noted ∙ kept-at (λ (x : Own). x .state) (v .own) chief (v .own chief) refl c in
-        let sides : (d : ℕ) → used (view r .side chief d) ≡ used (v .side chief d) = λ d. ap (λ (x : View). used (x .side chief d)) noted ∙ kept-pair used (v .side) chief a _ refl chief d in
-        let lines : (c d : ℕ) → view r .lines c d ≡ v .lines c d = λ c d. ap (λ (x : View). x .lines c d) noted in
+        let states : (c : ℕ) → view r .own c .state ≡ v .own c .state = λ c. back .states c ∙ ap (λ (x : View). x .own c .state) noted ∙ kept-at (λ (x : Own). x .state) (v .own) chief (v .own chief) refl c in
+        let sides : (d : ℕ) → used (view r .side chief d) ≡ used (v .side chief d) = λ d. back .uses chief d ∙ ap (λ (x : View). used (x .side chief d)) noted ∙ kept-pair used (v .side) chief a _ refl chief d in
+        let lines : (c d : ℕ) → view r .lines c d ≡ v .lines c d = λ c d. back .lines c d ∙ ap (λ (x : View). x .lines c d) noted in
         let n = sim-note r fit chief in
         cond-elim (λ (x : Group). Puts (view x)) (isIn (stateOf r chief) Recovered && covers (cabinet r chief .noted .restored) (cabinet r chief .table .cabinets))
         (λ _. subst Puts (sym (view-over _)) (normal-puts (noteLost r chief) (ok-noteLost Shaped Lined Pictured shaped r chief fit) chief chief-works away

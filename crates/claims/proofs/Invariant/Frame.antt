@@ -91,7 +91,7 @@ module _ (v : View) (γ : Ghost) (c : ℕ) (o : Own) (m : Mind) (s : ℕ → Sid
   lk-kept : _≡_ {A = ℕ → ℕ → Bool} (λ i j. w i j .lk) (lkOf γ)
   lk-kept = fun-ext (λ i. fun-ext (λ j. links i j))
 
-  pub move-ground : {n : ℕ} (b : Big) → b .chief ≡ γ .big .chief → b .heir ≡ γ .big .heir → b .alive ≡ γ .big .alive → o .home ≡ v .own c .home → o .store ≡ v .own c .store
+  pub move-ground : {n : ℕ} (b : Big) → b .chief ≡ γ .big .chief → b .heir ≡ γ .big .heir → b .alive ≡ γ .big .alive → o .home ≡ v .own c .home → o .present ≡ v .own c .present
       → GroundOf n v γ → GroundOf n (moved v c o s l z) (minded γ b c m w)
   move-ground {n} b chief heir alive home store g =
       rw (
@@ -100,7 +100,7 @@ module _ (v : View) (γ : Ghost) (c : ℕ) (o : Own) (m : Mind) (s : ℕ → Sid
         alive,
         kept (λ (x : Own). works (x .state)) (v .own) c o work,
         kept (λ (x : Own). x .home) (v .own) c o home,
-        kept (λ (x : Own). x .store) (v .own) c o store,
+        kept (λ (x : Own). x .present) (v .own) c o store,
         kept (λ (x : Mind). x .tab) (γ .mind) c m tab,
         lk-kept,
       ) g
@@ -169,7 +169,7 @@ same-view v c = λ t. record { own = upd-id (v .own) c t; side = upd-id (v .side
 
 abbrev pub SameOwn : Own → Own → Type 0
 SameOwn o x =
-    (o .state ≡ x .state) × (o .version ≡ x .version) × (o .alarm ≡ x .alarm) × (o .home ≡ x .home) × (o .store ≡ x .store)
+    (o .state ≡ x .state) × (o .version ≡ x .version) × (o .alarm ≡ x .alarm) × (o .home ≡ x .home) × (o .present ≡ x .present)
     × (o .lead ≡ x .lead) × (o .former ≡ x .former)
 
 abbrev pub SameMind : Mind → Mind → Type 0

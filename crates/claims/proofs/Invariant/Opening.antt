@@ -24,7 +24,7 @@ use Rattle.state.specs.State.{isIn, works, inSaving, isUnknown, bitOf}
 use Rattle.image.specs.Image.{booked}
 use Rattle.cabinet.specs.Cabinet.{absent}
 use Rattle.group.specs.declared.Group.{Group}
-use Rattle.group.specs.Group.{cabinet, slot, rowsOf, sum}
+use Rattle.group.specs.Group.{cabinet, home, slot, rowsOf, sum}
 use Rattle.load.specs.Load.{feederTotal}
 use Rattle.load.specs.Starts.{Starts}
 use Rattle.protocol.specs.History.{Cut, atStart, bareCut}
@@ -266,14 +266,14 @@ module _ (f : List ℕ) (g : Group) (st : Starts f g) (fit : Fit g) where
       (start-pair c d (view g .own c) (view g .own d) (cabinet g c .image) (cabinet g d .image) (view g .side c d) (view g .side d c) (tab₀ c) (tab₀ d)
       (mark (rowsOf (g .links)) c d) (ready₀ c) (ready₀ d) (clear₀ c d) (clear₀ d c) (tables₀ c d))
 
-  slots₀ : (c : ℕ) → slot g c false ≡ cabinet g c .image
+  slots₀ : (c : ℕ) → slot g (home g c) c false ≡ cabinet g c .image
   slots₀ c = elim (decLt c (g .n)) [
-    | yes l ↦ st .slot-zero c l
-    | no m ↦ st .slot-past c false (omega arith) ∙ ap (λ (x : Cabinet). x .image) (sym (st .past c (omega arith)))
+    | yes l ↦ st .slot-zero (home g c) c l
+    | no m ↦ st .slot-past (home g c) c false (omega arith) ∙ ap (λ (x : Cabinet). x .image) (sym (st .past c (omega arith)))
   ]
 
   nodes₀ : (c : ℕ) → NodeAt (view g) γ₀ c
-  nodes₀ c = start-node c (view g .own c) (cabinet g c .image) (tab₀ c) (slot g c) (ready₀ c) (slots₀ c) (fit .cabs c .image)
+  nodes₀ c = start-node c (view g .own c) (cabinet g c .image) (tab₀ c) (slot g (home g c) c) (ready₀ c) (slots₀ c) (fit .cabs c .image)
 
   nothing-out : (c : ℕ) (y : Party) → outOf γ₀ c y ≡ 0
   nothing-out c y = sum-zero (λ d. 0) 8 (λ j l. refl)
@@ -316,19 +316,13 @@ module _ (f : List ℕ) (g : Group) (st : Starts f g) (fit : Fit g) where
     linkOther = st .not-self;
     soundBoth = λ c d. rw sound₀ (st .both-ways c d);
     soundLinks = λ c d e. sym (ap (λ r. mark r c d) sound₀) ∙ e;
-    homeStores = st .home-stores;
-    storeWorks = λ c e. works₀ c ∙ stored c e;
+    homePresent = st .home-present;
+    presentWorks = λ c e. works₀ c ∙ lt-ltb c (g .n) (st .present-below c e);
     reach = reach-group g (rowsOf (g .sound)) (st .joined) (λ c e. omega (arith, below c (sym (works₀ c) ∙ e), st .most)) (λ c d. rw sound₀ (st .both-ways c d));
     othersWork = λ e. absurd (true≢false e);
     othersReach = λ e. absurd (true≢false e);
-    lostStore = λ e. absurd (true≢false e);
+    other = λ e. absurd (true≢false e);
   }
-    where
-      stored : (c : ℕ) → cabinet g c .store ≡ true → tab₀ c ≡ true
-      stored c e = elim (decLt c (g .n)) [
-        | yes l ↦ lt-ltb c (g .n) l
-        | no m ↦ absurd (never e (ap (λ (x : Cabinet). x .store) (st .past c (omega arith))))
-      ]
 
   places₀ : PlacesOf (view g) γ₀
   places₀ = record {

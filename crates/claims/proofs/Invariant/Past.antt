@@ -194,6 +194,8 @@ pub record Ended (total : Party → ℕ) (g g′ : Group) (h′ : History) (δ :
   pub known : latest h′ .known ≡ true
   pub place : OnePlace (view g)
   pub over : δ .big .faulted ≡ false
+  -- nobody comes to work
+  pub gone : (c : ℕ) → works (stateOf g c) ≡ false → works (stateOf g′ c) ≡ false
   pub who : (j : ℕ) × (works (stateOf g j) ≡ true) × (ends g g′ j ≡ true)
 
 -- what a step owes that may end a recovery, or be a report

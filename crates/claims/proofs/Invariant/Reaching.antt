@@ -13,7 +13,7 @@ use Rattle.marks.specs.ReachLaws.{Path, here, step, connected-paths}
 use Rattle.state.specs.State.{works}
 use Rattle.group.specs.declared.Row.{Row}
 use Rattle.group.specs.declared.Group.{Group}
-use Rattle.group.specs.Group.{cabinet, stateOf, line, outgoing, slot, working, rowsOf, ofRows, withSound}
+use Rattle.group.specs.Group.{cabinet, stateOf, line, outgoing, working, rowsOf, ofRows, withSound}
 use Rattle.claims.proofs.State.Fun.{never}
 use Rattle.claims.proofs.State.View.{view, setSound}
 
@@ -120,7 +120,7 @@ unfolding rowsOf
 length-rows s = refl
 
 pub view-sound : (g : Group) (rs : Rows) → length rs ≡ 8 → view (withSound g rs) ≡ setSound (view g) (mark rs)
-unfolding cabinet outgoing line slot withSound
+unfolding cabinet outgoing line withSound
 view-sound g rs e = λ t. record {
   own = view g .own;
   side = view g .side;

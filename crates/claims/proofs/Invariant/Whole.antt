@@ -21,7 +21,7 @@ use Rattle.claims.proofs.Invariant.Facts.{Big, Ghost, Pair, Node, Books
 
 -- ---- who is there, which links stand, and that all are reached (A3, A4, A8, A13)
 
-pub record Ground (n chief heir : ℕ) (alive : Bool) (work tab store : ℕ → Bool) (home : ℕ → ℕ) (lk sound : ℕ → ℕ → Bool) : Type 0 where
+pub record Ground (n chief heir : ℕ) (alive : Bool) (work tab present : ℕ → Bool) (home : ℕ → ℕ) (lk sound : ℕ → ℕ → Bool) : Type 0 where
   pub most : n ≤ 8
   pub within : (c : ℕ) → tab c ≡ true → c < n
   pub chiefIn : tab chief ≡ true
@@ -30,15 +30,15 @@ pub record Ground (n chief heir : ℕ) (alive : Bool) (work tab store : ℕ → 
   pub linkOther : (c : ℕ) → lk c c ≡ false
   pub soundBoth : (c d : ℕ) → sound c d ≡ sound d c
   pub soundLinks : (c d : ℕ) → sound c d ≡ true → lk c d ≡ true
-  pub homeStores : (c : ℕ) → c < n → store (home c) ≡ true
-  pub storeWorks : (c : ℕ) → store c ≡ true → work c ≡ true
+  pub homePresent : (c : ℕ) → c < n → present (home c) ≡ true
+  pub presentWorks : (c : ℕ) → present c ≡ true → work c ≡ true
   -- A4: over sound links
   pub reach : Reach work sound
   -- A13: the coordinator is lost: all others work, and without it they are reached over the links of the last recovery's end
   pub othersWork : alive ≡ false → (c : ℕ) → tab c ≡ true → c ≢ chief → work c ≡ true
   pub othersReach : alive ≡ false → Reach (λ c. tab c && not (eqb c chief)) lk
-  -- it is no store, so that there are others: its home
-  pub lostStore : alive ≡ false → store chief ≡ false
+  -- .. and there is another
+  pub other : alive ≡ false → (j : ℕ) × (j ≢ chief) × (work j ≡ true)
 
 -- ---- fault places (A5, A6)
 
@@ -85,8 +85,8 @@ module _ (v : View) where
   abbrev pub homeOf : ℕ → ℕ
   homeOf c = v .own c .home
 
-  abbrev pub storeOf : ℕ → Bool
-  storeOf c = v .own c .store
+  abbrev pub presentOf : ℕ → Bool
+  presentOf c = v .own c .present
 
   abbrev pub knownOf : ℕ → Bool
   knownOf c = not (isUnknown (v .own c .version))
@@ -127,7 +127,7 @@ BooksAt v γ c = Books (γ .big) (v .own c) (γ .mind c) (outOf γ c) (gotOf γ 
 
 abbrev pub GroundOf : ℕ → View → Ghost → Type 0
 GroundOf n v γ =
-    Ground n (γ .big .chief) (γ .big .heir) (γ .big .alive) (workOf v) (tabOf γ) (storeOf v) (homeOf v) (lkOf γ) (v .sound)
+    Ground n (γ .big .chief) (γ .big .heir) (γ .big .alive) (workOf v) (tabOf γ) (presentOf v) (homeOf v) (lkOf γ) (v .sound)
 
 abbrev pub PlacesOf : View → Ghost → Type 0
 PlacesOf v γ = Places (γ .big .faulted) (workOf v) (tabOf γ) (awareOf v γ) (alarmOf v) (lkOf γ) (v .sound)

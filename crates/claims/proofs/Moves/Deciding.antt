@@ -21,7 +21,7 @@ use Rattle.claims.proofs.State.View.{View}
 use Rattle.claims.proofs.State.Leading.{next-other}
 use Rattle.claims.proofs.Invariant.States.{unknown-old}
 use Rattle.claims.proofs.Invariant.Facts.{Ghost, unaware}
-use Rattle.claims.proofs.Invariant.Whole.{Core, Inv, Place-of, failed, tripped, faulty, workOf, awareOf, alarmOf, homeOf, storeOf, tabOf, lkOf}
+use Rattle.claims.proofs.Invariant.Whole.{Core, Inv, Place-of, failed, tripped, faulty, workOf, awareOf, alarmOf, tabOf, lkOf}
 use Rattle.claims.proofs.Moves.FirstFault.{gFrozen}
 use Rattle.claims.proofs.Moves.ErrorSeen.{vRecover}
 use Rattle.claims.proofs.Moves.Erring.{frozen-pair, frozen-node, frozen-books, frozen-lead}
@@ -58,13 +58,12 @@ module _ (n : ℕ) (total : Party → ℕ) (v : View) (γ : Ghost) (i : Inv n to
 
 -- who is another, and works
 module _ (n : ℕ) (total : Party → ℕ) (v : View) (γ : Ghost) (i : Inv n total v γ) (lost : γ .big .alive ≡ false) where
-  -- the home of the lost one
   another : (y : ℕ) × (y < 8) × (y ≢ chief γ) × (tabOf γ y ≡ true)
   another =
       let g = i .core .ground in
-      let s = g .homeStores (chief γ) (g .within (chief γ) (g .chiefIn)) in
-      let t = i .core .nodes (homeOf v (chief γ)) .placed (g .storeWorks (homeOf v (chief γ)) s) in
-      (homeOf v (chief γ), omega (arith, g .within (homeOf v (chief γ)) t, g .most), (λ q. never (ap (storeOf v) (sym q) ∙ s) (g .lostStore lost)), t)
+      let x = g .other lost in
+      let t = i .core .nodes (x .0) .placed (x .2) in
+      (x .0, omega (arith, g .within (x .0) t, g .most), x .1, t)
 
   abbrev next : (γ .big .heir < 8) × (tabOf γ (γ .big .heir) ≡ true) × (γ .big .heir ≢ chief γ)
   next = rw (i .core .ground .heirIs) (next-other (tabOf γ) (chief γ) (another .0) (another .1) (another .2) (another .3))

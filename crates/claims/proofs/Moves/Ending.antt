@@ -293,9 +293,9 @@ module _ (n : ℕ) (total : Party → ℕ) (v : View) (γ : Ghost) (i : Inv n to
     ended-ground : GroundOf n v′ γ′
     ended-ground =
         let g = i .core .ground in
-        subst (λ (f : ℕ → Bool). Ground n k x′ true f (workOf v) (λ c. upd (v .own) k o′ c .store) (λ c. upd (v .own) k o′ c .home) (v .sound) (v .sound)) (sym work-same)
-        (subst (λ (f : ℕ → Bool). Ground n k x′ true (workOf v) (workOf v) f (λ c. upd (v .own) k o′ c .home) (v .sound) (v .sound)) (sym (kept (λ (x : Own). x .store) (v .own) k o′ refl))
-        (subst (λ (f : ℕ → ℕ). Ground n k x′ true (workOf v) (workOf v) (λ c. v .own c .store) f (v .sound) (v .sound)) (sym (kept (λ (x : Own). x .home) (v .own) k o′ refl))
+        subst (λ (f : ℕ → Bool). Ground n k x′ true f (workOf v) (λ c. upd (v .own) k o′ c .present) (λ c. upd (v .own) k o′ c .home) (v .sound) (v .sound)) (sym work-same)
+        (subst (λ (f : ℕ → Bool). Ground n k x′ true (workOf v) (workOf v) f (λ c. upd (v .own) k o′ c .home) (v .sound) (v .sound)) (sym (kept (λ (x : Own). x .present) (v .own) k o′ refl))
+        (subst (λ (f : ℕ → ℕ). Ground n k x′ true (workOf v) (workOf v) (λ c. v .own c .present) f (v .sound) (v .sound)) (sym (kept (λ (x : Own). x .home) (v .own) k o′ refl))
         (record {
           most = g .most;
           within = λ c w. g .within c (i .core .nodes c .placed w);
@@ -305,12 +305,12 @@ module _ (n : ℕ) (total : Party → ℕ) (v : View) (γ : Ghost) (i : Inv n to
           linkOther = self-apart;
           soundBoth = g .soundBoth;
           soundLinks = λ c d e. e;
-          homeStores = g .homeStores;
-          storeWorks = g .storeWorks;
+          homePresent = g .homePresent;
+          presentWorks = g .presentWorks;
           reach = g .reach;
           othersWork = λ e. absurd (true≢false e);
           othersReach = λ e. absurd (true≢false e);
-          lostStore = λ e. absurd (true≢false e);
+          other = λ e. absurd (true≢false e);
         })))
 
     ended-chain : ChainOf v′ γ′

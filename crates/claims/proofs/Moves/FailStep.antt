@@ -21,9 +21,10 @@ use Rattle.state.specs.declared.State.the-variants.{Checkpointing, Checkpointed
 use Rattle.image.specs.declared.Image.{Image}
 use Rattle.state.specs.State.{isIn, works, inRecovery, inSaving}
 use Rattle.image.specs.Image.{booked}
+use Rattle.store.specs.Store.{isLast}
 use Rattle.group.specs.declared.Group.{Group}
-use Rattle.group.specs.Group.{cabinet, stateOf, rowsOf, working, some, recoveringOnes}
-use Rattle.protocol.specs.Moves.{markFailed, alarmTo}
+use Rattle.group.specs.Group.{stateOf, rowsOf, working, some, recoveringOnes}
+use Rattle.protocol.specs.Moves.{leave, markFailed, alarmTo}
 use Rattle.protocol.specs.Kinds.{failCrashes}
 use Rattle.protocol.specs.History.{Save, History, newest, passesOver, passOver, withSaves, withStanding, notePassed, noteCuts}
 use Rattle.claims.proofs.State.Fun.{never, is-false, and-true, and-not, same-at}
@@ -41,6 +42,7 @@ use Rattle.claims.proofs.Invariant.Past.{Past, Kept, no-cuts}
 use Rattle.claims.proofs.Invariant.Reaching.{Reach, reach-of, working-at, working-marks}
 use Rattle.claims.proofs.Invariant.Staying.{stays-none}
 use Rattle.claims.proofs.Moves.FirstFault.{gFaulted, gBig}
+use Rattle.claims.proofs.Moves.Leaving.{Left, store-leaves, state-left, working-left, calm-left, sound-left, past-left, from-left}
 use Rattle.claims.proofs.Moves.Unopened as openly
 use Rattle.claims.proofs.Moves.Undoing.{gLost, gUndo}
 use Rattle.claims.proofs.Moves.Failing.{failed-own, other-own, still-works, works-on, failed-other, failed-chief, failed-undone}
@@ -155,7 +157,7 @@ fail-reach g a la both below all =
       | no d ↦ works-on (view g) a c d (working-marks g c (sym (getD-set-other (working g) a c false false d) ∙ e))
     ]
 
--- ---- the step
+-- ---- the step, once a store has left
 
 split-or : (x y z : Bool) → (x || (y || not z)) ≡ false → (x ≡ false) × (y ≡ false) × (z ≡ true)
 split-or true y z e = absurd (true≢false e)
@@ -164,7 +166,8 @@ split-or false false true e = (refl, refl, refl)
 split-or false false false e = absurd (true≢false e)
 
 module _ (total : Party → ℕ) (g : Group) (h : History) (γ : Ghost) (fit : Fit g) (i : Inv (g .n) total (view g) γ) (past : Past (g .n) (view g) γ h)
-    (a : ℕ) (la : a < 8) (an : a < g .n) (up : workOf (view g) a ≡ true) (fine : failCrashes g a ≡ false) where
+    (a : ℕ) (la : a < 8) (an : a < g .n) (up : workOf (view g) a ≡ true)
+    (checks : (view g .own a .present ≡ false) × (some (recoveringOnes g) ≡ false) × (connected (rowsOf (g .sound)) (set (working g) a false) ≡ true)) where
   abbrev v : View
   v = view g
 
@@ -173,9 +176,6 @@ module _ (total : Party → ℕ) (g : Group) (h : History) (γ : Ghost) (fit : F
 
   abbrev h′ : History
   h′ = notePassed h a
-
-  checks : (cabinet g a .store ≡ false) × (some (recoveringOnes g) ≡ false) × (connected (rowsOf (g .sound)) (set (working g) a false) ≡ true)
-  checks = split-or (cabinet g a .store) (some (recoveringOnes g)) (connected (rowsOf (g .sound)) (set (working g) a false)) fine
 
   pub nobody : (c : ℕ) → inRecovery (v .own c .state) ≡ false
   nobody = openly.nobody total g γ fit i (checks .1)
@@ -263,8 +263,8 @@ module _ (total : Party → ℕ) (g : Group) (h : History) (γ : Ghost) (fit : F
       stays = stays-none v γ (view g′) (gSaid δ (alarmed .said)) nobody (λ c f. is-false _ (λ e. never (fewer-work c e) f)) no-reports;
     }
 
-  pub keeps-fail : Kept total g γ g′ (noteCuts h′ g g′)
-  keeps-fail = elim (ℕ-discrete a (γ .big .chief)) [
+  keeps-left : Kept total g γ g′ (noteCuts h′ g g′)
+  keeps-left = elim (ℕ-discrete a (γ .big .chief)) [
     | yes q ↦ chief (γ .big .adopted) refl q
     | no d ↦ settled (gFaulted γ) (failed-other (g .n) total v (gFaulted γ) flipped nobody refl a (checks .0) reaches alive present d)
         refl (λ c. refl) (λ c d. refl)
@@ -284,3 +284,39 @@ module _ (total : Party → ℕ) (g : Group) (h : History) (γ : Ghost) (fit : F
           refl (λ c. refl) (λ c d. refl)
           (λ w t f s. past-undone (g .n) v γ h past a e q (another .0) (λ x. another .1 (x ∙ sym q)) (another .2) (λ c k. i .core .nodes c .gone k .1 e)
           (i .core .ground .within) w (λ c u. i .core .nodes c .placed (f c u)) (gSaid (gUndo (gFaulted γ)) t .big) refl refl refl)
+
+-- ---- the step
+
+module _ (total : Party → ℕ) (g : Group) (h : History) (γ : Ghost) (fit : Fit g) (i : Inv (g .n) total (view g) γ) (past : Past (g .n) (view g) γ h)
+    (a : ℕ) (la : a < 8) (an : a < g .n) (up : workOf (view g) a ≡ true) (fine : failCrashes g a ≡ false) where
+  found : (isLast (g .store) a ≡ false) × (some (recoveringOnes g) ≡ false) × (connected (rowsOf (g .sound)) (set (working g) a false) ≡ true)
+  found = split-or (isLast (g .store) a) (some (recoveringOnes g)) (connected (rowsOf (g .sound)) (set (working g) a false)) fine
+
+  pub none-recovers : (c : ℕ) → inRecovery (view g .own c .state) ≡ false
+  none-recovers = openly.nobody total g γ fit i (found .1)
+
+  -- the group without the store, and what was found, in it
+  abbrev pub gL : Group
+  gL = leave g a
+
+  pub gone : Left total g γ a
+  gone = store-leaves total g γ fit i a la (found .0) none-recovers
+
+  pub past1 : Past (gL .n) (view gL) γ h
+  past1 = past-left total g γ a gone past
+
+  pub an1 : a < gL .n
+  an1 = subst (λ (n : ℕ). a < n) (sym (gone .number)) an
+
+  pub up1 : workOf (view gL) a ≡ true
+  up1 = ap works (state-left total g γ a gone a) ∙ up
+
+  pub found1 : (view gL .own a .present ≡ false) × (some (recoveringOnes gL) ≡ false) × (connected (rowsOf (gL .sound)) (set (working gL) a false) ≡ true)
+  found1 = (gone .absent, calm-left total g γ a gone (found .1), rw (working-left total g γ a gone, sound-left total g γ a gone) (found .2))
+
+  abbrev after : Group
+  after = alarmTo 8 (markFailed gL a) a (AtFailed a)
+
+  pub keeps-fail : Kept total g γ after (noteCuts (notePassed h a) g after)
+  keeps-fail =
+      from-left total g γ a gone after (notePassed h a) (keeps-left total gL h γ (gone .fit) (gone .inv) past1 a la an1 up1 found1)

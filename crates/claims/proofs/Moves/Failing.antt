@@ -19,7 +19,7 @@ use Rattle.claims.proofs.State.Fun.{never, is-false, and-true, and-intr
 use Rattle.claims.proofs.State.View.{View, Own, Side}
 use Rattle.claims.proofs.State.ViewMoves.{vFailed, oPhase}
 use Rattle.claims.proofs.Invariant.Facts.{Big, Mind, Wire, Ghost, Pair, Node, Books, Lead, aware, unaware, amountsIn, Amounts, amount, count, checkpLast}
-use Rattle.claims.proofs.Invariant.Whole.{Ground, Core, PairAt, NodeAt, BooksAt, workOf, calmOf, knownOf, storeOf, homeOf, tabOf, lkOf}
+use Rattle.claims.proofs.Invariant.Whole.{Ground, Core, PairAt, NodeAt, BooksAt, workOf, calmOf, knownOf, presentOf, homeOf, tabOf, lkOf}
 use Rattle.claims.proofs.Invariant.Words.{un-of, un-works, aware-recovers, lead-lost}
 use Rattle.claims.proofs.Invariant.Reaching.{Reach, reach-more}
 use Rattle.claims.proofs.Invariant.Frame.{same-ghost, move-pairs, move-nodes, move-books}
@@ -194,7 +194,7 @@ module _ (v : View) (a : ℕ) where
   none-recovers none c = upd-elim (λ (o : Own). inRecovery (o .state) ≡ false) (v .own) a (oFailed (v .own a)) c (λ e. refl) (λ d. none c)
 
 module _ (n : ℕ) (total : Party → ℕ) (v : View) (γ : Ghost) (i : Core n total v γ) (none : (c : ℕ) → inRecovery (v .own c .state) ≡ false)
-    (faulted : γ .big .faulted ≡ true) (a : ℕ) (no-store : v .own a .store ≡ false) where
+    (faulted : γ .big .faulted ≡ true) (a : ℕ) (no-store : v .own a .present ≡ false) where
   abbrev lines′ : ℕ → ℕ → List Packet
   lines′ = vFailed v a .lines
 
@@ -207,13 +207,13 @@ module _ (n : ℕ) (total : Party → ℕ) (v : View) (γ : Ghost) (i : Core n t
   others-stay : (c d : ℕ) → c ≢ a → d ≢ a → lines′ c d ≡ v .lines c d
   others-stay = line-aside n total v γ i a (λ b. [])
 
-  -- no store owes nothing
+  -- who is no home owes nothing
   bare : (d : ℕ) → v .side a d .owed ≡ false
   bare d =
       is-false (v .side a d .owed) (λ e.
       let h = i .pairs a d in
       let t = i .nodes d .joinedTab (i .nodes d .doneJoined (i .nodes d .wroteDone (h .owes e .0))) in
-      never (ap (λ (c : ℕ). v .own c .store) (sym (h .owesHome e)) ∙ i .ground .homeStores d (i .ground .within d t)) no-store)
+      never (ap (λ (c : ℕ). v .own c .present) (sym (h .owesHome e)) ∙ i .ground .homePresent d (i .ground .within d t)) no-store)
 
   abbrev o′ : Own
   o′ = oFailed (v .own a)
@@ -243,11 +243,11 @@ module _ (n : ℕ) (total : Party → ℕ) (v : View) (γ : Ghost) (i : Core n t
   -- who works, by the check of the fail
   failed-ground : Reach (workOf (vFailed v a)) (v .sound) → (alive : Bool)
       → (alive ≡ false → (c : ℕ) → tabOf γ c ≡ true → c ≢ γ .big .chief → workOf (vFailed v a) c ≡ true)
-      → (alive ≡ false → Reach (λ c. tabOf γ c && not (eqb c (γ .big .chief))) (lkOf γ)) → (alive ≡ false → storeOf v (γ .big .chief) ≡ false)
-      → Ground n (γ .big .chief) (γ .big .heir) alive (workOf (vFailed v a)) (tabOf γ) (storeOf (vFailed v a)) (homeOf (vFailed v a)) (lkOf γ) (v .sound)
-  failed-ground reach alive others left bare =
+      → (alive ≡ false → Reach (λ c. tabOf γ c && not (eqb c (γ .big .chief))) (lkOf γ)) → (alive ≡ false → (j : ℕ) × (j ≢ γ .big .chief) × (workOf (vFailed v a) j ≡ true))
+      → Ground n (γ .big .chief) (γ .big .heir) alive (workOf (vFailed v a)) (tabOf γ) (presentOf (vFailed v a)) (homeOf (vFailed v a)) (lkOf γ) (v .sound)
+  failed-ground reach alive others left other =
       let g = i .ground in
-      rw (kept (λ (x : Own). x .home) (v .own) a o′ refl, kept (λ (x : Own). x .store) (v .own) a o′ refl) (record {
+      rw (kept (λ (x : Own). x .home) (v .own) a o′ refl, kept (λ (x : Own). x .present) (v .own) a o′ refl) (record {
         most = g .most;
         within = g .within;
         chiefIn = g .chiefIn;
@@ -256,12 +256,12 @@ module _ (n : ℕ) (total : Party → ℕ) (v : View) (γ : Ghost) (i : Core n t
         linkOther = g .linkOther;
         soundBoth = g .soundBoth;
         soundLinks = g .soundLinks;
-        homeStores = g .homeStores;
-        storeWorks = λ c e. works-on v a c (λ q. never (ap (λ (x : ℕ). v .own x .store) (sym q) ∙ e) no-store) (g .storeWorks c e);
+        homePresent = g .homePresent;
+        presentWorks = λ c e. works-on v a c (λ q. never (ap (λ (x : ℕ). v .own x .present) (sym q) ∙ e) no-store) (g .presentWorks c e);
         reach = reach;
         othersWork = others;
         othersReach = left;
-        lostStore = bare;
+        other = other;
       })
 
   no-version : (c : ℕ) → works (v .own c .state) ≡ true → v .own c .version ≡ Lost → ⊥
@@ -313,6 +313,14 @@ module _ (n : ℕ) (total : Party → ℕ) (v : View) (γ : Ghost) (i : Core n t
           (λ c e. let x = and-true {s = tabOf γ c} e in rest-works c (x .0) (eqb-false c (γ .big .chief) (not-true-false (x .1))))
           (i .ground .soundLinks) reach
 
+      -- its home is another
+      rest-one : (j : ℕ) × (j ≢ γ .big .chief) × (workOf (vFailed v a) j ≡ true)
+      rest-one =
+          let home = v .own a .home in
+          let stores = i .ground .homePresent a (i .ground .within a (ap (tabOf γ) chief ∙ i .ground .chiefIn)) in
+          let d : home ≢ a = λ q. never (ap (λ (c : ℕ). v .own c .present) (sym q) ∙ stores) no-store in
+          (home, (λ q. d (q ∙ sym chief)), works-on v a home d (i .ground .presentWorks home stores))
+
       leads-lost : (b : Big) → b .alive ≡ false → b .chief ≡ γ .big .chief → (c : ℕ) → Lead b c (vFailed v a .own c)
       leads-lost b dead same =
           upd-case (λ k o. Lead b k o) (v .own) a o′
@@ -332,7 +340,7 @@ module _ (n : ℕ) (total : Party → ℕ) (v : View) (γ : Ghost) (i : Core n t
         nodes = λ c. lost-node _ _ _ _ _ (failed-nodes c);
         books = λ c. lost-books _ _ _ _ _ (failed-books c);
         leads = leads-lost (bLost (γ .big)) refl refl;
-        ground = failed-ground reach false (λ e. rest-works) (λ e. rest-reached) (λ e. ap (storeOf v) (sym chief) ∙ no-store);
+        ground = failed-ground reach false (λ e. rest-works) (λ e. rest-reached) (λ e. rest-one);
         chain = record {
           noCommit = λ f. inl (no-calm (bLost (γ .big)));
           lives = λ e. absurd (never adopted e);
@@ -357,14 +365,14 @@ module _ (n : ℕ) (total : Party → ℕ) (v : View) (γ : Ghost) (i : Core n t
       not-tripped : (c : ℕ) → Tripped (γ .big) (vFailed v a .own c)
       not-tripped c e = absurd (never (aware-recovers (γ .big) (vFailed v a .own c) e) (none-recovers v a none c))
 
-      -- nor has the coordinator its cut in a new one: it would work alone, and be a store
+      -- nor has the coordinator its cut in a new one: it would work alone, and be its own home
       pub uncut : γ .big .adopted ≡ false → γ .mind (γ .big .chief) .done ≡ false
       uncut fresh =
           let k = γ .big .chief in
           let home = v .own k .home in
-          let stores = i .ground .homeStores k (i .ground .within k (i .ground .chiefIn)) in
-          is-false _ (λ e. never (ap (λ (c : ℕ). v .own c .store)
-          (chief ∙ sym (i .chain .alone fresh e home (i .ground .storeWorks home stores))) ∙ stores) no-store)
+          let stores = i .ground .homePresent k (i .ground .within k (i .ground .chiefIn)) in
+          is-false _ (λ e. never (ap (λ (c : ℕ). v .own c .present)
+          (chief ∙ sym (i .chain .alone fresh e home (i .ground .presentWorks home stores))) ∙ stores) no-store)
 
       pub failed-undone : γ .big .adopted ≡ false → Core n total (vFailed v a) (gUndo γ)
       failed-undone fresh = record {
@@ -375,7 +383,7 @@ module _ (n : ℕ) (total : Party → ℕ) (v : View) (γ : Ghost) (i : Core n t
             (λ q. ap (λ (k : ℕ). γ .mind k .tab) q ∙ i .ground .chiefIn) (λ q. ap (λ (k : ℕ). γ .mind k .done) q ∙ uncut fresh);
         books = λ c. undone-books _ _ _ _ _ (failed-books c);
         leads = leads-lost (bUndo (γ .big)) refl refl;
-        ground = failed-ground reach false (λ e. rest-works) (λ e. rest-reached) (λ e. ap (storeOf v) (sym chief) ∙ no-store);
+        ground = failed-ground reach false (λ e. rest-works) (λ e. rest-reached) (λ e. rest-one);
         chain = record {
           noCommit = λ f. inl (no-calm (bUndo (γ .big)));
           lives = λ e. absurd (true≢false e);

@@ -17,13 +17,14 @@ use Rattle.state.specs.State.{isIn, works, inRestoring, isUnknown, bitOf}
 use Rattle.image.specs.Image.{withPiece}
 use Rattle.registers.specs.Registers.{startRegisters}
 use Rattle.cabinet.specs.Cabinet.{withImage, withPieces, withRegisters, withState, fetched}
+use Rattle.store.specs.Store.{homeIn}
 use Rattle.group.specs.declared.Group.{Group}
 use Rattle.group.specs.Group.{cabinet, withCabinet, stateOf, slot}
 use Rattle.protocol.specs.History.{History, upd, goes, noteKnown, noteCuts}
 use Rattle.protocol.specs.Kinds.{fetchRefusal, fetchPiece}
 use Rattle.claims.proofs.State.Fun.{never, is-true, is-false, and-true, and-intro, upd-same, kept-at}
 use Rattle.claims.proofs.State.Every.{passed}
-use Rattle.claims.proofs.State.View.{View, Own, Side, view, ownOf, sideOf, setCabinet}
+use Rattle.claims.proofs.State.View.{View, Own, Side, view, ownIn, sideOf, setCabinet}
 use Rattle.claims.proofs.State.Shape.{Pictured, shaped}
 use Rattle.claims.proofs.State.Sim.{Fit, view-cabinet}
 use Rattle.claims.proofs.State.Methods.{sFresh, side-fetched}
@@ -344,7 +345,7 @@ module _ (total : Party → ℕ) (g : Group) (h : History) (γ : Ghost) (w : Fit
   v = view g
 
   abbrev home : ℕ
-  home = cabinet g a .home
+  home = homeIn (g .store) a
 
   state : stateOf g a ≡ Recovering
   state = in-state (stateOf g a) Recovering .0 (passed (isIn (stateOf g a) Recovering) 13 _ fine .0)
@@ -372,13 +373,13 @@ module _ (total : Party → ℕ) (g : Group) (h : History) (γ : Ghost) (w : Fit
   k = cabinet g a .noted .pieces
 
   abbrev from : Image
-  from = slot g a (bitOf (cabinet g home .phase .version))
+  from = slot g home a (bitOf (cabinet g home .phase .version))
 
   abbrev x : Image
   x = withPiece k from (cabinet g a .image)
 
   top : from ≡ γ .mind a .top
-  top = ap (slot g a) home-version ∙ i .core .nodes a .slotTop (i .core .nodes a .placed (aware-works (γ .big) (v .own a) aw))
+  top = ap (slot g home a) home-version ∙ i .core .nodes a .slotTop (i .core .nodes a .placed (aware-works (γ .big) (v .own a) aw))
 
   few : k < 4
   few = i .core .nodes a .inRecovering aw state .0
@@ -389,7 +390,7 @@ module _ (total : Party → ℕ) (g : Group) (h : History) (γ : Ghost) (w : Fit
       (piece-more k (γ .mind a .top) (cabinet g a .image) (w .cabs a .image) few (i .core .nodes a .inRecovering aw state .1))
 
   pictured : Pictured x
-  pictured = shaped .pieced k from (cabinet g a .image) (w .slots a (bitOf (cabinet g home .phase .version))) (w .cabs a .image)
+  pictured = shaped .pieced k from (cabinet g a .image) (w .slots home a (bitOf (cabinet g home .phase .version))) (w .cabs a .image)
 
   abbrev g′ : Group
   g′ = fetchPiece g a
@@ -407,7 +408,7 @@ module _ (total : Party → ℕ) (g : Group) (h : History) (γ : Ghost) (w : Fit
       view-cabinet g (w .frame) a (fetched (cabinet g a) x) la
       ∙ (λ t. setCabinet v a (own t) (side t))
     where
-      own : ownOf (fetched (cabinet g a) x) ≡ oLast (v .own a) x
+      own : ownIn g a (fetched (cabinet g a) x) ≡ oLast (v .own a) x
       own = rw e
 
       side : sideOf (fetched (cabinet g a) x) ≡ (λ d. sFresh (v .side a d))

@@ -28,7 +28,7 @@ use Rattle.state.specs.declared.State.the-variants.{Failed, Normal, CheckpBegin
 use Rattle.state.specs.State.{isIn, works, inRecovery}
 use Rattle.cabinet.specs.Cabinet.{inUse}
 use Rattle.group.specs.declared.Group.{Group}
-use Rattle.group.specs.Group.{cabinet, stateOf, outgoing, line, slot, withOutgoing, withLine, rowsOf, withSound, working}
+use Rattle.group.specs.Group.{cabinet, stateOf, outgoing, line, withOutgoing, withLine, rowsOf, withSound, working}
 use Rattle.protocol.specs.History.{History, upd, noteCuts}
 use Rattle.protocol.specs.Moves.{enterError}
 use Rattle.protocol.specs.Receive.{serving}
@@ -189,13 +189,13 @@ module _ (n : ℕ) (total : Party → ℕ) (v : View) (γ : Ghost) (i : Inv n to
         soundBoth = sound-both (v .sound) sound a b other there back elsewhere (i .core .ground .soundBoth);
         soundLinks = λ x y e. ⊎-elim (λ r. absurd (never e (rw (r .0, r .1) there)))
             (λ s. ⊎-elim (λ r. absurd (never e (rw (r .0, r .1) back))) (λ r. i .core .ground .soundLinks x y (sym r ∙ e)) s) (pairings x y);
-        homeStores = h .homeStores;
-        storeWorks = h .storeWorks;
+        homePresent = h .homePresent;
+        presentWorks = h .presentWorks;
         reach = λ P passes x wx px y wy.
             reach P (λ c d pc wc wd s. passes c d pc (same c ∙ wc) (same d ∙ wd) s) x (sym (same x) ∙ wx) px y (sym (same y) ∙ wy);
         othersWork = h .othersWork;
         othersReach = h .othersReach;
-        lostStore = h .lostStore;
+        other = h .other;
       }
 
   struck-inv : Inv n total (setSound (vError v b q) sound) δ
@@ -243,7 +243,7 @@ unfolding withLine withOutgoing working cabinet
 working-kept g a b l = refl
 
 pub fit-sound : (g : Group) (rs : Rows) → Fit g → Fit (withSound g rs)
-unfolding cabinet outgoing line slot withSound
+unfolding cabinet outgoing line withSound
 fit-sound g rs h = record {
   frame = record { cabinets = h .frame .cabinets; outs = h .frame .outs; lines = h .frame .lines; store = h .frame .store };
   cabs = h .cabs;

@@ -23,7 +23,7 @@ use Rattle.cabinet.specs.Cabinet.{inUse, coordinator}
 use Rattle.group.specs.declared.Group.{Group}
 use Rattle.group.specs.Group.{cabinet, withCabinet, stateOf, settleOver}
 use Rattle.protocol.specs.Moves.{endRecovery, noteLost}
-use Rattle.protocol.specs.Kinds.{mayReport, restoredRefusal, reportRestored, endIfAll}
+use Rattle.protocol.specs.Kinds.{mayReport, restoredRefusal, reportRestored, comeBackIfAway, endIfAll}
 use Rattle.protocol.specs.History.{Cut, History, latest, imageIn, lostNow, noteEnd, noteCuts, ends, goes}
 use Rattle.protocol.specs.Restored.{Restored, counted, amperes}
 use Rattle.claims.proofs.State.Fun.{never, is-true, is-false, and-true, and-intro, cond-elim, upd-same, upd-other, sum-cong, kept-at, kept-pair}
@@ -41,8 +41,9 @@ use Rattle.claims.proofs.Invariant.Whole.{Inv, workOf, awareOf}
 use Rattle.claims.proofs.Invariant.Past.{Past, HeldIn, Kept, Next, OnePlace, kept-next, no-cuts, quiet-of, past-same, cut-held, tops-add}
 use Rattle.claims.proofs.Invariant.Words.{un-not-aware, un-or-aware, aware-works, aware-faulted, chief-of, room-aware}
 use Rattle.claims.proofs.Invariant.Marking.{past-mind}
-use Rattle.claims.proofs.Invariant.Staying.{Reports, reports-none, phase-same, stays-same, no-fault}
+use Rattle.claims.proofs.Invariant.Staying.{Reports, reports-none, phase-same, stays-same, no-fault, SamePhase}
 use Rattle.claims.proofs.Moves.Rousing.{oResumed, roused, seen-roused}
+use Rattle.claims.proofs.Moves.ComingBack.{Back, comes-back}
 use Rattle.claims.proofs.Moves.Restoring.{gReady, ready-inv, marked-inv, mReady}
 use Rattle.claims.proofs.Moves.EndPairs.{bEnd, mEnd, wEnd}
 use Rattle.claims.proofs.Moves.Remembering.{Remembered, remembered}
@@ -97,37 +98,59 @@ module _ (total : Party → ℕ) (g : Group) (h : History) (γ : Ghost) (w : Fit
     | no n ↦ absurd (n (past-row (cabinet g a .table .links) d (w .cabs a .links) (and-true {s = view g .side a d .link} u .0)))
   ]
 
-  abbrev g1 : Group
-  g1 = reportRestored g a k
+  abbrev g0 : Group
+  g0 = reportRestored g a k
 
   abbrev γ1 : Ghost
   γ1 = gReady γ a
 
-  seen1 : view g1 ≡ vRestored (view g) k a
+  seen0 : view g0 ≡ vRestored (view g) k a
   unfolding reportRestored
-  seen1 = sim-restored g w k a lk la
+  seen0 = sim-restored g w k a lk la
 
-  inv1 : Inv (g .n) total (view g1) γ1
-  inv1 =
-      subst (λ (x : View). Inv (g .n) total x γ1) (sym seen1)
+  inv0 : Inv (g .n) total (view g0) γ1
+  inv0 =
+      subst (λ (x : View). Inv (g .n) total x γ1) (sym seen0)
       (marked-inv (g .n) total (view g) γ1 (ready-inv (g .n) total (view g) γ i a aware-a recovered-a heard-all) k a (ap (λ (m : Mind). m .ready) (upd-same (γ .mind) a _)))
 
-  own1 : (c : ℕ) → view g1 .own c ≡ view g .own c
-  own1 c = ap (λ (x : View). x .own c) seen1 ∙ kept-at (λ (x : Own). x) (view g .own) k (view g .own k) refl c
+  own0 : (c : ℕ) → view g0 .own c ≡ view g .own c
+  own0 c = ap (λ (x : View). x .own c) seen0 ∙ kept-at (λ (x : Own). x) (view g .own) k (view g .own k) refl c
+
+  fit0 : Fit g0
+  unfolding reportRestored
+  fit0 = with-cabinet Shaped Lined Pictured shaped g k _ (shaped .restoredFor (cabinet g k) a (w .cabs k)) w
+
+  n0 : g0 .n ≡ g .n
+  unfolding reportRestored withCabinet
+  n0 = refl
+
+  -- a store that was away is back
+  abbrev g1 : Group
+  g1 = comeBackIfAway g0 a
+
+  back : Back (g .n) total g0 γ1 a g1
+  back = subst (λ (m : ℕ). Back m total g0 γ1 a g1) n0 (comes-back total g0 γ1 fit0 (subst (λ (m : ℕ). Inv m total (view g0) γ1) (sym n0) inv0) a (ap (λ (o : Own). works (o .state)) (own0 a) ∙ works-a))
+
+  inv1 : Inv (g .n) total (view g1) γ1
+  inv1 = back .inv
+
+  fit1 : Fit g1
+  fit1 = back .fit
+
+  n1 : g1 .n ≡ g .n
+  n1 = back .number ∙ n0
+
+  phase1 : (c : ℕ) → SamePhase (view g1 .own c) (view g .own c)
+  phase1 c =
+      let x = back .phase c in
+      let e = phase-same (own0 c) in
+      (x .0 ∙ e .0, x .1 ∙ e .1, x .2 ∙ e .2, x .3 ∙ e .3, x .4 ∙ e .4)
 
   state1 : (c : ℕ) → stateOf g1 c ≡ stateOf g c
-  state1 c = ap (λ (o : Own). o .state) (own1 c)
+  state1 c = phase1 c .0
 
   past1 : Past (g .n) (view g1) γ1 h
   past1 = past-same state1 (past-mind (g .n) (view g) γ h past a (mReady (γ .mind a)) refl refl refl refl refl refl)
-
-  fit1 : Fit g1
-  unfolding reportRestored
-  fit1 = with-cabinet Shaped Lined Pictured shaped g k _ (shaped .restoredFor (cabinet g k) a (w .cabs k)) w
-
-  n1 : g1 .n ≡ g .n
-  unfolding reportRestored withCabinet
-  n1 = refl
 
   -- ---- where the report was not the last one
 
@@ -136,8 +159,8 @@ module _ (total : Party → ℕ) (g : Group) (h : History) (γ : Ghost) (w : Fit
     ghost = γ1;
     inv = inv1;
     past = rw (no-cuts h g g1 (λ c e. ap (λ (s : State). isIn s Checkpointing) (sym (state1 c)) ∙ e)) past1;
-    stays = stays-same (view g) γ (quiet-of i) (view g1) γ1 (λ c. phase-same (own1 c))
-        (λ c d. ap (λ (x : View). x .side c d .unsure) seen1 ∙ kept-pair (λ (s : Side). s .unsure) (view g .side) k a _ refl c d) no-fault;
+    stays = stays-same (view g) γ (quiet-of i) (view g1) γ1 phase1
+        (λ c d. back .unsure c d ∙ ap (λ (x : View). x .side c d .unsure) seen0 ∙ kept-pair (λ (s : Side). s .unsure) (view g .side) k a _ refl c d) no-fault;
   }
 
   -- ---- where it was
@@ -214,8 +237,7 @@ module _ (total : Party → ℕ) (g : Group) (h : History) (γ : Ghost) (w : Fit
 
     lead-a : view gN .own a .lead ≡ k
     lead-a =
-        ap (λ (o : Own). o .lead) (seenN .own a .1) ∙ ap (λ (x : View). x .own a .lead) seen1
-        ∙ kept-at (λ (o : Own). o .lead) (view g .own) k (view g .own k) refl a
+        ap (λ (o : Own). o .lead) (seenN .own a .1) ∙ phase1 a .3
 
     led : (j : ℕ) → workOf (view gN) j ≡ true → view gN .own j .lead ≡ k
     led j x = one-lead (g .n) total (view gN) γ1 invN k awareN all-reported j a x work-a ∙ lead-a
@@ -370,7 +392,7 @@ module _ (total : Party → ℕ) (g : Group) (h : History) (γ : Ghost) (w : Fit
     one-alarm : OnePlace (view g)
     one-alarm c d wc wd =
         let at-one : (j : ℕ) → workOf (view g) j ≡ true → view g .own j .alarm ≡ At (at .0) = λ j x.
-        ap (λ (o : Own). o .alarm) (sym (own1 j)) ∙ one-place (g .n) total (view g1) γ1 inv1 k aware-1 reported-1 j (ap works (state1 j) ∙ x) in
+        sym (phase1 j .2) ∙ one-place (g .n) total (view g1) γ1 inv1 k aware-1 reported-1 j (ap works (state1 j) ∙ x) in
         at-one c wc ∙ sym (at-one d wd)
 
     pub ended-next : (t : Bool) → Next total g γ g2 (noteCuts (noteEnd (ends g g2 a) h g2) g g2) t
@@ -380,7 +402,7 @@ module _ (total : Party → ℕ) (g : Group) (h : History) (γ : Ghost) (w : Fit
       past = subst (Past (g .n) (view g2) γ2) (sym history2) past2;
       reports = reports-none (view g2) (λ c f. absurd (never f (quiet-of inv2 c refl)));
       silent = λ _ _ c f. absurd (never f (quiet-of inv2 c refl));
-      fate = inr (record { restored = subst (λ (y : History). Restored (g .n) total y g2) (sym history2) demand-three; known = subst (λ (y : History). latest y .known ≡ true) (sym history2) (past2 .known); place = one-alarm; over = refl; who = (a, works-a, ending) });
+      fate = inr (record { restored = subst (λ (y : History). Restored (g .n) total y g2) (sym history2) demand-three; known = subst (λ (y : History). latest y .known ≡ true) (sym history2) (past2 .known); place = one-alarm; over = refl; gone = λ c f. work2 c ∙ ap works (stateN c) ∙ f; who = (a, works-a, ending) });
     }
 
   pub not-yet : ends g g1 a ≡ false

@@ -1,13 +1,13 @@
 -- Document 02, card 1, in a quiet group: a point keeps the images of the save that the rule gives, and a return sets every image, every
 -- slot and that save to the point's, with nothing sent or taken since.
-use Prim.Native.Nat.{ℕ, zero, suc, _+_, _*_, _<_, _≤_}
+use Prim.Native.Nat.{ℕ, zero, _+_, _*_, _<_, _≤_}
 use mathlib.Core.Path.{_≡_, refl, sym, ap, _∙_, fun-ext, subst}
 use mathlib.Core.Logic.{_≢_, inl, inr, ⊎-elim}
 use mathlib.Core.Bool.{Bool, true, false, cond, not, _&&_, true≢false}
 use mathlib.Core.List.{List, [], _∷_}
 use mathlib.Core.Option.{Option, none, some as just}
 use lib.ListN.{getD, List·getD-eq-default}
-use lib.Dec.{ltb}
+use lib.Dec.{eqb, ltb}
 use borrow.Author.Tests.{ltb-false}
 use native.Mathlib.Omega.{arith}
 use native.Mathlib.Decide.{decLt}
@@ -32,12 +32,17 @@ use Rattle.cabinet.specs.Cabinet.{absent, withImage}
 use Rattle.points.specs.declared.Point.{Point}
 use Rattle.points.specs.declared.Points.{Points}
 use Rattle.points.specs.Points.{withPoint, imageAt, placeFor}
+use Rattle.store.specs.declared.Slots.{Slots}
+use Rattle.store.specs.declared.Store.{Store}
+use Rattle.store.specs.Store.{blankSlots, slotIn, isPresent, fileHome, copyAt, slotAt, ofEach}
+use Rattle.store.specs.Served.{Served}
+use Rattle.store.proofs.Laws.{set-kept, set-home, set-present, set-slot}
 use Rattle.group.specs.declared.Group.{Group}
-use Rattle.group.specs.Group.{cabinet, stateOf, outgoing, line, slot, blankSlots, some, working, normalOnes, hasLaden, ladenOnes, quiet}
+use Rattle.group.specs.Group.{cabinet, stateOf, outgoing, line, home, slot, some, working, normalOnes, hasLaden, ladenOnes, quiet}
 use Rattle.protocol.specs.Points.{imageKept, imagesKept, pointOf, withPointImage, bothSlots, returned}
 use Rattle.protocol.specs.History.{History, bareCut, latest, imageNow, notePoint, noteReturn}
 use Rattle.claims.specs.Points.{KeptOf}
-use Rattle.claims.proofs.State.Fun.{never, is-true, is-false, and-true, and-off, not-true-false, sum-cong, sum-zero}
+use Rattle.claims.proofs.State.Fun.{never, is-true, is-false, and-true, and-off, not-true-false, sum-cong, sum-zero, row, row-at, row-all}
 use Rattle.claims.proofs.State.View.{View, Own, Side, ownOf, sideOf, content, view}
 use Rattle.claims.proofs.State.Cells.{Packed, empty-is}
 use Rattle.claims.proofs.State.Shape.{Shaped, Pictured}
@@ -52,28 +57,26 @@ use Rattle.claims.proofs.Invariant.Words.{un-of, aware-recovers}
 use Rattle.claims.proofs.Invariant.Points.{PointHeld, PointsHeld, one-more}
 use Rattle.claims.proofs.Invariant.Staying.{stays-none}
 
--- ---- eight in a row
+-- ---- slots past the eighth cabinet
 
-abbrev row : {A : Type 0} → (ℕ → A) → List A
-row f = f 0 ∷ f 1 ∷ f 2 ∷ f 3 ∷ f 4 ∷ f 5 ∷ f 6 ∷ f 7 ∷ []
+either-way : {A : Type 0} (t : Bool) (x : A) → cond t x x ≡ x
+either-way true x = refl
+either-way false x = refl
 
-row-at : {A : Type 0} (f : ℕ → A) (d : A) (k : ℕ) → k < 8 → getD (row f) k d ≡ f k
-row-at f d zero l = refl
-row-at f d (suc zero) l = refl
-row-at f d (suc (suc zero)) l = refl
-row-at f d (suc (suc (suc zero))) l = refl
-row-at f d (suc (suc (suc (suc zero)))) l = refl
-row-at f d (suc (suc (suc (suc (suc zero))))) l = refl
-row-at f d (suc (suc (suc (suc (suc (suc zero)))))) l = refl
-row-at f d (suc (suc (suc (suc (suc (suc (suc zero))))))) l = refl
-row-at f d (suc (suc (suc (suc (suc (suc (suc (suc k)))))))) l = absurd (omega arith)
+blank-both : record { zero = blankImage; one = blankImage } ≡ blankSlots
+unfolding blankSlots
+blank-both = refl
 
--- also past the eighth, where the function gives what stands there
-row-all : {A : Type 0} (f : ℕ → A) (d : A) → ((k : ℕ) → 8 ≤ k → f k ≡ d) → (k : ℕ) → getD (row f) k d ≡ f k
-row-all f d past k = elim (decLt k 8) [
-  | yes l ↦ row-at f d k l
-  | no n ↦ List·getD-eq-default (row f) d {n = k} (omega arith) ∙ sym (past k (omega arith))
-]
+slot-past : (s : Store) → Served s → (h c : ℕ) (t : Bool) → 8 ≤ c → slotAt s h c t ≡ blankImage
+unfolding slotAt copyAt blankSlots
+slot-past s w h c t l =
+    rw (
+      List·getD-eq-default (s .firsts) blankSlots {n = c} (omega (arith, w .eight-firsts)),
+      List·getD-eq-default (s .seconds) blankSlots {n = c} (omega (arith, w .eight-seconds)),
+      either-way (eqb h (fileHome s c)) blankSlots,
+    ) (either-way t blankImage)
+
+-- ---- what is marked of none
 
 none-marked : (f : ℕ → Bool) → some (row f) ≡ false → (k : ℕ) → k < 8 → f k ≡ false
 unfolding some
@@ -82,10 +85,6 @@ none-marked f e k l =
     let m = lowest-le-marked (row f) k (row-at f false k l ∙ t) in
     let n = ltb-false (lowest (row f)) 8 e in
     omega arith)
-
-either-way : {A : Type 0} (t : Bool) (x : A) → cond t x x ≡ x
-either-way true x = refl
-either-way false x = refl
 
 -- a line whose first cell is empty
 no-packets : (cs : List Cell) → Packed cs → isEmpty (getD cs 0 emptyCell .packet) ≡ true → content cs ≡ []
@@ -244,7 +243,7 @@ module _ (total : Party → ℕ) (g : Group) (h : History) (γ : Ghost) (w : Fit
   kept-top c = go (works (stateOf g c)) refl
     where
       go : (t : Bool) → works (stateOf g c) ≡ t → imageKept g c ≡ γ .mind c .top
-      go true e = ap (λ (x : Version). slot g c (bitOf x)) (all-known c e) ∙ i .core .nodes c .slotTop (i .core .nodes c .placed e)
+      go true e = ap (λ (x : Version). slot g (home g c) c (bitOf x)) (all-known c e) ∙ i .core .nodes c .slotTop (i .core .nodes c .placed e)
       go false e = i .core .nodes c .noted (tab-works c ∙ e)
 
   pub point-keeps : (c : ℕ) → c < g .n → KeptOf g h (imageKept g) c
@@ -255,11 +254,11 @@ module _ (total : Party → ℕ) (g : Group) (h : History) (γ : Ghost) (w : Fit
 
   module _ (name : List ℕ) where
     pub point-image : (c : ℕ) → imageAt (pointOf g name) c ≡ imageKept g c
-    unfolding imageAt imagesKept slot blankSlots
+    unfolding imageAt imagesKept
     point-image c = row-all (imageKept g) blankImage (λ k l. blank k l (bitOf (cabinet g k .phase .version))) c
       where
-        blank : (k : ℕ) → 8 ≤ k → (t : Bool) → slot g k t ≡ blankImage
-        blank k l t = rw (List·getD-eq-default (g .store) blankSlots {n = k} (omega (arith, w .frame .store))) (either-way t blankImage)
+        blank : (k : ℕ) → 8 ≤ k → (t : Bool) → slot g (home g k) k t ≡ blankImage
+        blank k l t = slot-past (g .store) (w .frame .store) (home g k) k t l
 
     top-image : (c : ℕ) → imageAt (pointOf g name) c ≡ γ .mind c .top
     top-image c = point-image c ∙ kept-top c
@@ -291,9 +290,19 @@ module _ {n : ℕ} {total : Party → ℕ} {images : ℕ → Option Image} (g : 
       row-all (withPointImage g p) absent
       (λ k l. rw (past-image k l, List·getD-eq-default (g .cabinets) absent {n = k} (omega (arith, w .frame .cabinets)))) c
 
-  returned-slot : (c : ℕ) (t : Bool) → slot (returned g p) c t ≡ imageAt p c
-  unfolding slot returned blankSlots
-  returned-slot c t = rw (row-all (bothSlots p) blankSlots (λ k l. rw (past-image k l)) c) (either-way t (imageAt p c))
+  returned-slot : (h c : ℕ) (t : Bool) → slot (returned g p) h c t ≡ imageAt p c
+  unfolding returned
+  returned-slot h c t =
+      set-slot (g .store) (ofEach (bothSlots p)) h c t
+      ∙ ap (λ (x : Slots). slotIn x t) (row-all (bothSlots p) blankSlots (λ k l. rw (past-image k l) blank-both) c) ∙ either-way t (imageAt p c)
+
+  homes-returned : (c : ℕ) → home (returned g p) c ≡ home g c
+  unfolding returned
+  homes-returned c = set-home (g .store) (ofEach (bothSlots p)) c
+
+  present-returned : (c : ℕ) → isPresent (returned g p .store) c ≡ isPresent (g .store) c
+  unfolding returned
+  present-returned c = set-present (g .store) (ofEach (bothSlots p)) c
 
   pub states-returned : (c : ℕ) → stateOf (returned g p) c ≡ stateOf g c
   states-returned c = ap (λ (x : Cabinet). x .phase .state) (returned-cabinet c)
@@ -305,20 +314,20 @@ module _ {n : ℕ} {total : Party → ℕ} {images : ℕ → Option Image} (g : 
   pub view-returned : view (returned g p) ≡ vReturned (view g) p
   unfolding returned line outgoing
   view-returned = λ t. record {
-    own = fun-ext (λ c. ap ownOf (returned-cabinet c)) t;
+    own = λ c. ownOf (homes-returned c t) (present-returned c t) (returned-cabinet c t);
     side = fun-ext (λ c. ap sideOf (returned-cabinet c)) t;
     lines = view g .lines;
-    slots = fun-ext (λ c. fun-ext (λ x. returned-slot c x)) t;
+    slots = fun-ext (λ c. fun-ext (λ x. returned-slot (home (returned g p) c) c x)) t;
     sound = view g .sound;
   }
 
   pub fit-returned : Fit (returned g p)
   unfolding returned line outgoing
   fit-returned = record {
-    frame = record { cabinets = refl; outs = w .frame .outs; lines = w .frame .lines; store = refl };
+    frame = record { cabinets = refl; outs = w .frame .outs; lines = w .frame .lines; store = set-kept (g .store) (w .frame .store) (ofEach (bothSlots p)) refl };
     cabs = λ c. rw (returned-cabinet c) (imaged (cabinet g c) (w .cabs c) (held .sized c));
     lines = w .lines;
-    slots = λ c x. rw (returned-slot c x) (held .sized c);
+    slots = λ h c x. rw (returned-slot h c x) (held .sized c);
   }
     where
       imaged : (c : Cabinet) {m : Image} → Shaped c → Pictured m → Shaped (withImage c m)

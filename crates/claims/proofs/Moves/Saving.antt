@@ -17,6 +17,7 @@ use Rattle.state.specs.declared.Version.the-variants.{Known}
 use Rattle.state.specs.State.{isIn, works, inRecovery, inSaving, bitOf, flipped}
 use Rattle.image.specs.Image.{booked}
 use Rattle.cabinet.specs.Cabinet.{coordinator}
+use Rattle.store.specs.Store.{homeIn}
 use Rattle.group.specs.declared.Group.{Group}
 use Rattle.group.specs.Group.{cabinet, stateOf}
 use Rattle.protocol.specs.Moves.{commit, resumeWith}
@@ -134,7 +135,7 @@ module _ (total : Party → ℕ) (g : Group) (h : History) (γ : Ghost) (w : Fit
   v = view g
 
   abbrev home : ℕ
-  home = cabinet g a .home
+  home = homeIn (g .store) a
 
   abbrev K : ℕ
   K = γ .big .chief

@@ -16,12 +16,13 @@ use Rattle.state.specs.declared.State.{State}
 use Rattle.state.specs.declared.State.the-variants.{Checkpointing, Checkpointed, Error}
 use Rattle.state.specs.declared.Version.the-variants.{Lost}
 use Rattle.cabinet.specs.declared.Alarm.the-variants.{Fault as At}
-use Rattle.state.specs.State.{isIn, inRecovery, inSaving}
+use Rattle.state.specs.State.{isIn, works, inRecovery, inSaving}
 use Rattle.table.specs.Table.{isAt}
 use Rattle.cabinet.specs.Cabinet.{coordinator}
+use Rattle.store.specs.Store.{isLast}
 use Rattle.group.specs.declared.Group.{Group}
-use Rattle.group.specs.Group.{cabinet, stateOf, rowsOf, working, withTripsOf, some, recoveringOnes}
-use Rattle.protocol.specs.Moves.{trip, alarmTo}
+use Rattle.group.specs.Group.{cabinet, stateOf, outgoing, line, rowsOf, working, withTripsOf, some, recoveringOnes}
+use Rattle.protocol.specs.Moves.{leave, trip, alarmTo}
 use Rattle.protocol.specs.Kinds.{tripCrashes}
 use Rattle.protocol.specs.History.{History, notePassed, noteCuts}
 use Rattle.claims.proofs.State.Fun.{never, is-true, is-false, and-true, and-intro, upd-elim, upd-same}
@@ -30,7 +31,7 @@ use Rattle.claims.proofs.State.View.{View, Own, Side, used, view}
 use Rattle.claims.proofs.State.Shape.{Shaped, Lined, Pictured, shaped}
 use Rattle.claims.proofs.State.Sim.{Fit}
 use Rattle.claims.proofs.State.Methods.{sAlarmed}
-use Rattle.claims.proofs.State.ViewMoves.{vTripped, sim-tripped, view-counted, fit-counted}
+use Rattle.claims.proofs.State.ViewMoves.{sim-tripped, view-counted, fit-counted}
 use Rattle.claims.proofs.Answers.Tests.{in-state}
 use Rattle.claims.proofs.Invariant.States.{place-same, saving-works, error-recovers}
 use Rattle.claims.proofs.Invariant.Facts.{Ghost}
@@ -41,6 +42,7 @@ use Rattle.claims.proofs.Invariant.Reaching.{Reach}
 use Rattle.claims.proofs.Invariant.Staying.{stays-none}
 use Rattle.claims.proofs.Moves.FirstFault.{gFaulted}
 use Rattle.claims.proofs.Moves.ErrorSeen.{strike-used}
+use Rattle.claims.proofs.Moves.Leaving.{Left, store-leaves, state-left, lead-left, working-left, calm-left, sound-left, past-left, from-left}
 use Rattle.claims.proofs.Moves.Unopened as openly
 use Rattle.claims.proofs.Moves.Undoing.{gLost, gUndo}
 use Rattle.claims.proofs.Moves.Alarming.{Alarmed, near, gSaid, alarm-all}
@@ -57,7 +59,9 @@ split-or false false true false e = absurd (true≢false e)
 split-or false false false w e = (refl, refl, λ f. absurd (false≢true f))
 
 module _ (total : Party → ℕ) (g : Group) (h : History) (γ : Ghost) (fit : Fit g) (i : Inv (g .n) total (view g) γ) (past : Past (g .n) (view g) γ h)
-    (a : ℕ) (la : a < 8) (an : a < g .n) (up : workOf (view g) a ≡ true) (fine : tripCrashes g a ≡ false) (k : ℕ) where
+    (a : ℕ) (la : a < 8) (an : a < g .n) (up : workOf (view g) a ≡ true)
+    (checks : (view g .own a .present ≡ false) × (some (recoveringOnes g) ≡ false)
+    × (eqb (coordinator (cabinet g a)) a ≡ true → connected (rowsOf (g .sound)) (set (working g) a false) ≡ true)) where
   abbrev v : View
   v = view g
 
@@ -65,18 +69,13 @@ module _ (total : Party → ℕ) (g : Group) (h : History) (γ : Ghost) (fit : F
   q = AtTripped a
 
   abbrev g1 : Group
-  g1 = trip (withTripsOf g a k) a
+  g1 = trip g a
 
   abbrev g′ : Group
   g′ = alarmTo 8 g1 a q
 
   abbrev h′ : History
   h′ = notePassed h a
-
-  checks : (cabinet g a .store ≡ false) × (some (recoveringOnes g) ≡ false)
-      × (eqb (coordinator (cabinet g a)) a ≡ true → connected (rowsOf (g .sound)) (set (working g) a false) ≡ true)
-  checks =
-      split-or (cabinet g a .store) (some (recoveringOnes g)) (eqb (coordinator (cabinet g a)) a) (connected (rowsOf (g .sound)) (set (working g) a false)) fine
 
   pub nobody : (c : ℕ) → inRecovery (v .own c .state) ≡ false
   nobody = openly.nobody total g γ fit i (checks .1)
@@ -97,8 +96,7 @@ module _ (total : Party → ℕ) (g : Group) (h : History) (γ : Ghost) (fit : F
   flipped = openly.flipped total g γ fit i (checks .1)
 
   pub seen : view g1 ≡ vDown v a
-  seen =
-      sim-tripped (withTripsOf g a k) (fit-counted g a k fit) a la ∙ ap (λ (u : View). vTripped u a) (view-counted g a k) ∙ tripped-seen v a
+  seen = sim-tripped g fit a la ∙ tripped-seen v a
 
   below : (c : ℕ) → workOf v c ≡ true → c < 8
   below = below-eight (g .n) total a v γ i unfaulted up another nobody
@@ -145,7 +143,7 @@ module _ (total : Party → ℕ) (g : Group) (h : History) (γ : Ghost) (fit : F
     alarmed : Alarmed (g .n) total 8 a q (vDown v a) δ (view g′)
     alarmed =
         subst (λ (u : View). Alarmed (g .n) total 8 a q u δ (view g′)) seen
-        (alarm-all (g .n) total a q g1 (ok-trip Shaped Lined Pictured shaped (withTripsOf g a k) a (fit-counted g a k fit)) δ
+        (alarm-all (g .n) total a q g1 (ok-trip Shaped Lined Pictured shaped g a fit) δ
         (subst (λ (u : View). Core (g .n) total u δ) (sym seen) core) faulted
         (subst (λ (u : View). (c : ℕ) → near u a c ≡ true → (inRecovery (u .own c .state) ≡ false) × (isAt q c ≡ false)) (sym seen) none-near)
         (subst (λ (u : View). (c d : ℕ) → workOf u c ≡ true → used (sAlarmed q c d (u .side c d)) ≡ true → workOf u d ≡ true) (sym seen)
@@ -270,11 +268,91 @@ module _ (total : Party → ℕ) (g : Group) (h : History) (γ : Ghost) (fit : F
         (λ w t f s. past-undone (g .n) v γ h past a e chief (another .0) (λ x. another .1 (x ∙ sym chief)) (another .2) (λ c m. i .core .nodes c .gone m .1 e)
         (i .core .ground .within) w (λ c u. i .core .nodes c .placed (f c u)) (gSaid (gUndo (gFaulted γ)) t .big) refl refl refl)
 
-  pub keeps-trip : Kept total g γ g′ (noteCuts h′ g g′)
-  keeps-trip = elim (ℕ-discrete a (γ .big .chief)) [
+  keeps-left : Kept total g γ g′ (noteCuts h′ g g′)
+  keeps-left = elim (ℕ-discrete a (γ .big .chief)) [
     | yes e ↦ keeps-chief e (γ .big .adopted) refl
     | no d ↦ settled (gFaulted γ)
         (tripped-other (g .n) total v (gFaulted γ) flipped nobody refl a up (λ d. i .meets a d up) alive present d)
         refl (λ c. refl) (λ c d. refl)
         (λ w t f s. rw (kept-other (g .n) v γ h past a d) (past-big (g .n) v w γ (gSaid (gFaulted γ) t .big) h refl refl refl refl (λ e. e) f s past))
   ]
+
+-- ---- the step
+
+module _ (total : Party → ℕ) (g : Group) (h : History) (γ : Ghost) (fit : Fit g) (i : Inv (g .n) total (view g) γ) (past : Past (g .n) (view g) γ h)
+    (a : ℕ) (la : a < 8) (an : a < g .n) (up : workOf (view g) a ≡ true) (fine : tripCrashes g a ≡ false) (k : ℕ) where
+  found : (isLast (g .store) a ≡ false) × (some (recoveringOnes g) ≡ false)
+      × (eqb (coordinator (cabinet g a)) a ≡ true → connected (rowsOf (g .sound)) (set (working g) a false) ≡ true)
+  found =
+      split-or (isLast (g .store) a) (some (recoveringOnes g)) (eqb (coordinator (cabinet g a)) a) (connected (rowsOf (g .sound)) (set (working g) a false)) fine
+
+  -- the counts of trips are no part of what is seen
+  abbrev gk : Group
+  gk = withTripsOf g a k
+
+  abbrev fit-k : Fit gk
+  fit-k = fit-counted g a k fit
+
+  inv-k : Inv (gk .n) total (view gk) γ
+  unfolding withTripsOf
+  inv-k = subst (λ (u : View). Inv (g .n) total u γ) (sym (view-counted g a k)) i
+
+  past-k : Past (gk .n) (view gk) γ h
+  unfolding withTripsOf
+  past-k = subst (λ (u : View). Past (g .n) u γ h) (sym (view-counted g a k)) past
+
+  pub none-recovers : (c : ℕ) → inRecovery (view g .own c .state) ≡ false
+  none-recovers = openly.nobody total g γ fit i (found .1)
+
+  found-calm : some (recoveringOnes gk) ≡ false
+  unfolding withTripsOf recoveringOnes cabinet
+  found-calm = found .1
+
+  found-reach : eqb (coordinator (cabinet gk a)) a ≡ true → connected (rowsOf (gk .sound)) (set (working gk) a false) ≡ true
+  unfolding withTripsOf working cabinet
+  found-reach = found .2
+
+  an-k : a < gk .n
+  unfolding withTripsOf
+  an-k = an
+
+  up-k : works (stateOf gk a) ≡ true
+  unfolding withTripsOf cabinet
+  up-k = up
+
+  -- what is owed of the group with the counts is owed of the group
+  back-k : (g′ : Group) → Kept total gk γ g′ (noteCuts (notePassed h a) gk g′) → Kept total g γ g′ (noteCuts (notePassed h a) g g′)
+  unfolding withTripsOf cabinet outgoing line
+  back-k g′ k = record { ghost = k .ghost; inv = k .inv; past = k .past; stays = k .stays }
+
+  pub gone : Left total gk γ a
+  unfolding withTripsOf cabinet
+  gone = store-leaves total gk γ fit-k inv-k a la (found .0) none-recovers
+
+  -- the group without the store, and what was found, in it
+  abbrev pub gL : Group
+  gL = leave gk a
+
+  pub past1 : Past (gL .n) (view gL) γ h
+  past1 = past-left total gk γ a gone past-k
+
+  pub an1 : a < gL .n
+  an1 = subst (λ (n : ℕ). a < n) (sym (gone .number)) an-k
+
+  pub up1 : workOf (view gL) a ≡ true
+  up1 = ap works (state-left total gk γ a gone a) ∙ up-k
+
+  pub found1 : (view gL .own a .present ≡ false) × (some (recoveringOnes gL) ≡ false)
+      × (eqb (coordinator (cabinet gL a)) a ≡ true → connected (rowsOf (gL .sound)) (set (working gL) a false) ≡ true)
+  found1 = (
+    gone .absent,
+    calm-left total gk γ a gone found-calm,
+    λ e. rw (working-left total gk γ a gone, sound-left total gk γ a gone) (found-reach (ap (λ (x : ℕ). eqb x a) (sym (lead-left total gk γ a gone a)) ∙ e)),
+  )
+
+  abbrev after : Group
+  after = alarmTo 8 (trip gL a) a (AtTripped a)
+
+  pub keeps-trip : Kept total g γ after (noteCuts (notePassed h a) g after)
+  keeps-trip =
+      back-k after (from-left total gk γ a gone after (notePassed h a) (keeps-left total gL h γ (gone .fit) (gone .inv) past1 a la an1 up1 found1))

@@ -26,7 +26,7 @@ use Rattle.claims.proofs.State.Methods.{sAlarmed}
 use Rattle.claims.proofs.State.ViewMoves.{vBlank, vTripped, vEmptied, oBlank, oAlarmed, leadAfter}
 use Rattle.claims.proofs.Invariant.States.{place-same, other-state, known-not-lost, unknown-not-lost}
 use Rattle.claims.proofs.Invariant.Facts.{Big, Mind, Wire, Ghost, Pair, Node, Books, Lead, Alarms, aware, unaware, amountsIn, Amounts, amount, count, checkpLast}
-use Rattle.claims.proofs.Invariant.Whole.{Ground, Core, PairAt, NodeAt, BooksAt, GroundOf, workOf, calmOf, knownOf, storeOf, homeOf, tabOf, lkOf}
+use Rattle.claims.proofs.Invariant.Whole.{Ground, Core, PairAt, NodeAt, BooksAt, GroundOf, workOf, calmOf, knownOf, presentOf, homeOf, tabOf, lkOf}
 use Rattle.claims.proofs.Invariant.Words.{un-of, un-works, un-not-aware, aware-recovers, aware-not-un, lead-lost}
 use Rattle.claims.proofs.Invariant.Reaching.{Reach}
 use Rattle.claims.proofs.Invariant.Frame.{moved, same-ghost, move-pairs, move-nodes, move-books, move-ground}
@@ -284,8 +284,8 @@ module _ (n : ℕ) (total : Party → ℕ) (v : View) (γ : Ghost) (i : Core n t
 
   -- the coordinator is lost: the others work, and are reached without it
   lost-ground : ((c : ℕ) → tabOf γ c ≡ true → workOf v c ≡ true) → Reach (λ c. tabOf γ c && not (eqb c (γ .big .chief))) (lkOf γ)
-      → storeOf v (γ .big .chief) ≡ false
-      → Ground n (γ .big .chief) (γ .big .heir) false (workOf (tripped v a)) (tabOf γ) (storeOf (tripped v a)) (homeOf (tripped v a)) (lkOf γ) (v .sound)
+      → presentOf v (γ .big .chief) ≡ false
+      → Ground n (γ .big .chief) (γ .big .heir) false (workOf (tripped v a)) (tabOf γ) (presentOf (tripped v a)) (homeOf (tripped v a)) (lkOf γ) (v .sound)
   lost-ground all left bare =
       let g = trip-ground in
       record {
@@ -297,12 +297,15 @@ module _ (n : ℕ) (total : Party → ℕ) (v : View) (γ : Ghost) (i : Core n t
         linkOther = g .linkOther;
         soundBoth = g .soundBoth;
         soundLinks = g .soundLinks;
-        homeStores = g .homeStores;
-        storeWorks = g .storeWorks;
+        homePresent = g .homePresent;
+        presentWorks = g .presentWorks;
         reach = g .reach;
         othersWork = λ e c t d. trip-works c ∙ all c t;
         othersReach = λ e. left;
-        lostStore = λ e. kept-at (λ (x : Own). x .store) (v .own) a o′ refl (γ .big .chief) ∙ bare;
+        other = λ e.
+            let home = v .own (γ .big .chief) .home in
+            let stores = i .ground .homePresent (γ .big .chief) (i .ground .within (γ .big .chief) (i .ground .chiefIn)) in
+            (home, (λ q. never (ap (presentOf v) (sym q) ∙ stores) bare), trip-works home ∙ i .ground .presentWorks home stores);
       }
 
   -- ---- who leads
@@ -383,7 +386,7 @@ module _ (n : ℕ) (total : Party → ℕ) (v : View) (γ : Ghost) (i : Core n t
     }
 
     -- the coordinator trips; left is the check with it left out
-    module _ (chief : a ≡ γ .big .chief) (left : Reach (λ c. tabOf γ c && not (eqb c (γ .big .chief))) (lkOf γ)) (bare : storeOf v a ≡ false) where
+    module _ (chief : a ≡ γ .big .chief) (left : Reach (λ c. tabOf γ c && not (eqb c (γ .big .chief))) (lkOf γ)) (bare : presentOf v a ≡ false) where
       pub tripped-chief : γ .big .adopted ≡ true
           → ((j : ℕ) → j ≢ γ .big .chief → workOf v j ≡ true
           → (c : ℕ) × (c ≢ γ .big .chief) × (workOf v c ≡ true) × ((knownOf v c ≡ true) ⊎ (γ .mind c .joined ≡ true)))
@@ -393,7 +396,7 @@ module _ (n : ℕ) (total : Party → ℕ) (v : View) (γ : Ghost) (i : Core n t
         nodes = λ c. lost-node _ _ _ _ _ (trip-nodes c);
         books = λ c. lost-books _ _ _ _ _ (trip-bookss c);
         leads = leads-lost chief (bLost (γ .big)) fault refl refl refl;
-        ground = lost-ground all left (ap (storeOf v) (sym chief) ∙ bare);
+        ground = lost-ground all left (ap (presentOf v) (sym chief) ∙ bare);
         chain = record {
           noCommit = λ f. inl (no-calm chief (bLost (γ .big)) fault);
           lives = λ e. absurd (never adopted e);
@@ -433,7 +436,7 @@ module _ (n : ℕ) (total : Party → ℕ) (v : View) (γ : Ghost) (i : Core n t
             (λ e. ap (λ (k : ℕ). γ .mind k .tab) e ∙ i .ground .chiefIn) (λ e. ap (λ (k : ℕ). γ .mind k .done) e ∙ uncut);
         books = λ c. undone-books _ _ _ _ _ (trip-bookss c);
         leads = leads-lost chief (bUndo (γ .big)) fault refl refl refl;
-        ground = lost-ground all left (ap (storeOf v) (sym chief) ∙ bare);
+        ground = lost-ground all left (ap (presentOf v) (sym chief) ∙ bare);
         chain = record {
           noCommit = λ f. inl (no-calm chief (bUndo (γ .big)) fault);
           lives = λ e. absurd (true≢false e);

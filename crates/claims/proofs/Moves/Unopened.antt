@@ -37,8 +37,8 @@ module _ (total : Party → ℕ) (g : Group) (γ : Ghost) (fit : Fit g) (i : Inv
   pub flipped : Core (g .n) total v (gFaulted γ)
   flipped = flip-core (g .n) total v γ (i .core) nobody
 
-  -- who is no store has its home, which works, beside it
-  pub another : (a : ℕ) → a < g .n → v .own a .store ≡ false → (j : ℕ) × (j ≢ a) × (workOf v j ≡ true)
+  -- who is no store that is present has its home, which works, beside it
+  pub another : (a : ℕ) → a < g .n → v .own a .present ≡ false → (j : ℕ) × (j ≢ a) × (workOf v j ≡ true)
   another a an no-store =
-      let s = i .core .ground .homeStores a an in
-      (v .own a .home, (λ q. never (ap (λ (c : ℕ). v .own c .store) (sym q) ∙ s) no-store), i .core .ground .storeWorks (v .own a .home) s)
+      let s = i .core .ground .homePresent a an in
+      (v .own a .home, (λ q. never (ap (λ (c : ℕ). v .own c .present) (sym q) ∙ s) no-store), i .core .ground .presentWorks (v .own a .home) s)

@@ -20,15 +20,16 @@ use Rattle.cabinet.specs.declared.Cabinet.{Cabinet}
 use Rattle.state.specs.State.{isIn, works, inRecovery, isUnknown, bitOf, doubted}
 use Rattle.image.specs.Image.{withPiece}
 use Rattle.cabinet.specs.Cabinet.{coordinator, wrote}
+use Rattle.store.specs.Store.{isPresent, homeIn}
 use Rattle.group.specs.declared.Group.{Group}
-use Rattle.group.specs.Group.{cabinet, stateOf, slot}
-use Rattle.protocol.specs.Kinds.{need, writeRefusal, writePiece, oweIf}
+use Rattle.group.specs.Group.{cabinet, withStore, stateOf, slot}
+use Rattle.protocol.specs.Kinds.{need, writeRefusal, pieceSaved, writePiece, oweIf}
 use Rattle.protocol.specs.History.{History, noteCuts, upd}
 use Rattle.claims.proofs.State.Fun.{never, not-true-false, cond-elim, is-false, and-true, upd-elim, upd-same, upd-other, kept-at, kept-pair}
-use Rattle.claims.proofs.State.Every.{passed, with-slot, ok-writePiece}
-use Rattle.claims.proofs.State.View.{View, Own, Side, ownOf, sideOf, same, view, setCabinet, setSlot}
+use Rattle.claims.proofs.State.Every.{passed, ok-piece, ok-writePiece}
+use Rattle.claims.proofs.State.View.{View, Own, Side, ownOf, ownIn, sideOf, same, view, setCabinet, setSlot}
 use Rattle.claims.proofs.State.Shape.{Shaped, Lined, Pictured, shaped}
-use Rattle.claims.proofs.State.Sim.{Fit, view-cabinet, view-slot}
+use Rattle.claims.proofs.State.Sim.{Fit, view-cabinet, view-piece}
 use Rattle.claims.proofs.State.Methods.{sOwed}
 use Rattle.claims.proofs.State.ViewMoves.{oPieces, vOwe, sim-owe}
 use Rattle.claims.proofs.Answers.Tests.{in-state}
@@ -58,7 +59,7 @@ module _ (b : Big) (c d : ℕ) (o : Own) (m : Mind) (p : Own) (n : Mind) (s t : 
 -- ---- the last piece
 
 abbrev pub oWritten : Own → Version → Own
-oWritten o x = record { state = Checkpointed; version = x; alarm = o .alarm; pieces = 4; image = o .image; home = o .home; store = o .store; lead = o .lead; former = o .former }
+oWritten o x = record { state = Checkpointed; version = x; alarm = o .alarm; pieces = 4; image = o .image; home = o .home; present = o .present; lead = o .lead; former = o .former }
 
 abbrev pub mWrote : Mind → Mind
 mWrote m = record { tab = m .tab; joined = m .joined; done = m .done; wrote = true; told = m .told; ready = m .ready; cut = m .cut; base = m .base; top = m .top; prev = m .prev }
@@ -433,29 +434,31 @@ owe-inv n total v γ i h a x owes home =
 side-wrote : (c : Cabinet) (a : ℕ) → sideOf (wrote c a) ≡ sideOf c
 side-wrote c a = cond-elim (λ (x : Cabinet). sideOf x ≡ sideOf c) (ltb (c .noted .pieces) 3) (λ e. refl) (λ e. refl)
 
-abbrev oWrote : Bool → Cabinet → ℕ → Own
-oWrote t c a =
-    cond t (oPieces (ownOf c) (c .noted .pieces + 1))
-    (oWritten (ownOf c) (cond (eqb (coordinator c) a) (c .phase .version) (doubted (c .phase .version))))
+abbrev oWrote : Bool → Own → Cabinet → ℕ → Own
+oWrote t o c a =
+    cond t (oPieces o (c .noted .pieces + 1)) (oWritten o (cond (eqb (coordinator c) a) (c .phase .version) (doubted (c .phase .version))))
 
-own-wrote : (c : Cabinet) (a : ℕ) (t : Bool) → ltb (c .noted .pieces) 3 ≡ t → ownOf (wrote c a) ≡ oWrote t c a
-own-wrote c a true e = rw e
-own-wrote c a false e = rw e
+own-wrote : (h : ℕ) (p : Bool) (c : Cabinet) (a : ℕ) (t : Bool) → ltb (c .noted .pieces) 3 ≡ t → ownOf h p (wrote c a) ≡ oWrote t (ownOf h p c) c a
+own-wrote h p c a true e = rw e
+own-wrote h p c a false e = rw e
 
-pub sim-write : (g : Group) → Fit g → (a : ℕ) → a < 8 → (t : Bool) → ltb (cabinet g a .noted .pieces) 3 ≡ t → (x : Bool) → bitOf (cabinet g a .phase .version) ≡ x
+pub sim-write : (g : Group) → Fit g → (a : ℕ) → a < 8 → isPresent (g .store) (homeIn (g .store) a) ≡ true
+    → (t : Bool) → ltb (cabinet g a .noted .pieces) 3 ≡ t → (x : Bool) → bitOf (cabinet g a .phase .version) ≡ x
     → view (writePiece g a)
-    ≡ moved (view g) a (oWrote t (cabinet g a) a) (view g .side a) (view g .lines)
-    (stored (view g) a (not x) (withPiece (cabinet g a .noted .pieces) (cabinet g a .image) (slot g a (not x))))
-unfolding writePiece
-sim-write g w a la t e x f =
+    ≡ moved (view g) a (oWrote t (view g .own a) (cabinet g a) a) (view g .side a) (view g .lines)
+    (stored (view g) a (not x) (withPiece (cabinet g a .noted .pieces) (cabinet g a .image) (slot g (homeIn (g .store) a) a (not x))))
+unfolding writePiece cabinet
+sim-write g w a la here t e x f =
     let y = not (bitOf (cabinet g a .phase .version)) in
-    let m = withPiece (cabinet g a .noted .pieces) (cabinet g a .image) (slot g a y) in
-    let one = with-slot Shaped Lined Pictured shaped g a y m (shaped .pieced (cabinet g a .noted .pieces) _ _ (w .cabs a .image) (w .slots a y)) w in
-    view-cabinet _ (one .frame) a (wrote (cabinet g a) a) la
-    ∙ ap (λ (u : View). setCabinet u a (ownOf (wrote (cabinet g a) a)) (sideOf (wrote (cabinet g a) a))) (view-slot g (w .frame) a y m la)
-    ∙ ap (λ (s : ℕ → Side). setCabinet (setSlot (view g) a y m) a (ownOf (wrote (cabinet g a) a)) s) (side-wrote (cabinet g a) a)
-    ∙ ap (λ (o : Own). setCabinet (setSlot (view g) a y m) a o (view g .side a)) (own-wrote (cabinet g a) a t e)
-    ∙ ap (λ (z : Bool). setCabinet (setSlot (view g) a (not z) (withPiece (cabinet g a .noted .pieces) (cabinet g a .image) (slot g a (not z)))) a (oWrote t (cabinet g a) a) (view g .side a)) f
+    let k = cabinet g a .noted .pieces in
+    let m = cabinet g a .image in
+    let seen = view-piece g (w .frame .store) a la here y k m in
+    let own : view (withStore g (pieceSaved g a)) .own a ≡ view g .own a = ap (λ (u : View). u .own a) seen in
+    view-cabinet _ (ok-piece Shaped Lined Pictured shaped g w a .frame) a (wrote (cabinet g a) a) la
+    ∙ ap (λ (s : ℕ → Side). setCabinet (view (withStore g (pieceSaved g a))) a (ownIn (withStore g (pieceSaved g a)) a (wrote (cabinet g a) a)) s) (side-wrote (cabinet g a) a)
+    ∙ ap (λ (o : Own). setCabinet (view (withStore g (pieceSaved g a))) a o (view g .side a)) (own-wrote _ _ (cabinet g a) a t e)
+    ∙ ap (λ (u : View). setCabinet u a (oWrote t (u .own a) (cabinet g a) a) (view g .side a)) seen
+    ∙ ap (λ (z : Bool). setCabinet (setSlot (view g) a (not z) (withPiece k m (slot g (homeIn (g .store) a) a (not z)))) a (oWrote t (view g .own a) (cabinet g a) a) (view g .side a)) f
 
 module _ (total : Party → ℕ) (g : Group) (h : History) (γ : Ghost) (w : Fit g) (i : Inv (g .n) total (view g) γ) (past : Past (g .n) (view g) γ h)
     (a : ℕ) (la : a < 8) (ln : a < g .n) (fine : writeRefusal g a ≡ 0) where
@@ -463,7 +466,10 @@ module _ (total : Party → ℕ) (g : Group) (h : History) (γ : Ghost) (w : Fit
   v = view g
 
   abbrev home : ℕ
-  home = cabinet g a .home
+  home = homeIn (g .store) a
+
+  here : isPresent (g .store) home ≡ true
+  here = i .core .ground .homePresent a ln
 
   checks : (isIn (stateOf g a) Checkpointing ≡ true) × (not (inRecovery (stateOf g home)) ≡ true)
   checks =
@@ -497,7 +503,7 @@ module _ (total : Party → ℕ) (g : Group) (h : History) (γ : Ghost) (w : Fit
   more e =
       let c : v .own a .image ≡ γ .mind a .cut = at-node .cutImage e (now .0) calm in
       subst (λ (m : Image). SameTo (8 * (v .own a .pieces + 1)) new m) c
-      (piece-more (v .own a .pieces) (v .own a .image) (v .slots a (not (γ .big .topv))) (w .slots a (not (γ .big .topv))) (now .2)
+      (piece-more (v .own a .pieces) (v .own a .image) (v .slots a (not (γ .big .topv))) (w .slots home a (not (γ .big .topv))) (now .2)
       (subst (λ (m : Image). SameTo (8 * v .own a .pieces) (v .slots a (not (γ .big .topv))) m) (sym c) (at-node .slotPieces e calm cutting-now)))
 
   -- what the group and the history owe, given what becomes of the states
@@ -534,7 +540,7 @@ module _ (total : Party → ℕ) (g : Group) (h : History) (γ : Ghost) (w : Fit
 
   keeps-part : ltb (v .own a .pieces) 3 ≡ true → Kept total g γ (writePiece g a) (noteCuts h g (writePiece g a))
   keeps-part few =
-      let seen = sim-write g w a la true few (γ .big .topv) bit in
+      let seen = sim-write g w a la here true few (γ .big .topv) bit in
       let o : Own = oPieces (v .own a) (v .own a .pieces + 1) in
       let z : ℕ → Bool → Image = stored v a (not (γ .big .topv)) new in
       closing (writePiece g a) γ
@@ -547,7 +553,7 @@ module _ (total : Party → ℕ) (g : Group) (h : History) (γ : Ghost) (w : Fit
 
   module _ (full : ltb (v .own a .pieces) 3 ≡ false) where
     abbrev o1 : Own
-    o1 = oWrote false (cabinet g a) a
+    o1 = oWrote false (v .own a) (cabinet g a) a
 
     abbrev v1 : View
     v1 = moved v a o1 (v .side a) (v .lines) (stored v a (not (γ .big .topv)) new)
@@ -556,7 +562,7 @@ module _ (total : Party → ℕ) (g : Group) (h : History) (γ : Ghost) (w : Fit
     γ1 = minded γ (γ .big) a (mWrote (γ .mind a)) (γ .wire)
 
     seen-last : view (writePiece g a) ≡ v1
-    seen-last = sim-write g w a la false full (γ .big .topv) bit
+    seen-last = sim-write g w a la here false full (γ .big .topv) bit
 
     is-chief : coordinator (cabinet g a) ≡ γ .big .chief
     is-chief = chief-of (g .n) total g γ (i .core) a calm
@@ -569,14 +575,14 @@ module _ (total : Party → ℕ) (g : Group) (h : History) (γ : Ghost) (w : Fit
 
     whole : γ .big .alive ≡ true → new ≡ γ .mind a .cut
     whole e =
-        all-pieces new (γ .mind a .cut) (shaped .pieced (v .own a .pieces) _ _ (w .cabs a .image) (w .slots a (not (γ .big .topv)))) (at-node .sizes .0)
+        all-pieces new (γ .mind a .cut) (shaped .pieced (v .own a .pieces) _ _ (w .cabs a .image) (w .slots home a (not (γ .big .topv)))) (at-node .sizes .0)
         (λ j l. more e j (omega (arith, ltb-false (v .own a .pieces) 3 full)))
 
     inv-last : Inv (g .n) total v1 γ1
     inv-last = last-inv (g .n) total v γ a i calm cutting-now new (o1 .version) mine other whole
 
     home-works : works (stateOf g home) ≡ true
-    home-works = i .core .ground .storeWorks home (i .core .ground .homeStores a ln)
+    home-works = i .core .ground .presentWorks home here
 
     home-calm : unaware (γ .big) (v .own home) ≡ true
     home-calm = un-of (γ .big) (v .own home) home-works (not-true-false (checks .1))
@@ -621,12 +627,12 @@ module _ (total : Party → ℕ) (g : Group) (h : History) (γ : Ghost) (w : Fit
         (λ c d. ap (λ (x : View). x .side c d .unsure) seen-owed ∙ kept-pair (λ (x : Side). x .unsure) (v1 .side) home a _ refl c d) no-fault)
 
   abbrev gw : Group
-  gw = oweIf (not (ltb (cabinet g a .noted .pieces) 3)) (writePiece g a) (cabinet g a .home) a
+  gw = oweIf (not (ltb (cabinet g a .noted .pieces) 3)) (writePiece g a) home a
 
   pub keeps-write : Kept total g γ gw (noteCuts h g gw)
   keeps-write = go (ltb (v .own a .pieces) 3) refl
     where
       go : (t : Bool) → ltb (v .own a .pieces) 3 ≡ t
-          → Kept total g γ (oweIf (not t) (writePiece g a) (cabinet g a .home) a) (noteCuts h g (oweIf (not t) (writePiece g a) (cabinet g a .home) a))
+          → Kept total g γ (oweIf (not t) (writePiece g a) home a) (noteCuts h g (oweIf (not t) (writePiece g a) home a))
       go true e = keeps-part e
       go false e = keeps-last e

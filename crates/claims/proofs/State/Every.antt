@@ -32,27 +32,30 @@ use Rattle.cabinet.specs.declared.Alarm.{Alarm}
 use Rattle.cabinet.specs.declared.Alarm.the-variants.{Quiet, Fault as At}
 use Rattle.cabinet.specs.declared.Cabinet.{Cabinet}
 use Rattle.cabinet.specs.Alarm.{isFor}
-use Rattle.state.specs.State.{isIn, works, inRecovery, bitOf}
+use Rattle.state.specs.State.{isIn, works, inRecovery}
 use Rattle.image.specs.Image.{booking, firstNote, withOctet, withPiece}
-use Rattle.cabinet.specs.Cabinet.{absent, inUse, withImage, withState, withVersion, sending, taking, hurtFrom, beginning, comparing, cutting, wrote, owing, savedFor, resuming, alarmed, blanked, hearing, recovering, fetched, restoredFor, unsureFor, crashing}
+use Rattle.cabinet.specs.Cabinet.{absent, inUse, withImage, withState, withVersion, sending, taking, hurtFrom, beginning, comparing, cutting, wrote, owing, owingAlso, owingBut, owingNone, savedFor, resuming, alarmed, blanked, hearing, recovering, fetched, restoredFor, unsureFor, crashing}
 use Rattle.settled.specs.declared.Reason.{Reason}
 use Rattle.settled.specs.declared.Reason.the-variants.{Decided}
 use Rattle.settled.specs.declared.Settled.{Settled}
 use Rattle.outgoing.specs.declared.Outgoing.{Outgoing}
-use Rattle.group.specs.declared.Slots.{Slots}
+use Rattle.store.specs.declared.Store.{Store}
+use Rattle.store.specs.Store.{isLast, isAway, leaves, comesBack}
+use Rattle.store.specs.Served.{Served}
+use Rattle.store.proofs.Laws.{Held, piece-kept, piece-held, leave-kept, leave-held, back-kept, back-held}
 use Rattle.group.specs.declared.Group.{Group}
 use Rattle.group.specs.declared.Outcome.{Outcome}
 use Rattle.outgoing.specs.Lines.{emptyLines, lineTo, withLineTo, putIf, putRowTo, putAll, checkps, putCheckps}
-use Rattle.group.specs.Group.{cabinet, withCabinet, stateOf, outgoing, withOutgoing, line, withLine, blankSlots, slot, withSlot, rowsOf, withSound, working, some, recoveringOnes, tripsOf, withTripsOf, forgetTrips, withSettled, settle, settleOver, taken, crashAll, crashed, withSlots}
+use Rattle.group.specs.Group.{cabinet, withCabinet, stateOf, outgoing, withOutgoing, line, withLine, withStore, home, rowsOf, withSound, working, some, recoveringOnes, tripsOf, withTripsOf, forgetTrips, withSettled, settle, settleOver, taken, crashAll, crashed}
 use Rattle.protocol.specs.declared.Step.{Step}
 use Rattle.protocol.specs.declared.Step.the-variants.{Send, Note, Begin, Deliver, Write, Saved, Fetch, Restored, Fail, Damage, Lose, Trip, Unsure}
 use Rattle.protocol.specs.declared.Decoded.{Decoded}
 use Rattle.protocol.specs.declared.Decoded.the-variants.{Malformed, Unused, Taken}
-use Rattle.protocol.specs.Moves.{broadcast, join, cutIfAll, takeCheckp, resumeWith, commit, adopt, recoverWith, recoverIfKnown, raise, enterError, hear, findLinkFault, emptiedTo, markFailed, trip, neighbours, enterErrorIf, alarmTo, endRecovery, noteAt, noteFor, noteLost}
+use Rattle.protocol.specs.Moves.{broadcast, join, cutIfAll, takeCheckp, resumeWith, commit, adopt, recoverWith, recoverIfKnown, raise, enterError, hear, findLinkFault, emptiedTo, passReports, leave, dropReports, comeBack, markFailed, trip, neighbours, enterErrorIf, alarmTo, endRecovery, noteAt, noteFor, noteLost}
 use Rattle.protocol.specs.Receive.{serving, takes, receiveNormal, joinIf, receiveCheckp, resumesFrom, receiveResume, receiveRecover, receiveFault, receiveInvalid, receive}
-use Rattle.protocol.specs.Kinds.{need, orRefuse, sendRefusal, carried, sent, sendStep, noteRefusal, noteStep, beginStep, beginRefusal, deliverRefusal, delivered, deliverStep, writeRefusal, writePiece, oweIf, writeStep, savedRefusal, reportSaved, commitIfAll, savedStep, fetchRefusal, fetchPiece, fetchStep, restoredRefusal, reportRestored, endIfAll, restoredStep, failCrashes, failStep, hurtIf, hurt, damageRefusal, damageStep, loseRefusal, lost, loseStep, tripCrashes, tripOnce, tripStep, unsureRefusal, reportUnsure, decideIfAll, unsureStep}
+use Rattle.protocol.specs.Kinds.{need, orRefuse, sendRefusal, carried, sent, sendStep, noteRefusal, noteStep, beginStep, beginRefusal, deliverRefusal, delivered, deliverStep, writeRefusal, pieceSaved, writePiece, oweIf, writeStep, savedRefusal, reportSaved, commitIfAll, savedStep, fetchRefusal, fetchPiece, fetchStep, restoredRefusal, reportRestored, comeBackIfAway, endIfAll, restoredStep, failCrashes, failStep, hurtIf, hurt, damageRefusal, damageStep, loseRefusal, lost, loseStep, tripCrashes, tripOnce, tripStep, unsureRefusal, reportUnsure, decideIfAll, unsureStep}
 use Rattle.protocol.specs.Entry.{step, stepDecoded, perform, entryRefusal, decode, fieldsOf, aloneOf, isKind}
-use Rattle.claims.proofs.State.Fun.{never, cond-elim, and-true}
+use Rattle.claims.proofs.State.Fun.{never, cond-elim, and-true, or-false}
 
 -- ---- lists: what holds of the element stored and of the old ones holds of each one after the store
 
@@ -194,6 +197,9 @@ pub record Closed (C : Cabinet → Type 0) (L : Line → Type 0) (I : Image → 
   pub versioned : (c : Cabinet) (v : Version) → C c → C (withVersion c v)
   pub wrote : (c : Cabinet) (i : ℕ) → C c → C (wrote c i)
   pub owing : (c : Cabinet) (j : ℕ) (o : Bool) → C c → C (owing c j o)
+  pub owingAlso : (c : Cabinet) (m : Marks) → C c → C (owingAlso c m)
+  pub owingBut : (c : Cabinet) (m : Marks) → C c → C (owingBut c m)
+  pub owingNone : (c : Cabinet) → C c → C (owingNone c)
   pub savedFor : (c : Cabinet) (j : ℕ) → C c → C (savedFor c j)
   pub resuming : (c : Cabinet) (v : Version) → C c → C (resuming c v)
   pub alarmed : (c : Cabinet) (i : ℕ) (p : Place) → C c → C (alarmed c i p)
@@ -212,18 +218,18 @@ pub record Closed (C : Cabinet → Type 0) (L : Line → Type 0) (I : Image → 
   pub damages : (l : Line) (k : ℕ) (w : Pattern) → w .mask < 65536 → L l → L (replaced l k (damaged (packetAt l k) w))
   pub loses : (l : Line) (k : ℕ) → L l → L (without l k)
 
--- the arrays of a group have eight elements each
+-- the arrays of a group have eight elements each, and its store serves every cabinet
 pub record Framed (g : Group) : Type 0 where
   pub cabinets : length (g .cabinets) ≡ 8
   pub outs : length (g .outgoing) ≡ 8
   pub lines : (i : ℕ) → length (outgoing g i .lines) ≡ 8
-  pub store : length (g .store) ≡ 8
+  pub store : Served (g .store)
 
 pub record All (C : Cabinet → Type 0) (L : Line → Type 0) (I : Image → Type 0) (g : Group) : Type 0 where
   pub frame : Framed g
   pub cabs : (i : ℕ) → C (cabinet g i)
   pub lines : (a b : ℕ) → L (line g a b)
-  pub slots : (i : ℕ) (v : Bool) → I (slot g i v)
+  pub slots : Held I (g .store)
 
 module _ (C : Cabinet → Type 0) (L : Line → Type 0) (I : Image → Type 0) (k : Closed C L I) where
   abbrev pub Ok : Group → Type 0
@@ -232,7 +238,7 @@ module _ (C : Cabinet → Type 0) (L : Line → Type 0) (I : Image → Type 0) (
   -- ---- the stores
 
   pub with-cabinet : (g : Group) (i : ℕ) (c : Cabinet) → C c → Ok g → Ok (withCabinet g i c)
-  unfolding cabinet withCabinet outgoing line slot
+  unfolding cabinet withCabinet outgoing line
   with-cabinet g i c hc h = record {
     frame = record { cabinets = length-set (g .cabinets) i c ∙ h .frame .cabinets; outs = h .frame .outs; lines = h .frame .lines; store = h .frame .store };
     cabs = λ j. getD-set C (g .cabinets) i j c absent hc (h .cabs j);
@@ -249,7 +255,7 @@ module _ (C : Cabinet → Type 0) (L : Line → Type 0) (I : Image → Type 0) (
   out-of g i h = record { eight = h .frame .lines i; each-line = λ b. h .lines i b }
 
   pub with-outgoing : (g : Group) (i : ℕ) (o : Outgoing) → Out o → Ok g → Ok (withOutgoing g i o)
-  unfolding cabinet outgoing withOutgoing line slot
+  unfolding cabinet outgoing withOutgoing line
   with-outgoing g i o ho h = record {
     frame = record {
       cabinets = h .frame .cabinets;
@@ -272,24 +278,18 @@ module _ (C : Cabinet → Type 0) (L : Line → Type 0) (I : Image → Type 0) (
       })
       h
 
-  pick-slot : (s : Slots) (v : Bool) → I (s .zero) → I (s .one) → I (cond v (s .one) (s .zero))
-  pick-slot s v z o = cond-elim I v (λ _. o) (λ _. z)
-
-  pub with-slot : (g : Group) (i : ℕ) (v : Bool) (m : Image) → I m → Ok g → Ok (withSlot g i v m)
-  unfolding cabinet outgoing line slot withSlot withSlots blankSlots
-  with-slot g i v m hm h = record {
-    frame = record { cabinets = h .frame .cabinets; outs = h .frame .outs; lines = h .frame .lines; store = length-set (g .store) i _ ∙ h .frame .store };
+  pub with-store : (g : Group) (s : Store) → Served s → Held I s → Ok g → Ok (withStore g s)
+  unfolding cabinet outgoing line
+  with-store g s served held h = record {
+    frame = record { cabinets = h .frame .cabinets; outs = h .frame .outs; lines = h .frame .lines; store = served };
     cabs = h .cabs;
     lines = h .lines;
-    slots = λ j u.
-        let P : Slots → Type 0 = λ s. I (cond u (s .one) (s .zero)) in
-        getD-set P (g .store) i j _ blankSlots
-        (cond-elim P v (λ _. pick-slot _ u (h .slots i false) hm) (λ _. pick-slot _ u hm (h .slots i true))) (h .slots j u);
+    slots = held;
   }
 
   -- what is counted of trips is no part of a cabinet, a line or an image
   pub with-trips : (g : Group) (a n : ℕ) → Ok g → Ok (withTripsOf g a n)
-  unfolding cabinet outgoing line slot withTripsOf
+  unfolding cabinet outgoing line withTripsOf
   with-trips g a n h = record {
     frame = record { cabinets = h .frame .cabinets; outs = h .frame .outs; lines = h .frame .lines; store = h .frame .store };
     cabs = h .cabs;
@@ -298,7 +298,7 @@ module _ (C : Cabinet → Type 0) (L : Line → Type 0) (I : Image → Type 0) (
   }
 
   no-trips : (g : Group) → Ok g → Ok (forgetTrips g)
-  unfolding cabinet outgoing line slot forgetTrips
+  unfolding cabinet outgoing line forgetTrips
   no-trips g h = record {
     frame = record { cabinets = h .frame .cabinets; outs = h .frame .outs; lines = h .frame .lines; store = h .frame .store };
     cabs = h .cabs;
@@ -377,7 +377,7 @@ module _ (C : Cabinet → Type 0) (L : Line → Type 0) (I : Image → Type 0) (
 
   -- who settled the recovery is told of no cabinet, line or slot
   pub with-settled : (g : Group) (s : Settled) → Ok g → Ok (withSettled g s)
-  unfolding cabinet outgoing line slot
+  unfolding cabinet outgoing line
   with-settled g s h = record {
     frame = record { cabinets = h .frame .cabinets; outs = h .frame .outs; lines = h .frame .lines; store = h .frame .store };
     cabs = h .cabs;
@@ -426,6 +426,23 @@ module _ (C : Cabinet → Type 0) (L : Line → Type 0) (I : Image → Type 0) (
   unfolding markFailed
   ok-markFailed g a h = ok-emptied 8 _ a (with-outgoing _ a _ no-packets (with-cabinet g a _ (k .stated _ Failed (h .cabs a)) h))
 
+  -- a store leaves, and comes back
+  pub ok-leave : (g : Group) (a : ℕ) → isLast (g .store) a ≡ false → Ok g → Ok (leave g a)
+  unfolding leave passReports cabinet
+  ok-leave g a stays h =
+      let left : Ok (withStore g (leaves (g .store) a)) = with-store g _ (leave-kept (g .store) (h .frame .store) a stays) (leave-held I (g .store) (h .slots) a) h in
+      with-cabinet _ a _ (k .owingNone _ (left .cabs a)) (with-cabinet _ _ _ (k .owingAlso _ _ (left .cabs _)) left)
+
+  pub ok-comeBack : (g : Group) (a : ℕ) → isAway (g .store) a ≡ true → Ok g → Ok (comeBack g a)
+  unfolding comeBack dropReports
+  ok-comeBack g a away h =
+      let back : Ok (withStore g (comesBack (g .store) a)) = with-store g _ (back-kept (g .store) (h .frame .store) a away) (back-held I (g .store) (h .slots) (k .imaged _ (k .gone)) a) h in
+      with-cabinet _ _ _ (k .owingBut _ _ (back .cabs _)) back
+
+  pub ok-comeBackIfAway : (g : Group) (a : ℕ) → Ok g → Ok (comeBackIfAway g a)
+  unfolding comeBackIfAway
+  ok-comeBackIfAway g a h = cond-elim Ok (isAway (g .store) a) (λ e. ok-comeBack g a e h) (λ _. h)
+
   pub ok-trip : (g : Group) (a : ℕ) → Ok g → Ok (trip g a)
   unfolding trip
   ok-trip g a h = ok-emptied 8 _ a (ok-enterError _ a (AtTripped a) (with-cabinet g a _ (k .blanked _ (h .cabs a)) h))
@@ -443,7 +460,7 @@ module _ (C : Cabinet → Type 0) (L : Line → Type 0) (I : Image → Type 0) (
   crash-one c hc = cond-elim C (works (c .phase .state)) (λ _. k .stated c Crashed hc) (λ _. hc)
 
   pub ok-crashed : (g : Group) → Ok g → Ok (crashed g .group)
-  unfolding cabinet outgoing line slot crashAll
+  unfolding cabinet outgoing line crashAll
   ok-crashed g h = record {
     frame = record { cabinets = refl; outs = h .frame .outs; lines = h .frame .lines; store = h .frame .store };
     cabs = λ i.
@@ -474,7 +491,7 @@ module _ (C : Cabinet → Type 0) (L : Line → Type 0) (I : Image → Type 0) (
   OkOf o = Ok (o .group)
 
   pub ok-linkFault : (before g : Group) (a b : ℕ) → Ok before → Ok g → OkOf (findLinkFault before g a b)
-  unfolding findLinkFault cabinet outgoing line slot withSound
+  unfolding findLinkFault cabinet outgoing line withSound
   ok-linkFault before g a b hb h =
       cond-elim OkOf (connected (struck (rowsOf (g .sound)) a b) (working g))
       (λ _. ok-enterError (withSound g (struck (rowsOf (g .sound)) a b)) b (linkPlace a b) (record {
@@ -574,12 +591,14 @@ module _ (C : Cabinet → Type 0) (L : Line → Type 0) (I : Image → Type 0) (
         or-refuse (deliverRefusal g a b) g (delivered g a b)
         (λ _. cond-elim OkOf (marked (inUse (cabinet g b)) a) (λ _. ok-receive g _ a b h off (oldest (line g a b))) (λ _. off)) h
 
+    pub ok-piece : (a : ℕ) → Ok (withStore g (pieceSaved g a))
+    ok-piece a =
+        with-store g _ (piece-kept (g .store) (h .frame .store) a _ _ _)
+        (piece-held I (g .store) (h .slots) a _ _ _ (λ x i. k .pieced _ _ _ (k .imaged _ (h .cabs a)) i)) h
+
     pub ok-writePiece : (a : ℕ) → Ok (writePiece g a)
-    unfolding writePiece
-    ok-writePiece a =
-        let v = not (bitOf (cabinet g a .phase .version)) in
-        with-cabinet _ a _ (k .wrote _ a (h .cabs a))
-        (with-slot g a v _ (k .pieced _ _ _ (k .imaged _ (h .cabs a)) (h .slots a v)) h)
+    unfolding writePiece cabinet
+    ok-writePiece a = with-cabinet _ a _ (k .wrote _ a (h .cabs a)) (ok-piece a)
 
   pub ok-oweIf : (t : Bool) (g : Group) (home a : ℕ) → Ok g → Ok (oweIf t g home a)
   ok-oweIf true g home a h = with-cabinet g home _ (k .owing _ a true (h .cabs home)) h
@@ -599,7 +618,7 @@ module _ (C : Cabinet → Type 0) (L : Line → Type 0) (I : Image → Type 0) (
   pub ok-fetchPiece : (g : Group) (a : ℕ) → Ok g → Ok (fetchPiece g a)
   unfolding fetchPiece
   ok-fetchPiece g a h =
-      with-cabinet g a _ (k .fetched _ _ (k .pieced _ _ _ (h .slots a _) (k .imaged _ (h .cabs a)))
+      with-cabinet g a _ (k .fetched _ _ (k .pieced _ _ _ (h .slots _ a _) (k .imaged _ (h .cabs a)))
       (h .cabs a))
       h
 
@@ -635,7 +654,7 @@ module _ (C : Cabinet → Type 0) (L : Line → Type 0) (I : Image → Type 0) (
     pub ok-write : OkOf (writeStep g a)
     unfolding writeStep
     ok-write = or-refuse (writeRefusal g a) g _
-        (λ _. ok-oweIf (not (ltb (cabinet g a .noted .pieces) 3)) _ (cabinet g a .home) a (ok-writePiece g h a)) h
+        (λ _. ok-oweIf (not (ltb (cabinet g a .noted .pieces) 3)) _ (home g a) a (ok-writePiece g h a)) h
 
     pub ok-saved : OkOf (savedStep g a)
     unfolding savedStep
@@ -648,7 +667,7 @@ module _ (C : Cabinet → Type 0) (L : Line → Type 0) (I : Image → Type 0) (
     pub ok-restored : OkOf (restoredStep g a)
     unfolding restoredStep reportRestored
     ok-restored =
-        or-refuse (restoredRefusal g a) g _ (λ _. ok-endIfAll _ _ (with-cabinet g _ _ (k .restoredFor _ a (h .cabs _)) h)) h
+        or-refuse (restoredRefusal g a) g _ (λ _. ok-endIfAll _ _ (ok-comeBackIfAway _ a (with-cabinet g _ _ (k .restoredFor _ a (h .cabs _)) h))) h
 
     pub ok-unsure : OkOf (unsureStep g a)
     unfolding unsureStep reportUnsure
@@ -656,11 +675,15 @@ module _ (C : Cabinet → Type 0) (L : Line → Type 0) (I : Image → Type 0) (
 
     pub ok-fail : OkOf (failStep g a)
     unfolding failStep
-    ok-fail = cond-elim OkOf (failCrashes g a) (λ _. ok-crashed g h) (λ _. ok-alarm 8 _ a (AtFailed a) (ok-markFailed g a h))
+    ok-fail =
+        cond-elim OkOf (failCrashes g a) (λ _. ok-crashed g h)
+        (λ e. ok-alarm 8 _ a (AtFailed a) (ok-markFailed _ a (ok-leave g a (or-false {s = isLast (g .store) a} e .0) h)))
 
     pub ok-tripOnce : (n : ℕ) → OkOf (tripOnce g a n)
-    unfolding tripOnce
-    ok-tripOnce n = cond-elim OkOf (tripCrashes g a) (λ _. ok-crashed g h) (λ _. ok-alarm 8 _ a (AtTripped a) (ok-trip _ a (with-trips g a n h)))
+    unfolding tripOnce withTripsOf
+    ok-tripOnce n =
+        cond-elim OkOf (tripCrashes g a) (λ _. ok-crashed g h)
+        (λ e. ok-alarm 8 _ a (AtTripped a) (ok-trip _ a (ok-leave (withTripsOf g a n) a (or-false {s = isLast (g .store) a} e .0) (with-trips g a n h))))
 
     pub ok-tripStep : OkOf (tripStep g a)
     unfolding tripStep

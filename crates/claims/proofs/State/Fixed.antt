@@ -1,10 +1,13 @@
--- No step changes how many cabinets a group has, nor its packet version.
-use Prim.Native.Nat.{ℕ, zero, suc, _+_, _-_}
+-- No step changes how many cabinets a group has, nor its packet version; and the store is changed by a piece, by a store that leaves and by one that
+-- comes back.
+use Prim.Native.Nat.{ℕ, zero, suc, _-_}
 use mathlib.Core.Path.{_≡_, refl, sym, ap, _∙_}
-use mathlib.Core.Bool.{Bool, true, false, not, _&&_, _||_}
+use mathlib.Core.Bool.{Bool, true, false, cond, not, _&&_, _||_}
 use mathlib.Core.List.{List}
 use lib.ListN.{getD}
 use lib.Dec.{eqb, ltb}
+use borrow.Author.Tests.{eqb-false}
+use native.Mathlib.Omega.{arith}
 use Rattle.marks.specs.Marks.{marked, covers}
 use Rattle.marks.specs.Reach.{struck, connected}
 use Rattle.packet.specs.declared.Place.{Place}
@@ -24,113 +27,119 @@ use Rattle.cabinet.specs.declared.Alarm.the-variants.{Quiet, Fault as At}
 use Rattle.cabinet.specs.Alarm.{isFor}
 use Rattle.state.specs.State.{isIn, inRecovery}
 use Rattle.cabinet.specs.Cabinet.{inUse}
+use Rattle.store.specs.declared.Store.{Store}
+use Rattle.store.specs.Store.{isAway, leaves, comesBack}
 use Rattle.group.specs.declared.Group.{Group}
 use Rattle.group.specs.declared.Outcome.{Outcome}
-use Rattle.group.specs.Group.{cabinet, withCabinet, stateOf, withOutgoing, line, withLine, withSlot, withSlots, rowsOf, withSound, working, some, recoveringOnes, tripsOf, withTripsOf, forgetTrips, settle, settleOver, crashAll}
+use Rattle.group.specs.Group.{cabinet, withCabinet, stateOf, withOutgoing, line, withLine, home, rowsOf, withSound, working, some, recoveringOnes, tripsOf, withTripsOf, forgetTrips, settle, settleOver, taken, crashAll, crashed}
 use Rattle.protocol.specs.declared.Step.{Step}
 use Rattle.protocol.specs.declared.Step.the-variants.{Send, Note, Begin, Deliver, Write, Saved, Fetch, Restored, Fail, Damage, Lose, Trip, Unsure}
 use Rattle.protocol.specs.declared.Decoded.{Decoded}
 use Rattle.protocol.specs.declared.Decoded.the-variants.{Malformed, Unused, Taken}
-use Rattle.protocol.specs.Moves.{broadcast, join, cutIfAll, takeCheckp, resumeWith, commit, adopt, recoverWith, recoverIfKnown, raise, reasonFor, enterError, hear, findLinkFault, emptiedTo, markFailed, trip, neighbours, enterErrorIf, alarmTo, endRecovery, noteAt, noteFor, noteLost}
+use Rattle.protocol.specs.Moves.{broadcast, join, cutIfAll, takeCheckp, resumeWith, commit, adopt, recoverWith, recoverIfKnown, raise, reasonFor, enterError, hear, findLinkFault, emptiedTo, passReports, leave, dropReports, comeBack, markFailed, trip, neighbours, enterErrorIf, alarmTo, endRecovery, noteAt, noteFor, noteLost}
 use Rattle.protocol.specs.Receive.{serving, takes, joinIf, resumesFrom, receiveNormal, receiveCheckp, receiveResume, receiveRecover, receiveFault, receiveInvalid, receive}
-use Rattle.protocol.specs.Kinds.{orRefuse, sendStep, sendRefusal, sent, noteStep, noteRefusal, beginStep, beginRefusal, deliverStep, deliverRefusal, delivered, writeStep, writeRefusal, writePiece, oweIf, savedStep, savedRefusal, reportSaved, commitIfAll, fetchStep, fetchRefusal, fetchPiece, restoredStep, restoredRefusal, reportRestored, endIfAll, failStep, failCrashes, hurtIf, hurt, damageStep, damageRefusal, lost, loseStep, loseRefusal, tripStep, tripOnce, tripCrashes, unsureStep, unsureRefusal, reportUnsure, decideIfAll}
+use Rattle.protocol.specs.Kinds.{orRefuse, sendStep, sendRefusal, sent, noteStep, noteRefusal, beginStep, beginRefusal, deliverStep, deliverRefusal, delivered, writeStep, writeRefusal, pieceSaved, writePiece, oweIf, savedStep, savedRefusal, reportSaved, commitIfAll, fetchStep, fetchRefusal, fetchPiece, restoredStep, restoredRefusal, reportRestored, comeBackIfAway, endIfAll, failStep, failCrashes, hurtIf, hurt, damageStep, damageRefusal, lost, loseStep, loseRefusal, tripStep, tripOnce, tripCrashes, unsureStep, unsureRefusal, reportUnsure, decideIfAll}
 use Rattle.protocol.specs.Entry.{step, stepDecoded, perform, entryRefusal, decode}
 use Rattle.claims.proofs.State.Fun.{cond-elim}
 
 abbrev pub fixed : Group → ℕ × PacketVersion
 fixed g = (g .n, g .packets)
 
+-- .. and most moves leave the store as it was
+abbrev shell : Group → (ℕ × PacketVersion) × Store
+shell g = (fixed g, g .store)
+
 -- ---- the moves
 
-pub join-fixed : (g : Group) (i : ℕ) → fixed (join g i) ≡ fixed g
+pub join-fixed : (g : Group) (i : ℕ) → shell (join g i) ≡ shell g
 unfolding join withCabinet withOutgoing
 join-fixed g i = refl
 
-resume-fixed : (g : Group) (i : ℕ) (v : Version) → fixed (resumeWith g i v) ≡ fixed g
+resume-fixed : (g : Group) (i : ℕ) (v : Version) → shell (resumeWith g i v) ≡ shell g
 unfolding resumeWith broadcast withOutgoing withCabinet
 resume-fixed g i v = refl
 
-note-at-fixed : (p : Place) (g : Group) (v : Version) → fixed (noteAt p g v) ≡ fixed g
+note-at-fixed : (p : Place) (g : Group) (v : Version) → shell (noteAt p g v) ≡ shell g
 unfolding withCabinet
 note-at-fixed (AtFailed x) g v = refl
 note-at-fixed (AtTripped x) g v = refl
 note-at-fixed (AtLink x y) g v = refl
 
-note-for-fixed : (a : Alarm) (g : Group) (v : Version) → fixed (noteFor a g v) ≡ fixed g
+note-for-fixed : (a : Alarm) (g : Group) (v : Version) → shell (noteFor a g v) ≡ shell g
 note-for-fixed Quiet g v = refl
 note-for-fixed (At p) g v = note-at-fixed p g v
 
-note-fixed : (g : Group) (k : ℕ) → fixed (noteLost g k) ≡ fixed g
+note-fixed : (g : Group) (k : ℕ) → shell (noteLost g k) ≡ shell g
 unfolding noteLost
 note-fixed g k = note-for-fixed (cabinet g k .phase .alarm) g (cabinet g k .phase .version)
 
-recover-fixed : (g : Group) (i : ℕ) (v : Bool) → fixed (recoverWith g i v) ≡ fixed g
+recover-fixed : (g : Group) (i : ℕ) (v : Bool) → shell (recoverWith g i v) ≡ shell g
 unfolding recoverWith broadcast withOutgoing withCabinet
 recover-fixed g i v = refl
 
 pub recover-n : (g : Group) (i : ℕ) (v : Bool) → recoverWith g i v .n ≡ g .n
-recover-n g i v = ap (λ (x : ℕ × PacketVersion). x .0) (recover-fixed g i v)
+recover-n g i v = ap (λ (x : (ℕ × PacketVersion) × Store). x .0 .0) (recover-fixed g i v)
 
-settle-fixed : (g : Group) (i : ℕ) (r : Reason) → fixed (settle g i r) ≡ fixed g
+settle-fixed : (g : Group) (i : ℕ) (r : Reason) → shell (settle g i r) ≡ shell g
 unfolding settle
 settle-fixed g i r = refl
 
-over-fixed : (g : Group) → fixed (settleOver g) ≡ fixed g
+over-fixed : (g : Group) → shell (settleOver g) ≡ shell g
 unfolding settleOver
 over-fixed g = refl
 
-raise-fixed : (g : Group) (i : ℕ) (p : Place) → fixed (raise g i p) ≡ fixed g
+raise-fixed : (g : Group) (i : ℕ) (p : Place) → shell (raise g i p) ≡ shell g
 unfolding raise broadcast withOutgoing withCabinet
 raise-fixed g i p = refl
 
-error-fixed : (g : Group) (i : ℕ) (p : Place) → fixed (enterError g i p) ≡ fixed g
+error-fixed : (g : Group) (i : ℕ) (p : Place) → shell (enterError g i p) ≡ shell g
 unfolding enterError
 error-fixed g i p = go (cabinet g i .phase .version)
   where
-    go : (v : Version) → fixed (recoverIfKnown (raise g i p) i v (reasonFor (cabinet g i) i)) ≡ fixed g
+    go : (v : Version) → shell (recoverIfKnown (raise g i p) i v (reasonFor (cabinet g i) i)) ≡ shell g
     go (Known v) = settle-fixed _ i _ ∙ recover-fixed (raise g i p) i v ∙ raise-fixed g i p
     go (Unknown v) = raise-fixed g i p
     go Lost = raise-fixed g i p
 
-emptied-fixed : (n : ℕ) (g : Group) (a : ℕ) → fixed (emptiedTo n g a) ≡ fixed g
+emptied-fixed : (n : ℕ) (g : Group) (a : ℕ) → shell (emptiedTo n g a) ≡ shell g
 unfolding withLine withOutgoing
 emptied-fixed zero g a = refl
 emptied-fixed (suc n) g a = emptied-fixed n g a
 
-failed-fixed : (g : Group) (a : ℕ) → fixed (markFailed g a) ≡ fixed g
+failed-fixed : (g : Group) (a : ℕ) → shell (markFailed g a) ≡ shell g
 unfolding markFailed withOutgoing withCabinet
 failed-fixed g a = emptied-fixed 8 _ a
 
-trip-fixed : (g : Group) (a k : ℕ) → fixed (trip (withTripsOf g a k) a) ≡ fixed g
-unfolding trip withTripsOf withCabinet
-trip-fixed g a k = emptied-fixed 8 _ a ∙ error-fixed _ a (AtTripped a)
+trip-fixed : (g : Group) (a : ℕ) → shell (trip g a) ≡ shell g
+unfolding trip withCabinet
+trip-fixed g a = emptied-fixed 8 _ a ∙ error-fixed _ a (AtTripped a)
 
-alarm-fixed : (n : ℕ) (g : Group) (a : ℕ) (p : Place) → fixed (alarmTo n g a p) ≡ fixed g
+alarm-fixed : (n : ℕ) (g : Group) (a : ℕ) (p : Place) → shell (alarmTo n g a p) ≡ shell g
 unfolding alarmTo
 alarm-fixed zero g a p = refl
 alarm-fixed (suc n) g a p = go (neighbours g n a) (alarm-fixed n g a p)
   where
-    go : (t : Bool) → fixed (alarmTo n g a p) ≡ fixed g → fixed (enterErrorIf t (alarmTo n g a p) n p) ≡ fixed g
+    go : (t : Bool) → shell (alarmTo n g a p) ≡ shell g → shell (enterErrorIf t (alarmTo n g a p) n p) ≡ shell g
     go true e = error-fixed (alarmTo n g a p) n p ∙ e
     go false e = e
 
-crash-fixed : (g : Group) → fixed (crashAll g) ≡ fixed g
+crash-fixed : (g : Group) → shell (crashAll g) ≡ shell g
 unfolding crashAll
 crash-fixed g = refl
 
-off-fixed : (g : Group) (a b : ℕ) → fixed (withLine g a b (rest (line g a b))) ≡ fixed g
+off-fixed : (g : Group) (a b : ℕ) → shell (withLine g a b (rest (line g a b))) ≡ shell g
 unfolding withLine withOutgoing
 off-fixed g a b = refl
 
-cut-fixed : (g : Group) (i : ℕ) → fixed (cutIfAll g i) ≡ fixed g
+cut-fixed : (g : Group) (i : ℕ) → shell (cutIfAll g i) ≡ shell g
 unfolding cutIfAll withCabinet
 cut-fixed g i = refl
 
 -- ---- a packet received
 
-module _ (before g : Group) (a b : ℕ) (same : fixed before ≡ fixed g) where
+module _ (before g : Group) (a b : ℕ) (same : shell before ≡ shell g) where
   abbrev Same : Outcome → Type 0
-  Same o = fixed (o .group) ≡ fixed g
+  Same o = shell (o .group) ≡ shell g
 
   link-fixed : Same (findLinkFault before g a b)
   unfolding findLinkFault withSound
@@ -147,7 +156,7 @@ module _ (before g : Group) (a b : ℕ) (same : fixed before ≡ fixed g) where
       (λ _. cond-elim Same (sameCheck v (getD (cabinet g b .registers .taken) a startCheck)) (λ _. cut-fixed _ b ∙ joined (isIn (stateOf g b) Normal)) (λ _. link-fixed))
       (λ _. refl)
     where
-      joined : (t : Bool) → fixed (joinIf t g b) ≡ fixed g
+      joined : (t : Bool) → shell (joinIf t g b) ≡ shell g
       joined true = join-fixed g b
       joined false = refl
   receive-fixed Resume =
@@ -160,79 +169,132 @@ module _ (before g : Group) (a b : ℕ) (same : fixed before ≡ fixed g) where
       (λ _. cond-elim Same (inRecovery (stateOf g b)) (λ _. cond-elim Same (isFor (cabinet g b .phase .alarm) p) (λ _. refl) (λ _. crash-fixed before ∙ same)) (λ _. refl))
   receive-fixed Invalid = cond-elim Same (serving (stateOf g b)) (λ _. link-fixed) (λ _. refl)
 
+-- ---- a store leaves and comes back
+
+leave-fixed : (g : Group) (a : ℕ) → shell (leave g a) ≡ (fixed g, leaves (g .store) a)
+unfolding leave passReports withCabinet
+leave-fixed g a = refl
+
+-- the store once a has reported restored
+abbrev backIn : Store → ℕ → Store
+backIn s a = cond (isAway s a) (comesBack s a) s
+
+back-fixed : (g : Group) (a : ℕ) → shell (comeBackIfAway g a) ≡ (fixed g, backIn (g .store) a)
+unfolding comeBackIfAway comeBack dropReports withCabinet
+back-fixed g a = go (isAway (g .store) a)
+  where
+    go : (t : Bool) → shell (cond t (comeBack g a) g) ≡ (fixed g, cond t (comesBack (g .store) a) (g .store))
+    go true = refl
+    go false = refl
+
 -- ---- the kinds
 
+-- what a step that is taken makes of the store
+abbrev pub storeBy : Group → Step → Store
+storeBy g (Send a b p q) = g .store
+storeBy g (Note a p q) = g .store
+storeBy g (Begin a) = g .store
+storeBy g (Deliver a b) = g .store
+storeBy g (Write a) = pieceSaved g (a - 1)
+storeBy g (Saved a) = g .store
+storeBy g (Fetch a) = g .store
+storeBy g (Restored a) = backIn (g .store) (a - 1)
+storeBy g (Fail a) = leaves (g .store) (a - 1)
+storeBy g (Damage a b p w) = g .store
+storeBy g (Lose a b p) = g .store
+storeBy g (Trip a) = leaves (g .store) (a - 1)
+storeBy g (Unsure a) = g .store
+
 module _ (g : Group) where
-  abbrev Kept : Outcome → Type 0
-  Kept o = fixed (o .group) ≡ fixed g
+  -- a step leaves n and the packet version, and, taken, makes s of the store
+  record Makes (s : Store) (o : Outcome) : Type 0 where
+    stays : fixed (o .group) ≡ fixed g
+    stored : o .answer ≡ 0 → o .group .store ≡ s
 
-  refused : (k : ℕ) (o : Outcome) → Kept o → Kept (orRefuse k g o)
-  refused k o e = cond-elim Kept (eqb k 0) (λ _. e) (λ _. refl)
+  makes : {s : Store} {x : Group} → shell x ≡ (fixed g, s) → Makes s (taken x)
+  makes e = record { stays = ap (λ (y : (ℕ × PacketVersion) × Store). y .0) e; stored = λ _. ap (λ (y : (ℕ × PacketVersion) × Store). y .1) e }
 
-  deliver-fixed : (a b : ℕ) → Kept (deliverStep g a b)
+  refused : (s : Store) (k : ℕ) (o : Outcome) → Makes s o → Makes s (orRefuse k g o)
+  refused s k o e = cond-elim (Makes s) (eqb k 0) (λ _. e) (λ f. record { stays = refl; stored = λ a. absurd (eqb-false k 0 f a) })
+
+  crash-makes : (s : Store) → Makes s (crashed g)
+  crash-makes s = record { stays = ap (λ (y : (ℕ × PacketVersion) × Store). y .0) (crash-fixed g); stored = λ a. absurd (omega arith) }
+
+  -- what a packet does, taken or not
+  keeps : {o : Outcome} → shell (o .group) ≡ shell g → Makes (g .store) o
+  keeps e = record { stays = ap (λ (y : (ℕ × PacketVersion) × Store). y .0) e; stored = λ _. ap (λ (y : (ℕ × PacketVersion) × Store). y .1) e }
+
+  deliver-fixed : (a b : ℕ) → Makes (g .store) (deliverStep g a b)
   unfolding deliverStep delivered
   deliver-fixed a b =
-      refused (deliverRefusal g a b) _
-      (cond-elim Kept (marked (inUse (cabinet g b)) a) (λ _. receive-fixed g _ a b (sym (off-fixed g a b)) (oldest (line g a b)) ∙ off-fixed g a b) (λ _. off-fixed g a b))
+      refused (g .store) (deliverRefusal g a b) _
+      (cond-elim (Makes (g .store)) (marked (inUse (cabinet g b)) a)
+      (λ _. keeps (receive-fixed g _ a b (sym (off-fixed g a b)) (oldest (line g a b)) ∙ off-fixed g a b)) (λ _. keeps (off-fixed g a b)))
 
-  write-fixed : (a : ℕ) → Kept (writeStep g a)
-  unfolding writeStep writePiece withCabinet withSlot withSlots
-  write-fixed a = refused (writeRefusal g a) _ (owed (not (ltb (cabinet g a .noted .pieces) 3)))
+  write-fixed : (a : ℕ) → Makes (pieceSaved g a) (writeStep g a)
+  unfolding writeStep writePiece withCabinet
+  write-fixed a = refused (pieceSaved g a) (writeRefusal g a) _ (makes (owed (not (ltb (cabinet g a .noted .pieces) 3))))
     where
-      owed : (t : Bool) → fixed (oweIf t (writePiece g a) (cabinet g a .home) a) ≡ fixed g
+      owed : (t : Bool) → shell (oweIf t (writePiece g a) (home g a) a) ≡ (fixed g, pieceSaved g a)
       owed true = refl
       owed false = refl
 
-  saved-fixed : (a : ℕ) → Kept (savedStep g a)
+  saved-fixed : (a : ℕ) → Makes (g .store) (savedStep g a)
   unfolding savedStep reportSaved commitIfAll commit withCabinet forgetTrips
   saved-fixed a =
-      refused (savedRefusal g a) _
-      (cond-elim (λ (x : Group). fixed x ≡ fixed g) (covers (cabinet _ _ .noted .saved) (cabinet _ _ .table .cabinets)) (λ _. resume-fixed _ _ _) (λ _. refl))
+      refused (g .store) (savedRefusal g a) _
+      (makes (cond-elim (λ (x : Group). shell x ≡ shell g) (covers (cabinet _ _ .noted .saved) (cabinet _ _ .table .cabinets)) (λ _. resume-fixed _ _ _) (λ _. refl)))
 
-  restored-fixed : (a : ℕ) → Kept (restoredStep g a)
+  restored-fixed : (a : ℕ) → Makes (backIn (g .store) a) (restoredStep g a)
   unfolding restoredStep reportRestored endIfAll endRecovery withCabinet
   restored-fixed a =
-      refused (restoredRefusal g a) _
-      (cond-elim (λ (x : Group). fixed x ≡ fixed g) (isIn (stateOf _ _) Recovered && covers (cabinet _ _ .noted .restored) (cabinet _ _ .table .cabinets)) (λ _. over-fixed _ ∙ resume-fixed _ _ _ ∙ note-fixed _ _) (λ _. refl))
+      refused (backIn (g .store) a) (restoredRefusal g a) _
+      (makes (cond-elim (λ (x : Group). shell x ≡ (fixed g, backIn (g .store) a)) (isIn (stateOf _ _) Recovered && covers (cabinet _ _ .noted .restored) (cabinet _ _ .table .cabinets))
+      (λ _. over-fixed _ ∙ resume-fixed _ _ _ ∙ note-fixed _ _ ∙ back-fixed _ a) (λ _. back-fixed _ a)))
 
-  unsure-fixed : (a : ℕ) → Kept (unsureStep g a)
+  unsure-fixed : (a : ℕ) → Makes (g .store) (unsureStep g a)
   unfolding unsureStep reportUnsure decideIfAll withCabinet
   unsure-fixed a =
-      refused (unsureRefusal g a) _
-      (cond-elim (λ (x : Group). fixed x ≡ fixed g) (covers (cabinet _ _ .noted .unsure) (cabinet _ _ .table .cabinets)) (λ _. settle-fixed _ _ _ ∙ recover-fixed _ _ _) (λ _. refl))
+      refused (g .store) (unsureRefusal g a) _
+      (makes (cond-elim (λ (x : Group). shell x ≡ shell g) (covers (cabinet _ _ .noted .unsure) (cabinet _ _ .table .cabinets)) (λ _. settle-fixed _ _ _ ∙ recover-fixed _ _ _) (λ _. refl)))
 
-  damage-fixed : (a b p : ℕ) (w : Pattern) → Kept (damageStep g a b p w)
+  damage-fixed : (a b p : ℕ) (w : Pattern) → Makes (g .store) (damageStep g a b p w)
   unfolding damageStep hurt withLine withOutgoing withCabinet
   damage-fixed a b p w =
-      refused (damageRefusal g a b p w) _ (cond-elim Kept (some (recoveringOnes g)) (λ _. crash-fixed g) (λ _. marked-one (isNormal (packetAt (line g a b) p))))
+      refused (g .store) (damageRefusal g a b p w) _
+      (cond-elim (Makes (g .store)) (some (recoveringOnes g)) (λ _. crash-makes (g .store)) (λ _. makes (marked-one (isNormal (packetAt (line g a b) p)))))
     where
-      marked-one : (t : Bool) → fixed (hurtIf t (withLine g a b (replaced (line g a b) p (damaged (packetAt (line g a b) p) w))) a b) ≡ fixed g
+      marked-one : (t : Bool) → shell (hurtIf t (withLine g a b (replaced (line g a b) p (damaged (packetAt (line g a b) p) w))) a b) ≡ shell g
       marked-one true = refl
       marked-one false = refl
 
-  lose-fixed : (a b p : ℕ) → Kept (loseStep g a b p)
+  lose-fixed : (a b p : ℕ) → Makes (g .store) (loseStep g a b p)
   unfolding loseStep lost withLine withOutgoing withCabinet
-  lose-fixed a b p = refused (loseRefusal g a b p) _ (cond-elim Kept (some (recoveringOnes g)) (λ _. crash-fixed g) (λ _. refl))
+  lose-fixed a b p =
+      refused (g .store) (loseRefusal g a b p) _ (cond-elim (Makes (g .store)) (some (recoveringOnes g)) (λ _. crash-makes (g .store)) (λ _. makes refl))
 
-  fail-fixed : (a : ℕ) → Kept (failStep g a)
+  fail-fixed : (a : ℕ) → Makes (leaves (g .store) a) (failStep g a)
   unfolding failStep
-  fail-fixed a = cond-elim Kept (failCrashes g a) (λ _. crash-fixed g) (λ _. alarm-fixed 8 (markFailed g a) a (AtFailed a) ∙ failed-fixed g a)
+  fail-fixed a =
+      cond-elim (Makes (leaves (g .store) a)) (failCrashes g a) (λ _. crash-makes _)
+      (λ _. makes (alarm-fixed 8 _ a (AtFailed a) ∙ failed-fixed _ a ∙ leave-fixed g a))
 
-  trips-fixed : (a : ℕ) → Kept (tripStep g a)
-  unfolding tripStep tripOnce
+  trips-fixed : (a : ℕ) → Makes (leaves (g .store) a) (tripStep g a)
+  unfolding tripStep tripOnce withTripsOf
   trips-fixed a =
-      cond-elim Kept (ltb (tripsOf g a) 2)
-      (λ _. cond-elim Kept (tripCrashes g a) (λ _. crash-fixed g) (λ _. alarm-fixed 8 _ a (AtTripped a) ∙ trip-fixed g a (tripsOf g a + 1))) (λ _. fail-fixed a)
+      cond-elim (Makes (leaves (g .store) a)) (ltb (tripsOf g a) 2)
+      (λ _. cond-elim (Makes (leaves (g .store) a)) (tripCrashes g a) (λ _. crash-makes _)
+      (λ _. makes (alarm-fixed 8 _ a (AtTripped a) ∙ trip-fixed _ a ∙ leave-fixed _ a))) (λ _. fail-fixed a)
 
-  perform-fixed : (s : Step) → Kept (perform g s)
+  perform-fixed : (s : Step) → Makes (storeBy g s) (perform g s)
   unfolding sendStep sent noteStep beginStep fetchStep fetchPiece withCabinet withLine withOutgoing
-  perform-fixed (Send a b p q) = refused (sendRefusal g (a - 1) (b - 1) p q) _ refl
-  perform-fixed (Note a p q) = refused (noteRefusal g (a - 1) p q) _ refl
-  perform-fixed (Begin a) = refused (beginRefusal g (a - 1)) _ (cut-fixed (join g (a - 1)) (a - 1) ∙ join-fixed g (a - 1))
+  perform-fixed (Send a b p q) = refused (g .store) (sendRefusal g (a - 1) (b - 1) p q) _ (makes refl)
+  perform-fixed (Note a p q) = refused (g .store) (noteRefusal g (a - 1) p q) _ (makes refl)
+  perform-fixed (Begin a) = refused (g .store) (beginRefusal g (a - 1)) _ (makes (cut-fixed (join g (a - 1)) (a - 1) ∙ join-fixed g (a - 1)))
   perform-fixed (Deliver a b) = deliver-fixed (a - 1) (b - 1)
   perform-fixed (Write a) = write-fixed (a - 1)
   perform-fixed (Saved a) = saved-fixed (a - 1)
-  perform-fixed (Fetch a) = refused (fetchRefusal g (a - 1)) _ refl
+  perform-fixed (Fetch a) = refused (g .store) (fetchRefusal g (a - 1)) _ (makes refl)
   perform-fixed (Restored a) = restored-fixed (a - 1)
   perform-fixed (Fail a) = fail-fixed (a - 1)
   perform-fixed (Damage a b p w) = damage-fixed (a - 1) (b - 1) p w
@@ -240,10 +302,10 @@ module _ (g : Group) where
   perform-fixed (Trip a) = trips-fixed (a - 1)
   perform-fixed (Unsure a) = unsure-fixed (a - 1)
 
-  decoded-fixed : (d : Decoded) → Kept (stepDecoded g d)
+  decoded-fixed : (d : Decoded) → fixed (stepDecoded g d .group) ≡ fixed g
   decoded-fixed Malformed = refl
   decoded-fixed Unused = refl
-  decoded-fixed (Taken s) = refused (entryRefusal g s) _ (perform-fixed s)
+  decoded-fixed (Taken s) = refused (storeBy g s) (entryRefusal g s) _ (perform-fixed s) .stays
 
   pub step-fixed : (r : List ℕ) → fixed (step g r .group) ≡ fixed g
   unfolding step
@@ -251,3 +313,7 @@ module _ (g : Group) where
 
   pub step-n : (r : List ℕ) → step g r .group .n ≡ g .n
   step-n r = ap (λ (x : ℕ × PacketVersion). x .0) (step-fixed r)
+
+  pub step-store : (r : List ℕ) (s : Step) → decode r ≡ Taken s → step g r .answer ≡ 0 → step g r .group .store ≡ storeBy g s
+  unfolding step
+  step-store r s e = rw e (refused (storeBy g s) (entryRefusal g s) (perform g s) (perform-fixed s) .stored)

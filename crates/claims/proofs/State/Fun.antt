@@ -3,6 +3,8 @@ use Prim.Native.Nat.{ℕ, zero, suc, _+_, _<_, _≤_}
 use mathlib.Core.Path.{_≡_, refl, sym, _∙_, fun-ext, subst, ap}
 use mathlib.Core.Logic.{_≢_, _⊎_, inl, inr}
 use mathlib.Core.Bool.{Bool, true, false, cond, not, _&&_, false≢true, true≢false, _||_}
+use mathlib.Core.List.{List, [], _∷_}
+use lib.ListN.{getD, List·getD-eq-default}
 use lib.Dec.{eqb}
 use borrow.Author.Tests.{eqb-true, eqb-false, eq-eqb, ne-eqb}
 use native.Mathlib.Omega.{arith}
@@ -52,6 +54,10 @@ and-not s t e = rw e (and-false s)
 
 pub or-left : (s t : Bool) → s ≡ true → (s || t) ≡ true
 or-left s t e = rw e
+
+pub or-false : {s t : Bool} → (s || t) ≡ false → (s ≡ false) × (t ≡ false)
+or-false {s = true} {t} e = absurd (true≢false e)
+or-false {s = false} {t} e = (refl, e)
 
 pub or-right : (s t : Bool) → t ≡ true → (s || t) ≡ true
 or-right true t e = refl
@@ -200,3 +206,26 @@ sum-tail f n (suc k) l z = elim (decLt k n) [
   where
     same : (n k : ℕ) → n ≤ suc k → k < n → suc k ≡ n
     same n k l e = omega arith
+
+-- ---- eight in a row
+
+abbrev pub row : {A : Type 0} → (ℕ → A) → List A
+row f = f 0 ∷ f 1 ∷ f 2 ∷ f 3 ∷ f 4 ∷ f 5 ∷ f 6 ∷ f 7 ∷ []
+
+pub row-at : {A : Type 0} (f : ℕ → A) (d : A) (k : ℕ) → k < 8 → getD (row f) k d ≡ f k
+row-at f d zero l = refl
+row-at f d (suc zero) l = refl
+row-at f d (suc (suc zero)) l = refl
+row-at f d (suc (suc (suc zero))) l = refl
+row-at f d (suc (suc (suc (suc zero)))) l = refl
+row-at f d (suc (suc (suc (suc (suc zero))))) l = refl
+row-at f d (suc (suc (suc (suc (suc (suc zero)))))) l = refl
+row-at f d (suc (suc (suc (suc (suc (suc (suc zero))))))) l = refl
+row-at f d (suc (suc (suc (suc (suc (suc (suc (suc k)))))))) l = absurd (omega arith)
+
+-- also past the eighth, where the function gives what stands there
+pub row-all : {A : Type 0} (f : ℕ → A) (d : A) → ((k : ℕ) → 8 ≤ k → f k ≡ d) → (k : ℕ) → getD (row f) k d ≡ f k
+row-all f d past k = elim (decLt k 8) [
+  | yes l ↦ row-at f d k l
+  | no n ↦ List·getD-eq-default (row f) d {n = k} (omega arith) ∙ sym (past k (omega arith))
+]

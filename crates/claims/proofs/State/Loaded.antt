@@ -1,7 +1,7 @@
 -- The sizes of rows, lines and images in a group as a file is loaded to it.
 use Prim.Native.Nat.{ℕ, zero, suc, _-_, _<_}
-use mathlib.Core.Path.{_≡_, refl, ap, _∙_}
-use mathlib.Core.Bool.{Bool, true, cond}
+use mathlib.Core.Path.{_≡_, refl, sym, ap, _∙_, subst}
+use mathlib.Core.Bool.{Bool, true}
 use mathlib.Core.List.{List, []}
 use lib.ListN.{length, getD, set, replicate, length-set}
 use lib.Seq.{set-out}
@@ -14,13 +14,16 @@ use Rattle.line.specs.Line.{emptyLine}
 use Rattle.image.specs.Image.{blankImage}
 use Rattle.cabinet.specs.Cabinet.{absent}
 use Rattle.outgoing.specs.declared.Outgoing.{Outgoing}
-use Rattle.group.specs.declared.Slots.{Slots}
-use Rattle.group.specs.declared.Outcome.{Outcome}
+use Rattle.store.specs.declared.Slots.{Slots}
+use Rattle.store.specs.Store.{blankSlots, slotIn, fileHome, copyAt, slotAt, ofEach}
+use Rattle.store.specs.Served.{Served}
+use Rattle.store.proofs.Laws.{Held}
+use Rattle.group.specs.declared.Group.{Group}
 use Rattle.outgoing.specs.Lines.{emptyLines, lineTo}
-use Rattle.group.specs.Group.{cabinet, outgoing, line, slot, blankSlots}
+use Rattle.group.specs.Group.{cabinet, outgoing, line}
 use Rattle.marks.proofs.Lists.{getD-in}
-use Rattle.load.proofs.Loaded.{blank-octet, image-octet}
-use Rattle.load.specs.Load.{load, loadRefusal, groupOf, noGroup, cabinetCount, cabinetOf, cabinetsOf, imageOf, slotsOf, storeOf, linked, linkRows, linkCount, rowsIn, lowerOf, higherOf}
+use Rattle.load.proofs.Loaded.{the-group, blank-octet, image-octet, starts}
+use Rattle.load.specs.Load.{load, groupOf, cabinetCount, cabinetOf, cabinetsOf, imageOf, slotsOf, storeOf, linked, linkRows, linkCount, rowsIn, lowerOf, higherOf}
 use Rattle.claims.proofs.State.Fun.{cond-elim}
 use Rattle.claims.proofs.State.Every.{getD-set, getD-each, getD-repeated}
 use Rattle.claims.proofs.State.Shape.{Shaped, Lined, Pictured, shaped}
@@ -84,34 +87,31 @@ module _ (f : List ℕ) (o : (i : ℕ) → getD f i 0 < 256) where
   unfolding blankSlots
   slots-pictured i = cond-elim Both (ltb i (cabinetCount f)) (λ _. (pictured i, blank-pictured)) (λ _. (blank-pictured, blank-pictured))
 
-  pick : (s : Slots) (v : Bool) → Both s → Pictured (cond v (s .one) (s .zero))
+  pick : (s : Slots) (v : Bool) → Both s → Pictured (slotIn s v)
   pick s v h = cond-elim Pictured v (λ _. h .1) (λ _. h .0)
 
-  fit-group : Fit (groupOf f (rowsIn f))
-  unfolding cabinet outgoing line slot blankSlots
-  fit-group = record {
-    frame = record { cabinets = refl; outs = refl; lines = lines-eight; store = refl };
+  all-pictured : (i : ℕ) → Both (getD (ofEach (slotsOf f)) i blankSlots)
+  unfolding blankSlots
+  all-pictured i =
+      let s = slots-pictured in
+      getD-each Both (ofEach (slotsOf f)) i blankSlots (s 0, (s 1, (s 2, (s 3, (s 4, (s 5, (s 6, (s 7, tt)))))))) (blank-pictured, blank-pictured)
+
+  store-pictured : Held Pictured (storeOf f)
+  unfolding slotAt copyAt
+  store-pictured h i v = pick _ v (cond-elim Both (eqb h (fileHome (storeOf f) i)) (λ _. all-pictured i) (λ _. all-pictured i))
+
+  fit-group : Served (storeOf f) → Fit (groupOf f (rowsIn f))
+  unfolding cabinet outgoing line
+  fit-group served = record {
+    frame = record { cabinets = refl; outs = refl; lines = lines-eight; store = served };
     cabs = λ i.
         let s = starts-shaped (rowsIn f) (rows-eight (linkCount f) f) in
         getD-each Shaped (cabinetsOf f (rowsIn f)) i absent (s 0, (s 1, (s 2, (s 3, (s 4, (s 5, (s 6, (s 7, tt)))))))) (shaped .gone);
     lines = all-empty;
-    slots = λ i v.
-        let s = slots-pictured in
-        pick (getD (storeOf f) i blankSlots) v
-        (getD-each Both (storeOf f) i blankSlots (s 0, (s 1, (s 2, (s 3, (s 4, (s 5, (s 6, (s 7, tt)))))))) (blank-pictured, blank-pictured));
+    slots = store-pictured;
   }
 
-  fit-none : Fit noGroup
-  unfolding cabinet outgoing line slot blankSlots
-  fit-none = record {
-    frame = record { cabinets = refl; outs = refl; lines = lines-eight; store = refl };
-    cabs = λ i. getD-repeated Shaped 8 i absent absent (shaped .gone) (shaped .gone);
-    lines = all-empty;
-    slots = λ i v.
-        pick (getD (replicate 8 blankSlots) i blankSlots) v
-        (getD-repeated Both 8 i blankSlots blankSlots (blank-pictured, blank-pictured) (blank-pictured, blank-pictured));
-  }
-
-  pub loaded-fit : Fit (load f .group)
-  unfolding load
-  loaded-fit = cond-elim (λ (x : Outcome). Fit (x .group)) (eqb (loadRefusal f) 0) (λ _. fit-group) (λ _. fit-none)
+  pub loaded-fit : load f .answer ≡ 0 → Fit (load f .group)
+  loaded-fit e =
+      let made = the-group f e in
+      subst Fit (sym made) (fit-group (subst (λ (g : Group). Served (g .store)) made (starts f o e .stored)))

@@ -7,7 +7,7 @@ use mathlib.Core.List.{List, [], _∷_, _++_}
 use lib.ListN.{length, getD, set, length-set}
 use lib.Dec.{eqb, ltb}
 use native.Mathlib.Omega.{arith}
-use Rattle.marks.specs.Marks.{Marks, marked}
+use Rattle.marks.specs.Marks.{Marks, marked, either, without as withoutMarks}
 use Rattle.outlet.specs.declared.Outlet.{Outlet}
 use Rattle.outlet.specs.declared.Party.{Party}
 use Rattle.outlet.specs.declared.Party.the-variants.{Buses, Workshop}
@@ -31,7 +31,7 @@ use Rattle.image.proofs.Laws.{octet-small, charged-small, credited-small, lengt
 use Rattle.registers.specs.Registers.{restartIf, restartTo}
 use Rattle.table.specs.declared.Table.{Table}
 use Rattle.table.specs.Table.{isAt, coordinator, struckAt, ledOnIf}
-use Rattle.cabinet.specs.Cabinet.{inUse, wrote, fetched, alarmed}
+use Rattle.cabinet.specs.Cabinet.{inUse, wrote, owingAlso, owingBut, fetched, alarmed}
 use Rattle.claims.proofs.State.Fun.{cond-elim}
 use Rattle.claims.proofs.State.Every.{Closed, getD-set, getD-repeated}
 use Rattle.claims.proofs.State.View.{content, packetOf}
@@ -313,6 +313,14 @@ nothing-lined = record {
   fits = λ k. getD-repeated FitsCell 12 k emptyCell emptyCell tt tt;
 }
 
+shaped-also : (c : Cabinet) (m : Marks) → Shaped c → Shaped (owingAlso c m)
+unfolding either
+shaped-also c m h = search
+
+shaped-but : (c : Cabinet) (m : Marks) → Shaped c → Shaped (owingBut c m)
+unfolding withoutMarks
+shaped-but c m h = search
+
 pub shaped : Closed Shaped Lined Pictured
 shaped = record {
   gone = record {
@@ -339,6 +347,9 @@ shaped = record {
   versioned = λ c v h. search;
   wrote = shaped-wrote;
   owing = λ c j o h. search length-set;
+  owingAlso = shaped-also;
+  owingBut = shaped-but;
+  owingNone = λ c h. search;
   savedFor = λ c j h. search length-set;
   resuming = λ c v h. search;
   alarmed = shaped-alarmed;

@@ -16,17 +16,21 @@ use Rattle.line.specs.declared.Line.{Line}
 use Rattle.packet.specs.Packet.{isEmpty}
 use Rattle.line.specs.Line.{emptyCell, emptyLine, put}
 use Rattle.image.specs.declared.Image.{Image}
+use Rattle.image.specs.Image.{withPiece}
 use Rattle.cabinet.specs.declared.Cabinet.{Cabinet}
 use Rattle.cabinet.specs.Cabinet.{absent, inUse}
 use Rattle.outgoing.specs.declared.Outgoing.{Outgoing}
-use Rattle.group.specs.declared.Slots.{Slots}
+use Rattle.store.specs.declared.Store.{Store}
+use Rattle.store.specs.Store.{isPresent, homeIn, slotAt, putPiece}
+use Rattle.store.specs.Served.{Served}
+use Rattle.store.proofs.Laws.{piece-home, piece-present, piece-here, piece-other}
 use Rattle.group.specs.declared.Group.{Group}
 use Rattle.outgoing.specs.Lines.{emptyLines, lineTo, withLineTo, putIf, putRowTo}
-use Rattle.group.specs.Group.{cabinet, withCabinet, outgoing, withOutgoing, line, withLine, blankSlots, slot, withSlot, withSlots}
+use Rattle.group.specs.Group.{cabinet, withCabinet, outgoing, withOutgoing, line, withLine, withStore, home, slot}
 use Rattle.protocol.specs.History.{upd}
 use Rattle.claims.proofs.State.Fun.{upd-elim}
 use Rattle.claims.proofs.State.Every.{Framed, All}
-use Rattle.claims.proofs.State.View.{ownOf, sideOf, used, content, view, setCabinet, setLines, setLine, setSlot, same}
+use Rattle.claims.proofs.State.View.{ownOf, ownIn, sideOf, used, content, view, setCabinet, setLines, setLine, setSlot, same}
 use Rattle.claims.proofs.State.Cells.{content-put}
 use Rattle.claims.proofs.State.Shape.{Shaped, Lined, Pictured}
 
@@ -43,18 +47,26 @@ getD-upd {A} {B} f l i v d h =
     upd-elim (λ (x : B). f (getD (set l i v) j d) ≡ x) (λ j. f (getD l j d)) i (f v) j
     (λ e. rw e (ap f (getD-set-same l i v d h))) (λ n. ap f (getD-set-other l i j v d n)))
 
+-- .. where what is made of an element depends on its place
+getD-upd-at : {A B : Type 0} (f : ℕ → A → B) (l : List A) (i : ℕ) (v d : A) → i < length l
+    → _≡_ {A = ℕ → B} (λ j. f j (getD (set l i v) j d)) (upd (λ j. f j (getD l j d)) i (f i v))
+getD-upd-at {A} {B} f l i v d h =
+    fun-ext (λ j.
+    upd-elim (λ (x : B). f j (getD (set l i v) j d) ≡ x) (λ j. f j (getD l j d)) i (f i v) j
+    (λ e. rw e (ap (f i) (getD-set-same l i v d h))) (λ n. ap (f j) (getD-set-other l i j v d n)))
+
 -- ---- the stores
 
 pub cabinet-same : (g : Group) → Framed g → (i : ℕ) (c : Cabinet) → i < 8 → cabinet (withCabinet g i c) i ≡ c
 unfolding cabinet withCabinet
 cabinet-same g w i c l = getD-set-same (g .cabinets) i c absent (omega (arith, w .cabinets))
 
-pub view-cabinet : (g : Group) → Framed g → (i : ℕ) (c : Cabinet) → i < 8 → view (withCabinet g i c) ≡ setCabinet (view g) i (ownOf c) (sideOf c)
-unfolding cabinet withCabinet outgoing line slot
+pub view-cabinet : (g : Group) → Framed g → (i : ℕ) (c : Cabinet) → i < 8 → view (withCabinet g i c) ≡ setCabinet (view g) i (ownIn g i c) (sideOf c)
+unfolding cabinet withCabinet outgoing line
 view-cabinet g w i c l =
     let h : i < length (g .cabinets) = omega (arith, w .cabinets) in
     λ t. record {
-      own = getD-upd ownOf (g .cabinets) i c absent h t;
+      own = getD-upd-at (ownIn g) (g .cabinets) i c absent h t;
       side = getD-upd sideOf (g .cabinets) i c absent h t;
       lines = view g .lines;
       slots = view g .slots;
@@ -65,7 +77,7 @@ abbrev pub contents : Outgoing → ℕ → List Packet
 contents o b = content (lineTo o b .cells)
 
 pub view-outgoing : (g : Group) → Framed g → (i : ℕ) (o : Outgoing) → i < 8 → view (withOutgoing g i o) ≡ setLines (view g) i (contents o)
-unfolding cabinet outgoing withOutgoing line slot
+unfolding cabinet outgoing withOutgoing line
 view-outgoing g w i o l =
     let h : i < length (g .outgoing) = omega (arith, w .outs) in
     λ t. record {
@@ -83,30 +95,29 @@ view-line g w a b l ha hb =
     ∙ ap (setLines (view g) a)
     (getD-upd (λ x. content (x .cells)) (outgoing g a .lines) b l emptyLine (omega (arith, w .lines a)))
 
-abbrev slotsWith : Slots → Bool → Image → Slots
-slotsWith s v m = cond v (record { zero = s .zero; one = m }) (record { zero = m; one = s .one })
+-- a piece goes to each store of the pair that is present: it is seen in the slot as the home has it
+module _ (g : Group) (served : Served (g .store)) (a : ℕ) (la : a < 8) (here : isPresent (g .store) (home g a) ≡ true) (x : Bool) (k : ℕ) (m : Image) where
+  abbrev put-in : Store
+  put-in = putPiece (g .store) a x k m
 
-abbrev slotOf : Slots → Bool → Image
-slotOf s v = cond v (s .one) (s .zero)
+  abbrev piece : Image
+  piece = withPiece k m (slot g (home g a) a x)
 
-pick-same : (s : Slots) (v : Bool) (m : Image) (y : Bool) → slotOf (slotsWith s v m) y ≡ cond (same v y) m (slotOf s y)
-pick-same s true m true = refl
-pick-same s true m false = refl
-pick-same s false m true = refl
-pick-same s false m false = refl
+  slots-put : (c : ℕ) → _≡_ {A = Bool → Image} (slotAt put-in (homeIn put-in c) c) (upd (view g .slots) a (λ y. cond (same x y) piece (view g .slots a y)) c)
+  slots-put c =
+      rw (piece-home (g .store) a x k m c)
+      (upd-elim (λ (z : Bool → Image). slotAt put-in (home g c) c ≡ z) (view g .slots) a (λ y. cond (same x y) piece (view g .slots a y)) c
+      (λ e. rw e (fun-ext (λ y. piece-here (g .store) served a la here x k m y))) (λ n. fun-ext (λ y. piece-other (g .store) a x k m (home g c) c y n)))
 
-pub view-slot : (g : Group) → Framed g → (i : ℕ) (v : Bool) (m : Image) → i < 8 → view (withSlot g i v m) ≡ setSlot (view g) i v m
-unfolding cabinet outgoing line slot withSlot withSlots blankSlots
-view-slot g w i v m l =
-    let h : i < length (g .store) = omega (arith, w .store) in
-    let new : Slots = slotsWith (getD (g .store) i blankSlots) v m in
-    λ t. record {
-      own = view g .own;
-      side = view g .side;
-      lines = view g .lines;
-      slots = (getD-upd slotOf (g .store) i new blankSlots h ∙ ap (upd (view g .slots) i) (fun-ext (λ y. pick-same (getD (g .store) i blankSlots) v m y))) t;
-      sound = view g .sound;
-    }
+  pub view-piece : view (withStore g put-in) ≡ setSlot (view g) a x piece
+  unfolding cabinet outgoing line
+  view-piece = λ t. record {
+    own = λ c. ownOf (piece-home (g .store) a x k m c t) (piece-present (g .store) a x k m c t) (cabinet g c);
+    side = view g .side;
+    lines = view g .lines;
+    slots = fun-ext slots-put t;
+    sound = view g .sound;
+  }
 
 -- ---- packets put on several lines at once
 

@@ -15,7 +15,8 @@ use Rattle.cabinet.specs.declared.Alarm.{Alarm}
 use Rattle.image.specs.declared.Image.{Image}
 use Rattle.cabinet.specs.declared.Cabinet.{Cabinet}
 use Rattle.group.specs.declared.Group.{Group}
-use Rattle.group.specs.Group.{cabinet, line, slot, rowsOf}
+use Rattle.store.specs.Store.{isPresent}
+use Rattle.group.specs.Group.{cabinet, line, home, slot, rowsOf}
 use Rattle.protocol.specs.History.{upd}
 pub use Rattle.claims.specs.Bounds.{packetOf}
 unfoldable pub use Rattle.claims.specs.Bounds.{content}
@@ -27,7 +28,7 @@ pub record Own : Type 0 where
   pub pieces : ℕ
   pub image : Image
   pub home : ℕ
-  pub store : Bool
+  pub present : Bool
   pub lead : ℕ
   pub former : Bool
 
@@ -44,15 +45,16 @@ pub record Side : Type 0 where
   pub put : Check
   pub took : Check
 
-abbrev pub ownOf : Cabinet → Own
-ownOf c = record {
+-- the home that serves a cabinet and whether it is itself a store that is present are told by the store
+abbrev pub ownOf : ℕ → Bool → Cabinet → Own
+ownOf h p c = record {
   state = c .phase .state;
   version = c .phase .version;
   alarm = c .phase .alarm;
   pieces = c .noted .pieces;
   image = c .image;
-  home = c .home;
-  store = c .store;
+  home = h;
+  present = p;
   lead = c .table .lead;
   former = c .noted .former;
 }
@@ -83,12 +85,16 @@ pub record View : Type 0 where
   pub slots : ℕ → Bool → Image
   pub sound : ℕ → ℕ → Bool
 
+abbrev pub ownIn : Group → ℕ → Cabinet → Own
+ownIn g i c = ownOf (home g i) (isPresent (g .store) i) c
+
+-- of a cabinet's slots the copy is seen that its home has
 abbrev pub view : Group → View
 view g = record {
-  own = λ i. ownOf (cabinet g i);
+  own = λ i. ownIn g i (cabinet g i);
   side = λ i. sideOf (cabinet g i);
   lines = λ a b. content (line g a b .cells);
-  slots = slot g;
+  slots = λ c. slot g (home g c) c;
   sound = mark (rowsOf (g .sound));
 }
 

@@ -37,13 +37,13 @@ use Rattle.table.specs.Table.{isAt}
 use Rattle.cabinet.specs.Cabinet.{inUse, sending, taking, hurtFrom, beginning, comparing, owing, savedFor, resuming, alarmed, blanked, recovering, restoredFor, unsureFor, withState, withVersion}
 use Rattle.group.specs.declared.Group.{Group}
 use Rattle.outgoing.specs.Lines.{putAll, putCheckps, checkps, emptyLines, lineTo}
-use Rattle.group.specs.Group.{cabinet, withCabinets, withCabinet, outgoing, withOutgoing, line, withLine, slot, rowsOf, withTripsOf, forgetTrips, settle, settleOver}
+use Rattle.group.specs.Group.{cabinet, withCabinets, withCabinet, outgoing, withOutgoing, line, withLine, rowsOf, withTripsOf, forgetTrips, settle, settleOver}
 use Rattle.protocol.specs.History.{upd}
 use Rattle.protocol.specs.Moves.{broadcast, join, resumeWith, recoverWith, recoverIfKnown, raise, reasonFor, enterError, hear, emptiedTo, markFailed, trip, noteAt, noteFor, noteLost}
 use Rattle.protocol.specs.Kinds.{carried, sent}
 use Rattle.claims.proofs.State.Fun.{upd-elim, upd-same, and-false}
 use Rattle.claims.proofs.State.Every.{getD-repeated, with-cabinet, with-outgoing, put-checkps, with-trips, out-of, no-packets, ok-emptied, ok-raise}
-use Rattle.claims.proofs.State.View.{View, Own, Side, ownOf, used, content, view, setCabinet, setLines, setLine}
+use Rattle.claims.proofs.State.View.{View, Own, Side, ownIn, used, content, view, setCabinet, setLines, setLine}
 use Rattle.claims.proofs.State.Cells.{content-oldest}
 use Rattle.claims.proofs.State.Shape.{Shaped, Lined, Pictured, shaped}
 use Rattle.claims.proofs.State.Sim.{Fit, cabinet-same, contents, put-content, view-line, view-cabinet, view-outgoing, in-use, past-use, row-content}
@@ -53,11 +53,11 @@ use Rattle.claims.proofs.State.Methods.{sMarks, sOwed, sRegisters, sCle
 -- ---- the counts of trips are no part of the view
 
 pub view-forget : (g : Group) → view (forgetTrips g) ≡ view g
-unfolding cabinet outgoing line slot rowsOf forgetTrips
+unfolding cabinet outgoing line rowsOf forgetTrips
 view-forget g = refl
 
 pub view-counted : (g : Group) (a k : ℕ) → view (withTripsOf g a k) ≡ view g
-unfolding cabinet outgoing line slot rowsOf withTripsOf
+unfolding cabinet outgoing line rowsOf withTripsOf
 view-counted g a k = refl
 
 pub fit-counted : (g : Group) (a k : ℕ) → Fit g → Fit (withTripsOf g a k)
@@ -66,11 +66,11 @@ fit-counted g a k w = with-trips Shaped Lined Pictured shaped g a k w
 -- ---- nor is who settled the recovery
 
 pub view-settle : (g : Group) (i : ℕ) (r : Reason) → view (settle g i r) ≡ view g
-unfolding cabinet outgoing line slot rowsOf settle
+unfolding cabinet outgoing line rowsOf settle
 view-settle g i r = refl
 
 pub view-over : (g : Group) → view (settleOver g) ≡ view g
-unfolding cabinet outgoing line slot rowsOf settleOver
+unfolding cabinet outgoing line rowsOf settleOver
 view-over g = refl
 
 -- ---- a packet on all lines in use of cabinet i
@@ -160,17 +160,17 @@ sim-unsure g w k a lk la =
     view-cabinet g (w .frame) k _ lk ∙ ap (setCabinet (view g) k (view g .own k)) (side-unsure (cabinet g k) (w .cabs k) a la)
 
 abbrev pub oImage : Own → Image → Own
-oImage o m = record { state = o .state; version = o .version; alarm = o .alarm; pieces = o .pieces; image = m; home = o .home; store = o .store; lead = o .lead; former = o .former }
+oImage o m = record { state = o .state; version = o .version; alarm = o .alarm; pieces = o .pieces; image = m; home = o .home; present = o .present; lead = o .lead; former = o .former }
 
 abbrev pub oPhase : Own → State → Version → Alarm → Own
-oPhase o s v a = record { state = s; version = v; alarm = a; pieces = o .pieces; image = o .image; home = o .home; store = o .store; lead = o .lead; former = o .former }
+oPhase o s v a = record { state = s; version = v; alarm = a; pieces = o .pieces; image = o .image; home = o .home; present = o .present; lead = o .lead; former = o .former }
 
 abbrev pub oPieces : Own → ℕ → Own
-oPieces o k = record { state = o .state; version = o .version; alarm = o .alarm; pieces = k; image = o .image; home = o .home; store = o .store; lead = o .lead; former = o .former }
+oPieces o k = record { state = o .state; version = o .version; alarm = o .alarm; pieces = k; image = o .image; home = o .home; present = o .present; lead = o .lead; former = o .former }
 
 -- nothing is noted any more
 abbrev pub oBare : Own → Own
-oBare o = record { state = o .state; version = o .version; alarm = o .alarm; pieces = 0; image = o .image; home = o .home; store = o .store; lead = o .lead; former = false }
+oBare o = record { state = o .state; version = o .version; alarm = o .alarm; pieces = 0; image = o .image; home = o .home; present = o .present; lead = o .lead; former = false }
 
 -- in error for a place, with a coordinator k from then on
 abbrev pub oAlarmed : Own → Place → ℕ → Own
@@ -181,7 +181,7 @@ oAlarmed o p k = record {
   pieces = 0;
   image = o .image;
   home = o .home;
-  store = o .store;
+  present = o .present;
   lead = k;
   former = isAt p (o .lead);
 }
@@ -196,7 +196,7 @@ vTake v a b p =
 pub sim-take : (g : Group) → Fit g → (a b : ℕ) (p : Payload) → a < 8 → b < 8 → view (withCabinet g b (taking (cabinet g b) a p)) ≡ vTake (view g) a b p
 sim-take g w a b p la lb =
     view-cabinet g (w .frame) b _ lb
-    ∙ ap (setCabinet (view g) b (ownOf (taking (cabinet g b) a p))) (side-taking (cabinet g b) (w .cabs b) a la p)
+    ∙ ap (setCabinet (view g) b (ownIn g b (taking (cabinet g b) a p))) (side-taking (cabinet g b) (w .cabs b) a la p)
 
 -- an equal comparison, before the cut is asked
 abbrev pub vCompare : View → ℕ → ℕ → View
@@ -221,7 +221,7 @@ vResumed v i x = setCabinet v i (oBare (oPhase (v .own i) Normal x Quiet)) (λ b
 pub view-resumed : (g : Group) → Fit g → (i : ℕ) (x : Version) → i < 8 → view (withCabinet g i (resuming (cabinet g i) x)) ≡ vResumed (view g) i x
 view-resumed g w i x l =
     view-cabinet g (w .frame) i _ l
-    ∙ ap (setCabinet (view g) i (ownOf (resuming (cabinet g i) x))) (fun-ext (λ b. side-resuming (cabinet g i) (w .cabs i) x b))
+    ∙ ap (setCabinet (view g) i (ownIn g i (resuming (cabinet g i) x))) (fun-ext (λ b. side-resuming (cabinet g i) (w .cabs i) x b))
 
 abbrev pub vRecovering : View → ℕ → Bool → View
 vRecovering v i x = setCabinet v i (oPhase (v .own i) Recovering (Known x) (v .own i .alarm)) (v .side i)
@@ -268,7 +268,7 @@ module _ (g : Group) (w : Fit g) (i : ℕ) (p : Place) (l : i < 8) where
   view-alarmed : view (withCabinet g i (alarmed (cabinet g i) i p)) ≡ vAlarmed (view g) i p
   view-alarmed =
       view-cabinet g (w .frame) i _ l
-      ∙ ap (setCabinet (view g) i (ownOf (alarmed (cabinet g i) i p))) (fun-ext (λ b. side-alarmed (cabinet g i) i p b))
+      ∙ ap (setCabinet (view g) i (ownIn g i (alarmed (cabinet g i) i p))) (fun-ext (λ b. side-alarmed (cabinet g i) i p b))
       ∙ ap (λ (k : ℕ). setCabinet (view g) i (oAlarmed (view g .own i) p k) (λ b. sAlarmed p i b (view g .side i b))) (lead-alarmed (cabinet g i) i p)
 
   silence : Fit (withOutgoing (withCabinet g i (alarmed (cabinet g i) i p)) i emptyLines)
@@ -318,12 +318,12 @@ module _ (g : Group) (w : Fit g) (i : ℕ) (l : i < 8) (room : Room (view g) i) 
       (put-checkps Shaped Lined Pictured shaped (inUse (cabinet g i)) regs (outgoing g i) (out-of Shaped Lined Pictured shaped g i w)) w
 
   pub sim-join : view (join g i) ≡ vJoin (view g) i
-  unfolding join
+  unfolding join withOutgoing cabinet
   sim-join =
       view-cabinet _ (checkps-put .frame) i _ l
-      ∙ ap (setCabinet (view (withOutgoing g i (putCheckps (inUse (cabinet g i)) regs (outgoing g i)))) i (ownOf (beginning (cabinet g i))))
+      ∙ ap (setCabinet (view (withOutgoing g i (putCheckps (inUse (cabinet g i)) regs (outgoing g i)))) i (ownIn g i (beginning (cabinet g i))))
       (fun-ext (λ b. side-beginning (cabinet g i) (w .cabs i) b))
-      ∙ ap (λ (x : View). setCabinet x i (ownOf (beginning (cabinet g i))) (λ b. sBegun (view g .side i b))) view-checkps
+      ∙ ap (λ (x : View). setCabinet x i (ownIn g i (beginning (cabinet g i))) (λ b. sBegun (view g .side i b))) view-checkps
 
 -- ---- lines
 
@@ -353,7 +353,7 @@ sim-sent g w a b s q lq la lb room =
     ∙ ap (setLine (view (withCabinet g a (sending (cabinet g a) b o p))) a b) (put-content (line g a b) (w .lines a b) (NormalPacket p) refl room)
     ∙ ap (λ (x : View). setLine x a b (view g .lines a b ++ (NormalPacket p ∷ [])))
     (view-cabinet g (w .frame) a _ la
-    ∙ ap (setCabinet (view g) a (ownOf (sending (cabinet g a) b o p))) (side-sending (cabinet g a) (w .cabs a) b lb o p))
+    ∙ ap (setCabinet (view g) a (ownIn g a (sending (cabinet g a) b o p))) (side-sending (cabinet g a) (w .cabs a) b lb o p))
 
 -- the lines to a failed or tripped cabinet are emptied
 abbrev pub vEmptied : ℕ → View → ℕ → View
@@ -429,7 +429,7 @@ oBlank o = record {
   pieces = o .pieces;
   image = blankImage;
   home = o .home;
-  store = o .store;
+  present = o .present;
   lead = o .lead;
   former = o .former;
 }
@@ -474,9 +474,9 @@ pub record Versions (v u : View) : Type 0 where
 same-versions : (v : View) → Versions v v
 same-versions v = record { own = λ c. (v .own c .version, refl); sides = λ c d. refl; lines = refl; sound = refl }
 
-no-cabinet : (g : Group) → Fit g → (x : ℕ) (c : Cabinet) → 8 ≤ x → withCabinet g x c ≡ g
+pub no-cabinet : (g : Group) → length (g .cabinets) ≡ 8 → (x : ℕ) (c : Cabinet) → 8 ≤ x → withCabinet g x c ≡ g
 unfolding withCabinet
-no-cabinet g w x c l = λ t. withCabinets g (set-out (g .cabinets) x c (omega (arith, w .frame .cabinets)) t)
+no-cabinet g e x c l = λ t. withCabinets g (set-out (g .cabinets) x c (omega arith) t)
 
 pub sim-version : (g : Group) → Fit g → (x : ℕ) (y : Version) → x < 8
     → view (withCabinet g x (withVersion (cabinet g x) y)) ≡ setCabinet (view g) x (oVersion (view g .own x) y) (view g .side x)
@@ -486,7 +486,7 @@ note-at : (p : Place) (g : Group) (y : Version) → Fit g → Versions (view g) 
 note-at (AtLink x z) g y w = same-versions (view g)
 note-at (AtTripped x) g y w = same-versions (view g)
 note-at (AtFailed x) g y w = elim (decLt x 8) [
-  | no n ↦ subst (λ (u : Group). Versions (view g) (view u)) (sym (no-cabinet g w x (withVersion (cabinet g x) y) (omega arith))) (same-versions (view g))
+  | no n ↦ subst (λ (u : Group). Versions (view g) (view u)) (sym (no-cabinet g (w .frame .cabinets) x (withVersion (cabinet g x) y) (omega arith))) (same-versions (view g))
   | yes l ↦ subst (Versions (view g)) (sym (sim-version g w x y l)) (record {
     own = λ c. upd-elim (λ (o : Own). (z : Version) × (o ≡ oVersion (view g .own c) z)) (view g .own) x (oVersion (view g .own x) y) c
         (λ e. (y, ap (λ (j : ℕ). oVersion (view g .own j) y) (sym e))) (λ n. (view g .own c .version, refl));

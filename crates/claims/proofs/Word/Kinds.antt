@@ -3,7 +3,7 @@ use Prim.Native.Nat.{ℕ, zero, suc, _+_, _-_, _<_}
 use mathlib.Core.Path.{_≡_, refl, sym, ap, _∙_, subst}
 use mathlib.Core.Logic.{_≢_, inr}
 use mathlib.Core.Bool.{Bool, true, false, not, _&&_, _||_}
-use lib.ListN.{getD}
+use lib.ListN.{getD, set}
 use lib.Dec.{eqb, ltb}
 use borrow.Author.Tests.{eqb-true, eqb-false}
 use native.Mathlib.Omega.{arith}
@@ -29,14 +29,15 @@ use Rattle.cabinet.specs.declared.Alarm.{Alarm}
 use Rattle.cabinet.specs.declared.Alarm.the-variants.{Quiet, Fault as At}
 use Rattle.cabinet.specs.Alarm.{isFor}
 use Rattle.cabinet.specs.Cabinet.{inUse, coordinator, blanked}
+use Rattle.store.specs.Store.{homeIn}
 use Rattle.group.specs.declared.Group.{Group}
 use Rattle.group.specs.declared.Outcome.{Outcome}
 use Rattle.group.specs.Group.{cabinet, withCabinet, stateOf, withOutgoing, line, withLine, rowsOf, withSound, working, some, recoveringOnes, tripsOf, withTripsOf, isCrashed, settle, settleOver}
 use Rattle.protocol.specs.declared.Step.{Step}
 use Rattle.protocol.specs.declared.Step.the-variants.{Send, Note, Begin, Deliver, Write, Saved, Fetch, Restored as RestoredStep, Fail, Damage, Lose, Trip, Unsure}
-use Rattle.protocol.specs.Moves.{broadcast, recoverWith, reasonFor, enterError, hear, findLinkFault, emptiedTo, markFailed, trip, alarmTo, endRecovery, noteLost, noteFor, noteAt}
+use Rattle.protocol.specs.Moves.{broadcast, recoverWith, reasonFor, enterError, hear, findLinkFault, emptiedTo, passReports, leave, markFailed, trip, alarmTo, endRecovery, noteLost, noteFor, noteAt}
 use Rattle.protocol.specs.Receive.{serving, takes, resumesFrom, receiveNormal, receiveCheckp, receiveResume, receiveRecover, receiveFault, receiveInvalid, receive}
-use Rattle.protocol.specs.Kinds.{orRefuse, sendRefusal, sendStep, noteRefusal, noteStep, beginRefusal, beginStep, deliverRefusal, delivered, deliverStep, writeRefusal, writeStep, savedRefusal, savedStep, fetchRefusal, fetchStep, restoredRefusal, reportRestored, endIfAll, restoredStep, failCrashes, failStep, damageRefusal, damageStep, loseRefusal, loseStep, tripCrashes, tripOnce, tripStep, unsureRefusal, reportUnsure, decideIfAll, unsureStep}
+use Rattle.protocol.specs.Kinds.{orRefuse, sendRefusal, sendStep, noteRefusal, noteStep, beginRefusal, beginStep, deliverRefusal, delivered, deliverStep, writeRefusal, writeStep, savedRefusal, savedStep, fetchRefusal, fetchStep, restoredRefusal, reportRestored, comeBackIfAway, endIfAll, restoredStep, failCrashes, failStep, damageRefusal, damageStep, loseRefusal, loseStep, tripCrashes, tripOnce, tripStep, unsureRefusal, reportUnsure, decideIfAll, unsureStep}
 use Rattle.protocol.specs.Entry.{firstOf, secondOf, actorWorks, isCabinet, entryRefusal, perform}
 use Rattle.protocol.specs.History.{History, upd, ends}
 use Rattle.claims.proofs.State.Fun.{never, and-true, cond-elim, upd-same, upd-other, upd-id}
@@ -44,24 +45,25 @@ use Rattle.claims.proofs.State.Every.{passed, asksUnsure, with-line, ok
 use Rattle.claims.proofs.State.View.{View, Own, view}
 use Rattle.claims.proofs.State.Shape.{Shaped, Lined, Pictured, shaped}
 use Rattle.claims.proofs.State.Sim.{Fit, cabinet-same, in-use}
-use Rattle.claims.proofs.State.ViewMoves.{leadAfter, oPhase, vFailed, fit-counted, sim-hear}
+use Rattle.claims.proofs.State.ViewMoves.{leadAfter, oPhase, vFailed, sim-hear}
 use Rattle.claims.proofs.Answers.Tests.{in-state}
 use Rattle.claims.proofs.Invariant.States.{serving-calm, opens-serve}
 use Rattle.claims.proofs.Invariant.Facts.{Ghost}
-use Rattle.claims.proofs.Invariant.Whole.{Inv}
+use Rattle.claims.proofs.Invariant.Whole.{Inv, workOf}
 use Rattle.claims.proofs.Invariant.Past.{Past}
 use Rattle.claims.proofs.Invariant.Staying.{SomeKnows, Reports}
 use Rattle.claims.proofs.Moves.ErrorSeen.{oErred}
 use Rattle.claims.proofs.Moves.Alarming.{near}
 use Rattle.claims.proofs.Moves.LinkFault.{fit-sound}
 use Rattle.claims.proofs.Moves.Recovering as going
+use Rattle.claims.proofs.Moves.Leaving.{Left}
 use Rattle.claims.proofs.Moves.FailStep as failing
 use Rattle.claims.proofs.Moves.TripStep as tripping
 use Rattle.claims.proofs.Moves.UnsureStep as deciding
 use Rattle.claims.proofs.Moves.RestoredStep as ending
 use Rattle.claims.proofs.Claims.Stepping.{named-below}
-use Rattle.claims.proofs.Word.Turns.{Turned, out, kept, errs, newly, newly-same, newly-other, Who, nobody, settledBy, who-up, who-errs, errs-turned, calm-turned, calm-newly}
-use Rattle.claims.proofs.Word.Stills.{Still, still-then, still-line, still-noted, still-begin, still-checkp, still-end, still-adopt, still-hear, still-taking, still-sent, still-write, still-saved, still-fetch, still-reported, still-unsure, still-hurt, still-lost}
+use Rattle.claims.proofs.Word.Turns.{Turned, out, kept, errs, newly, newly-same, newly-other, Who, nobody, settledBy, who-up, who-errs, errs-turned, calm-turned, calm-newly, turned-home, who-home}
+use Rattle.claims.proofs.Word.Stills.{Still, still-then, still-line, still-noted, still-begin, still-checkp, still-end, still-adopt, still-hear, still-taking, still-sent, still-write, still-saved, still-fetch, still-reported, still-unsure, still-hurt, still-lost, still-back}
 use Rattle.claims.proofs.Word.Alarms.{error-note, error-owns, Asked, asked}
 
 -- ---- what a step brings
@@ -85,6 +87,23 @@ pub data Turn (g : Group) (γ : Ghost) (g′ : Group) (t : ℕ) (d e : Bool) : T
 still-turn : {g g′ : Group} {γ : Ghost} {t : ℕ} {d : Bool} → Still g g′ → Turn g γ g′ t d false
 still-turn {g} {g′} s =
     turns refl (λ j. calm-turned (view g .own j) (view g′ .own j) (s .at j)) (nobody (s .same) (λ j _. calm-newly (view g .own j) (view g′ .own j) (s .at j)))
+
+-- what is said of the group that a store has left is said of the group
+left-turn : {total : Party → ℕ} {g : Group} {γ : Ghost} {a : ℕ} {y : Group} {t : ℕ} {d : Bool} → Left total g γ a
+    → ((j : ℕ) → Turned (view (leave g a) .own j) (view y .own j)) → Who (view (leave g a) .own) (view y .own) (leave g a .settled) (y .settled) t 8 → Turn g γ y t d false
+unfolding leave passReports withCabinet
+left-turn {g} {y} {t} gone f who =
+    turns refl
+    (λ j. turned-home {h = gone .homes j} {p = gone .presents j} (subst (λ (u : View). Turned (u .own j) (view y .own j)) (gone .seen) (f j)))
+    (who-home {h = gone .homes} {p = gone .presents} (subst (λ (u : View). Who (u .own) (view y .own) (g .settled) (y .settled) t 8) (gone .seen) who))
+
+-- and so what is said of it with another count of trips
+counted-turn : (g : Group) (a n : ℕ) {γ : Ghost} {y : Group} {t : ℕ} {d e : Bool} → Turn (withTripsOf g a n) γ y t d e → Turn g γ y t d e
+unfolding withTripsOf cabinet
+counted-turn g a n (turns e f who) = turns e f who
+counted-turn g a n (hears e b x s k) = hears e b record { below = x .below; erred = x .erred; restores = x .restores; others = x .others } s k
+counted-turn g a n (decides e d b x s v q) = decides e d b record { below = x .below; erred = x .erred; restores = x .restores; others = x .others } s v q
+counted-turn g a n (over e j u f o s) = over e j u f o s
 
 -- cabinet b enters error
 error-turn : {γ : Ghost} {d : Bool} (g y : Group) (b : ℕ) → b < 8 → works (stateOf g b) ≡ true → inRecovery (stateOf g b) ≡ false → (q : Place) (k : ℕ)
@@ -172,10 +191,6 @@ module _ (total : Party → ℕ) (g : Group) (h : History) (γ : Ghost) (w : Fit
     off-cabinet : cabinet off b ≡ cabinet g b
     unfolding cabinet withLine withOutgoing
     off-cabinet = refl
-
-    off-note : off .settled ≡ g .settled
-    unfolding withLine withOutgoing
-    off-note = refl
 
     abbrev Taken : Outcome → Type 0
     Taken o = o .answer ≡ 0 → Turn g γ (o .group) 8 false false
@@ -288,7 +303,10 @@ module _ (total : Party → ℕ) (g : Group) (h : History) (γ : Ghost) (w : Fit
     k = coordinator (cabinet g a)
 
     abbrev g1 : Group
-    g1 = reportRestored g a k
+    g1 = comeBackIfAway (reportRestored g a k) a
+
+    still1 : Still g g1
+    still1 = still-then (still-reported g a k) (still-back (reportRestored g a k) a)
 
     noted-at : (p : Place) (y : Group) (v : Version) → noteAt p y v .settled ≡ y .settled
     unfolding withCabinet
@@ -306,7 +324,7 @@ module _ (total : Party → ℕ) (g : Group) (h : History) (γ : Ghost) (w : Fit
 
     over-note : settleOver (endRecovery (noteLost g1 k) k) .settled ≡ noteEnds (g .settled)
     unfolding settleOver
-    over-note = ap noteEnds (still-end (noteLost g1 k) k .same ∙ noted-lost g1 ∙ still-reported g a k .same)
+    over-note = ap noteEnds (still-end (noteLost g1 k) k .same ∙ noted-lost g1 ∙ still1 .same)
 
     restored-turn : {d : Bool} → Turn g γ (endIfAll g1 k) 8 d (ends g (endIfAll g1 k) a)
     unfolding endIfAll
@@ -317,7 +335,7 @@ module _ (total : Party → ℕ) (g : Group) (h : History) (γ : Ghost) (w : Fit
               (ap (λ (x : ℕ). isIn (stateOf (settleOver (endRecovery (noteLost g1 k) k)) x) Recovering) q ∙ ap (λ (s : State). isIn s Recovering) (ending.normal-k total g h γ w i past reports a la up fine e))
           | no n ↦ newly-same (view g .own j) (view (settleOver (endRecovery (noteLost g1 k) k)) .own j) (ending.state2 total g h γ w i past reports a la up fine e j n)
         ]) over-note)
-        (λ _. subst (Turn g γ g1 8 d) (sym (ending.not-yet total g h γ w i past reports a la up fine)) (still-turn (still-reported g a k)))
+        (λ _. subst (Turn g γ g1 8 d) (sym (ending.not-yet total g h γ w i past reports a la up fine)) (still-turn still1))
 
   -- ---- unsure
 
@@ -354,22 +372,38 @@ module _ (total : Party → ℕ) (g : Group) (h : History) (γ : Ghost) (w : Fit
     emptied-note zero y = refl
     emptied-note (suc n) y = emptied-note n y
 
-    failed-note : markFailed g a .settled ≡ g .settled
+    failed-note : (y : Group) → markFailed y a .settled ≡ y .settled
     unfolding markFailed withOutgoing withCabinet
-    failed-note = emptied-note 8 _
+    failed-note y = emptied-note 8 _
 
     module _ (fine : failCrashes g a ≡ false) where
-      abbrev down : Group
-      down = markFailed g a
+      abbrev left : Group
+      left = leave g a
 
-      seen : view down ≡ vFailed (view g) a
-      seen = failing.seen total g h γ w i past a la an up fine
+      abbrev gone : Left total g γ a
+      gone = failing.gone total g h γ w i past a la an up fine
+
+      abbrev past1 : Past (left .n) (view left) γ h
+      past1 = failing.past1 total g h γ w i past a la an up fine
+
+      abbrev an1 : a < left .n
+      an1 = failing.an1 total g h γ w i past a la an up fine
+
+      abbrev up1 : workOf (view left) a ≡ true
+      up1 = failing.up1 total g h γ w i past a la an up fine
+
+      abbrev down : Group
+      down = markFailed left a
+
+      seen : view down ≡ vFailed (view left) a
+      seen = failing.seen total left h γ (gone .fit) (gone .inv) past1 a la an1 up1 (failing.found1 total g h γ w i past a la an up fine)
 
       down-state : view down .own a .state ≡ Failed
-      down-state = ap (λ (u : View). u .own a .state) seen ∙ ap (λ (o : Own). o .state) (upd-same (view g .own) a _)
+      down-state = ap (λ (u : View). u .own a .state) seen ∙ ap (λ (o : Own). o .state) (upd-same (view left .own) a _)
 
-      all-asked : (t : ℕ) (whole : (j : ℕ) → j < 8 → j ≢ a → j ≢ t) → Asked g down (ok-markFailed Shaped Lined Pictured shaped g a w) a t (AtFailed a)
-          (λ j n. ap (λ (u : View). u .own j) seen ∙ upd-other (view g .own) a _ j n) failed-note (failing.nobody total g h γ w i past a la an up fine)
+      all-asked : (t : ℕ) (whole : (j : ℕ) → j < 8 → j ≢ a → j ≢ t) → Asked left down (ok-markFailed Shaped Lined Pictured shaped left a (gone .fit)) a t (AtFailed a)
+          (λ j n. ap (λ (u : View). u .own j) seen ∙ upd-other (view left .own) a _ j n) (failed-note left)
+          (failing.nobody total left h γ (gone .fit) (gone .inv) past1 a la an1 up1 (failing.found1 total g h γ w i past a la an up fine))
           (ap (λ (s : State). isIn s Recovering) down-state) (λ e. never (and-true {s = works (stateOf down a)} e .0) (ap works down-state)) whole
           8 (alarmTo 8 down a (AtFailed a))
       all-asked t whole = asked _ _ _ _ _ _ _ _ _ _ _ _ 8 (omega arith)
@@ -377,14 +411,36 @@ module _ (total : Party → ℕ) (g : Group) (h : History) (γ : Ghost) (w : Fit
       -- who fails in a third trip is not among those that enter either
       fail-turn : {d : Bool} (t : ℕ) → ((j : ℕ) → j < 8 → j ≢ a → j ≢ t) → Turn g γ (alarmTo 8 down a (AtFailed a)) t d false
       fail-turn t whole =
-          turns refl (λ j. elim (ℕ-discrete j a) [
+          left-turn gone (λ j. elim (ℕ-discrete j a) [
             | yes e ↦ out (ap (λ (x : ℕ). inRecovery (view (alarmTo 8 down a (AtFailed a)) .own x .state)) e ∙ ap (λ (o : Own). inRecovery (o .state)) (all-asked t whole .self) ∙ ap inRecovery down-state)
             | no n ↦ all-asked t whole .others j n
           ]) (all-asked t whole .who)
 
     module _ (fine : tripCrashes g a ≡ false) (n : ℕ) where
+      abbrev counted : Group
+      counted = withTripsOf g a n
+
+      abbrev left-k : Group
+      left-k = leave counted a
+
+      abbrev gone-k : Left total counted γ a
+      gone-k = tripping.gone total g h γ w i past a la an up fine n
+
+      abbrev past1-k : Past (left-k .n) (view left-k) γ h
+      past1-k = tripping.past1 total g h γ w i past a la an up fine n
+
+      abbrev an1-k : a < left-k .n
+      an1-k = tripping.an1 total g h γ w i past a la an up fine n
+
+      abbrev up1-k : workOf (view left-k) a ≡ true
+      up1-k = tripping.up1 total g h γ w i past a la an up fine n
+
+      abbrev found1-k : (view left-k .own a .present ≡ false) × (some (recoveringOnes left-k) ≡ false)
+          × (eqb (coordinator (cabinet left-k a)) a ≡ true → connected (rowsOf (left-k .sound)) (set (working left-k) a false) ≡ true)
+      found1-k = tripping.found1 total g h γ w i past a la an up fine n
+
       abbrev fell : Group
-      fell = trip (withTripsOf g a n) a
+      fell = trip left-k a
 
       abbrev after : Group
       after = alarmTo 8 fell a (AtTripped a)
@@ -394,40 +450,44 @@ module _ (total : Party → ℕ) (g : Group) (h : History) (γ : Ghost) (w : Fit
       unsaid y e = error-note y a (AtTripped a) ∙ ap (λ (x : Version). settledBy x (y .settled) a (reasonFor (cabinet y a) a)) e
 
       abbrev blank : Group
-      blank = withCabinet (withTripsOf g a n) a (blanked (cabinet (withTripsOf g a n) a))
+      blank = withCabinet left-k a (blanked (cabinet left-k a))
 
       blank-lost : cabinet blank a .phase .version ≡ Lost
-      blank-lost = ap (λ (c : Cabinet). c .phase .version) (cabinet-same (withTripsOf g a n) (fit-counted g a n w .frame) a (blanked (cabinet (withTripsOf g a n) a)) la)
+      blank-lost = ap (λ (c : Cabinet). c .phase .version) (cabinet-same left-k (gone-k .fit .frame) a (blanked (cabinet left-k a)) la)
 
-      blank-note : blank .settled ≡ g .settled
-      unfolding withCabinet withTripsOf
+      blank-note : blank .settled ≡ left-k .settled
+      unfolding withCabinet
       blank-note = refl
 
-      fell-note : fell .settled ≡ g .settled
+      fell-note : fell .settled ≡ left-k .settled
       unfolding trip
       fell-note = emptied-note 8 (enterError blank a (AtTripped a)) ∙ unsaid blank blank-lost ∙ blank-note
 
       tripped : (view fell .own a .state ≡ Error) × (view fell .own a .version ≡ Lost)
-      tripped = tripping.down-own total g h γ w i past a la an up fine n
+      tripped = tripping.down-own total left-k h γ (gone-k .fit) (gone-k .inv) past1-k a la an1-k up1-k found1-k
 
       fell-fit : Fit fell
-      fell-fit = ok-trip Shaped Lined Pictured shaped (withTripsOf g a n) a (fit-counted g a n w)
+      fell-fit = ok-trip Shaped Lined Pictured shaped left-k a (gone-k .fit)
 
-      all-tripped : Asked g fell fell-fit a a (AtTripped a)
-          (λ j d. ap (λ (u : View). u .own j) (tripping.seen total g h γ w i past a la an up fine n) ∙ tripping.own-down total g h γ w i past a la an up fine n j d) fell-note
-          (tripping.nobody total g h γ w i past a la an up fine n) (ap (λ (s : State). isIn s Recovering) (tripped .0))
-          (λ e. tripping.near-other total g h γ w i past a la an up fine n a
-          (subst (λ (u : View). near u a a ≡ true) (tripping.seen total g h γ w i past a la an up fine n) (rw (← in-use (cabinet fell a) (fell-fit .cabs a) a) e)) refl)
+      nobody-left-k : (c : ℕ) → inRecovery (view left-k .own c .state) ≡ false
+      nobody-left-k = tripping.nobody total left-k h γ (gone-k .fit) (gone-k .inv) past1-k a la an1-k up1-k found1-k
+
+      all-tripped : Asked left-k fell fell-fit a a (AtTripped a)
+          (λ j d. ap (λ (u : View). u .own j) (tripping.seen total left-k h γ (gone-k .fit) (gone-k .inv) past1-k a la an1-k up1-k found1-k)
+          ∙ tripping.own-down total left-k h γ (gone-k .fit) (gone-k .inv) past1-k a la an1-k up1-k found1-k j d) fell-note
+          nobody-left-k (ap (λ (s : State). isIn s Recovering) (tripped .0))
+          (λ e. tripping.near-other total left-k h γ (gone-k .fit) (gone-k .inv) past1-k a la an1-k up1-k found1-k a
+          (subst (λ (u : View). near u a a ≡ true) (tripping.seen total left-k h γ (gone-k .fit) (gone-k .inv) past1-k a la an1-k up1-k found1-k) (rw (← in-use (cabinet fell a) (fell-fit .cabs a) a) e)) refl)
           (λ j l d. d) 8 after
       all-tripped = asked _ _ _ _ _ _ _ _ _ _ _ _ 8 (omega arith)
 
       trip-turn : {d : Bool} → Turn g γ after a d false
       trip-turn =
-          turns refl (λ j. elim (ℕ-discrete j a) [
-            | yes e ↦ rw e (errs up (tripping.nobody total g h γ w i past a la an up fine n a) (ap (λ (o : Own). o .state) (all-tripped .self) ∙ tripped .0)
+          counted-turn g a n (left-turn gone-k (λ j. elim (ℕ-discrete j a) [
+            | yes e ↦ rw e (errs up1-k (nobody-left-k a) (ap (λ (o : Own). o .state) (all-tripped .self) ∙ tripped .0)
                 (inr (ap (λ (o : Own). o .version) (all-tripped .self) ∙ tripped .1)))
             | no d ↦ all-tripped .others j d
-          ]) (all-tripped .who)
+          ]) (all-tripped .who))
 
   -- ---- every kind
 
@@ -454,7 +514,7 @@ module _ (total : Party → ℕ) (g : Group) (h : History) (γ : Ghost) (w : Fit
   performed (Note a p q) c u = checked (Note a p q) (noteRefusal g (a - 1) p q) _ (λ _ _. still-turn (still-noted g (a - 1) _ refl refl))
   performed (Begin a) c u = checked (Begin a) (beginRefusal g (a - 1)) _ (λ _ _. still-turn (still-begin g (a - 1)))
   performed (Deliver a b) c u = deliver-turn (a - 1) (b - 1) (below a (c .0) .1) (below b (c .1) .1)
-  performed (Write a) c u = checked (Write a) (writeRefusal g (a - 1)) _ (λ _ _. still-turn (still-write (not (ltb (cabinet g (a - 1) .noted .pieces) 3)) g (cabinet g (a - 1) .home) (a - 1)))
+  performed (Write a) c u = checked (Write a) (writeRefusal g (a - 1)) _ (λ _ _. still-turn (still-write (not (ltb (cabinet g (a - 1) .noted .pieces) 3)) g (homeIn (g .store) (a - 1)) (a - 1)))
   performed (Saved a) c u = checked (Saved a) (savedRefusal g (a - 1)) _ (λ _ _. still-turn (still-saved g (a - 1) _ _))
   performed (Fetch a) c u =
       checked (Fetch a) (fetchRefusal g (a - 1)) _

@@ -2,7 +2,7 @@
 use Prim.Native.Nat.{ℕ, zero, suc}
 use mathlib.Core.Path.{_≡_, refl, sym, ap, _∙_, subst}
 use mathlib.Core.Logic.{_⊎_, inl, inr, ⊎-elim}
-use mathlib.Core.Bool.{Bool, true, false, not}
+use mathlib.Core.Bool.{Bool, true, false}
 use mathlib.Core.List.{List, [], _∷_}
 use lib.ListN.{getD, set}
 use lib.Dec.{ltb}
@@ -17,29 +17,34 @@ use Rattle.line.specs.declared.Line.{Line}
 use Rattle.line.specs.Line.{packetAt, replaced}
 use Rattle.state.specs.declared.State.the-variants.{Checkpointing, Recovering}
 use Rattle.state.specs.declared.Version.{Version}
-use Rattle.state.specs.State.{inRecovery, bitOf}
-use Rattle.image.specs.declared.Image.{Image}
-use Rattle.image.specs.Image.{withPiece}
+use Rattle.state.specs.State.{inRecovery}
+use Rattle.store.specs.declared.Store.{Store}
+use Rattle.store.specs.Store.{partner, isAway, homedAt, leaves, comesBack}
+use Rattle.cabinet.specs.declared.Phase.{Phase}
 use Rattle.cabinet.specs.declared.Cabinet.{Cabinet}
-use Rattle.cabinet.specs.Cabinet.{absent, inUse, sending, taking, hurtFrom, beginning, comparing, owing, savedFor, resuming, hearing, restoredFor, unsureFor, withState}
+use Rattle.cabinet.specs.Cabinet.{absent, inUse, sending, taking, hurtFrom, beginning, comparing, owing, owingAlso, owingBut, owingNone, savedFor, resuming, hearing, restoredFor, unsureFor, withState}
 use Rattle.outgoing.specs.declared.Outgoing.{Outgoing}
 use Rattle.group.specs.declared.Group.{Group}
-use Rattle.group.specs.Group.{cabinet, withCabinet, stateOf, withOutgoing, line, withLine, slot, withSlot, withSlots, forgetTrips}
-use Rattle.protocol.specs.Moves.{broadcast, join, cutIfAll, takeCheckp, resumeWith, commit, adopt, hear, endRecovery}
+use Rattle.group.specs.Group.{cabinet, withCabinet, stateOf, withOutgoing, line, withLine, withStore, forgetTrips}
+use Rattle.protocol.specs.Moves.{broadcast, join, cutIfAll, takeCheckp, resumeWith, commit, adopt, hear, passReports, leave, dropReports, comeBack, endRecovery}
 use Rattle.protocol.specs.Receive.{joinIf}
-use Rattle.protocol.specs.Kinds.{carried, sent, writePiece, oweIf, reportSaved, commitIfAll, fetchPiece, reportRestored, hurtIf, hurt, lost, reportUnsure}
+use Rattle.protocol.specs.Kinds.{carried, sent, pieceSaved, writePiece, oweIf, reportSaved, commitIfAll, fetchPiece, reportRestored, comeBackIfAway, hurtIf, hurt, lost, reportUnsure}
 use Rattle.claims.proofs.State.Fun.{cond-elim}
-use Rattle.claims.proofs.State.View.{ownOf}
+use Rattle.claims.proofs.State.View.{Own, ownOf}
 use Rattle.claims.proofs.Word.Turns.{Calm, calm-out, calm-then}
+
+-- a cabinet by itself, whatever its home
+abbrev pub bareOf : Cabinet → Own
+bareOf c = ownOf 0 false c
 
 pub record Still (g g′ : Group) : Type 0 where
   pub same : g′ .settled ≡ g .settled
-  pub at : (i : ℕ) → Calm (ownOf (cabinet g i)) (ownOf (cabinet g′ i))
+  pub at : (i : ℕ) → Calm (bareOf (cabinet g i)) (bareOf (cabinet g′ i))
 
 pub still-then : {g g′ g″ : Group} → Still g g′ → Still g′ g″ → Still g g″
 still-then {g} {g′} {g″} p q = record {
   same = q .same ∙ p .same;
-  at = λ i. calm-then (ownOf (cabinet g i)) (ownOf (cabinet g′ i)) (ownOf (cabinet g″ i)) (p .at i) (q .at i);
+  at = λ i. calm-then (bareOf (cabinet g i)) (bareOf (cabinet g′ i)) (bareOf (cabinet g″ i)) (p .at i) (q .at i);
 }
 
 -- no cabinet changes
@@ -55,14 +60,14 @@ set-cases (x ∷ xs) zero (suc j) v d = inr refl
 set-cases (x ∷ xs) (suc i) zero v d = inr refl
 set-cases (x ∷ xs) (suc i) (suc j) v d = ⊎-elim (λ e. inl (ap suc (e .0), e .1)) (λ e. inr e) (set-cases xs i j v d)
 
-pub still-cabinet : (g : Group) (i : ℕ) (c : Cabinet) → Calm (ownOf (cabinet g i)) (ownOf c) → Still g (withCabinet g i c)
+pub still-cabinet : (g : Group) (i : ℕ) (c : Cabinet) → Calm (bareOf (cabinet g i)) (bareOf c) → Still g (withCabinet g i c)
 unfolding cabinet withCabinet
 still-cabinet g i c h = record {
   same = refl;
   at = λ j. ⊎-elim
-      (λ e. subst (λ (x : Cabinet). Calm (ownOf (getD (g .cabinets) j absent)) (ownOf x)) (sym (e .1))
-      (subst (λ (k : ℕ). Calm (ownOf (getD (g .cabinets) k absent)) (ownOf c)) (sym (e .0)) h))
-      (λ e. subst (λ (x : Cabinet). Calm (ownOf (getD (g .cabinets) j absent)) (ownOf x)) (sym e) (λ _. inl (refl, refl)))
+      (λ e. subst (λ (x : Cabinet). Calm (bareOf (getD (g .cabinets) j absent)) (bareOf x)) (sym (e .1))
+      (subst (λ (k : ℕ). Calm (bareOf (getD (g .cabinets) k absent)) (bareOf c)) (sym (e .0)) h))
+      (λ e. subst (λ (x : Cabinet). Calm (bareOf (getD (g .cabinets) j absent)) (bareOf x)) (sym e) (λ _. inl (refl, refl)))
       (set-cases (g .cabinets) i j c absent);
 }
 
@@ -72,7 +77,7 @@ still-noted g i c e f = still-cabinet g i c (λ _. inl (e, f))
 
 -- it goes to a state out of a recovery
 pub still-out : (g : Group) (i : ℕ) (c : Cabinet) → inRecovery (c .phase .state) ≡ false → Still g (withCabinet g i c)
-still-out g i c e = still-cabinet g i c (calm-out (ownOf (cabinet g i)) (ownOf c) e)
+still-out g i c e = still-cabinet g i c (calm-out (bareOf (cabinet g i)) (bareOf c) e)
 
 -- ---- lines, the store and trips
 
@@ -84,9 +89,9 @@ pub still-line : (g : Group) (a b : ℕ) (l : Line) → Still g (withLine g a b 
 unfolding cabinet withLine withOutgoing
 still-line g a b l = still-same g _ refl (λ j. refl)
 
-still-slot : (g : Group) (i : ℕ) (v : Bool) (m : Image) → Still g (withSlot g i v m)
-unfolding cabinet withSlot withSlots
-still-slot g i v m = still-same g _ refl (λ j. refl)
+still-store : (g : Group) (s : Store) → Still g (withStore g s)
+unfolding cabinet
+still-store g s = still-same g _ refl (λ j. refl)
 
 still-forget : (g : Group) → Still g (forgetTrips g)
 unfolding cabinet forgetTrips
@@ -152,12 +157,37 @@ unfolding sent
 still-sent g a b p q = still-then (still-noted g a (sending (cabinet g a) b (endsOf p .from) (carried g p q)) refl refl) (still-line _ a b _)
 
 still-piece : (g : Group) (a : ℕ) → Still g (writePiece g a)
-unfolding writePiece cabinet withSlot withSlots
+unfolding writePiece cabinet
 still-piece g a =
-    let v = not (bitOf (cabinet g a .phase .version)) in
-    let g1 = withSlot g a v (withPiece (cabinet g a .noted .pieces) (cabinet g a .image) (slot g a v)) in
-    still-then (still-slot g a v _)
+    let g1 = withStore g (pieceSaved g a) in
+    still-then (still-store g (pieceSaved g a))
     (cond-elim (λ (c : Cabinet). Still g1 (withCabinet g1 a c)) (ltb (cabinet g a .noted .pieces) 3) (λ _. still-noted g1 a _ refl refl) (λ _. still-out g1 a _ refl))
+
+-- a store leaves, and comes back
+phase-kept : (g : Group) (i : ℕ) (c : Cabinet) → c .phase ≡ cabinet g i .phase → (j : ℕ) → cabinet (withCabinet g i c) j .phase ≡ cabinet g j .phase
+unfolding cabinet withCabinet
+phase-kept g i c e j =
+    ⊎-elim (λ x. ap (λ (y : Cabinet). y .phase) (x .1) ∙ e ∙ ap (λ (k : ℕ). getD (g .cabinets) k absent .phase) (sym (x .0)))
+    (λ x. ap (λ (y : Cabinet). y .phase) x) (set-cases (g .cabinets) i j c absent)
+
+pub still-leave : (g : Group) (a : ℕ) → Still g (leave g a)
+unfolding leave passReports cabinet
+still-leave g a =
+    let g1 = withStore g (leaves (g .store) a) in
+    let p = partner (g .store) a in
+    let also = owingAlso (cabinet g p) (cabinet g a .owed) in
+    let same = phase-kept g1 p also refl a in
+    still-then (still-store g (leaves (g .store) a))
+    (still-then (still-noted g1 p also refl refl) (still-noted (withCabinet g1 p also) a (owingNone (cabinet g a)) (ap (λ (x : Phase). x .state) (sym same)) (ap (λ (x : Phase). x .version) (sym same))))
+
+pub still-back : (g : Group) (a : ℕ) → Still g (comeBackIfAway g a)
+unfolding comeBackIfAway comeBack dropReports cabinet
+still-back g a =
+    let g1 = withStore g (comesBack (g .store) a) in
+    cond-elim (Still g) (isAway (g .store) a)
+    (λ _. still-then (still-store g (comesBack (g .store) a))
+    (still-noted g1 (partner (g .store) a) (owingBut (cabinet g (partner (g .store) a)) (homedAt (g1 .store) a)) refl refl))
+    (λ _. still-same g g refl (λ j. refl))
 
 pub still-write : (t : Bool) (g : Group) (h a : ℕ) → Still g (oweIf t (writePiece g a) h a)
 still-write true g h a = still-then (still-piece g a) (still-noted _ h (owing (cabinet (writePiece g a) h) a true) refl refl)

@@ -19,6 +19,7 @@ use Rattle.claims.proofs.State.Fun.{never, is-false, and-true, and-intr
 use Rattle.claims.proofs.State.View.{Own}
 use Rattle.claims.proofs.Answers.Tests.{in-state}
 use Rattle.claims.proofs.Moves.ErrorSeen.{erredState}
+use Rattle.claims.proofs.Moves.Rehoming.{oHomed}
 
 -- ---- one cabinet: c before the step and d after it
 
@@ -193,3 +194,18 @@ errs-turned c d w r e f = go (c .version) refl
     go (Known x) k = comes w r (e ∙ ap erredState k)
     go (Unknown x) k = errs w r (e ∙ ap erredState k) (inl f)
     go Lost k = errs w r (e ∙ ap erredState k) (inl f)
+
+-- ---- homes are not read
+
+pub turned-home : {c d : Own} {h : ℕ} {p : Bool} → Turned (oHomed c h p) d → Turned c d
+turned-home (out e) = out e
+turned-home (kept e f) = kept e f
+turned-home (fetches e f) = fetches e f
+turned-home (errs w r e f) = errs w r e f
+turned-home (comes w r e) = comes w r e
+turned-home (goes-on e f) = goes-on e f
+
+pub who-home : {v w : ℕ → Own} {s s′ : Settled} {t n : ℕ} {h : ℕ → ℕ} {p : ℕ → Bool} → Who (λ j. oHomed (v j) (h j) (p j)) w s s′ t n → Who v w s s′ t n
+who-home (nobody e f) = nobody e f
+who-home (first i x e) =
+    first i (record { below = x .below; working = x .working; calm = x .calm; knew = x .knew; whole = x .whole; enters = x .enters; least = x .least }) e

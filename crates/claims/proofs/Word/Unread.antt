@@ -27,16 +27,17 @@ use Rattle.cabinet.specs.Alarm.{isFor}
 use Rattle.state.specs.State.{isIn, inRecovery}
 use Rattle.cabinet.specs.Cabinet.{inUse}
 use Rattle.points.specs.declared.Points.{Points}
+use Rattle.store.specs.Store.{homeIn, isAway}
 use Rattle.group.specs.declared.Group.{Group}
 use Rattle.group.specs.declared.Outcome.{Outcome}
-use Rattle.group.specs.Group.{cabinet, withCabinet, stateOf, outgoing, withOutgoing, line, withLine, slot, withSlot, withSlots, rowsOf, withSound, working, normalOnes, ladenOnes, quiet, some as any, recoveringOnes, tripsOf, withTripsOf, forgetTrips, withSettled, settle, settleOver, isCrashed, answering, taken, crashed, crashAll}
-use Rattle.protocol.specs.Moves.{broadcast, join, cutIfAll, takeCheckp, resumeWith, commit, adopt, recoverWith, recoverIfKnown, raise, reasonFor, enterError, hear, findLinkFault, emptiedTo, markFailed, trip, neighbours, enterErrorIf, alarmTo, endRecovery, noteFor, noteLost}
+use Rattle.group.specs.Group.{cabinet, withCabinet, stateOf, outgoing, withOutgoing, line, withLine, rowsOf, withSound, working, normalOnes, ladenOnes, quiet, some as any, recoveringOnes, tripsOf, withTripsOf, forgetTrips, withSettled, settle, settleOver, isCrashed, answering, taken, crashed, crashAll}
+use Rattle.protocol.specs.Moves.{broadcast, join, cutIfAll, takeCheckp, resumeWith, commit, adopt, recoverWith, recoverIfKnown, raise, reasonFor, enterError, hear, findLinkFault, emptiedTo, passReports, leave, dropReports, comeBack, markFailed, trip, neighbours, enterErrorIf, alarmTo, endRecovery, noteFor, noteLost}
 use Rattle.protocol.specs.Receive.{serving, takes, joinIf, resumesFrom, receiveNormal, receiveCheckp, receiveResume, receiveRecover, receiveFault, receiveInvalid, receive}
 use Rattle.protocol.specs.declared.Step.{Step}
 use Rattle.protocol.specs.declared.Step.the-variants.{Send, Note, Begin, Deliver, Write, Saved, Fetch, Restored, Fail, Damage, Lose, Trip, Unsure}
 use Rattle.protocol.specs.declared.Decoded.{Decoded}
 use Rattle.protocol.specs.declared.Decoded.the-variants.{Malformed, Unused, Taken}
-use Rattle.protocol.specs.Kinds.{orRefuse, sendStep, sendRefusal, sent, noteStep, noteRefusal, beginStep, beginRefusal, deliverStep, deliverRefusal, delivered, writeStep, writeRefusal, writePiece, oweIf, savedStep, savedRefusal, reportSaved, commitIfAll, fetchStep, fetchRefusal, fetchPiece, restoredStep, restoredRefusal, reportRestored, endIfAll, failStep, failCrashes, hurtIf, hurt, damageStep, damageRefusal, lost, loseStep, loseRefusal, tripStep, tripOnce, tripCrashes, unsureStep, unsureRefusal, reportUnsure, decideIfAll}
+use Rattle.protocol.specs.Kinds.{orRefuse, sendStep, sendRefusal, sent, noteStep, noteRefusal, beginStep, beginRefusal, deliverStep, deliverRefusal, delivered, writeStep, writeRefusal, writePiece, oweIf, savedStep, savedRefusal, reportSaved, commitIfAll, fetchStep, fetchRefusal, fetchPiece, restoredStep, restoredRefusal, reportRestored, comeBackIfAway, endIfAll, failStep, failCrashes, hurtIf, hurt, damageStep, damageRefusal, lost, loseStep, loseRefusal, tripStep, tripOnce, tripCrashes, unsureStep, unsureRefusal, reportUnsure, decideIfAll}
 use Rattle.protocol.specs.Entry.{step, stepDecoded, perform, entryRefusal, decode}
 use Rattle.protocol.specs.Points.{returned, returnRefusal, returnTo, imagesKept, takePoint}
 use Rattle.protocol.specs.History.{History, World, Operation, stepping, pointing, returning, observe, lostNow, fresh, noteEnd, ends, noteCuts, noteReturn, ifTaken, recordDecoded, stepped, advance, run}
@@ -99,6 +100,10 @@ end-forgets k g =
     note (At (AtFailed x)) = but refl
     note (At (AtTripped x)) = but refl
     note (At (AtLink x y)) = but refl
+
+back-forgets : (a : ℕ) → Forgets (λ g. comeBackIfAway g a)
+unfolding comeBackIfAway comeBack dropReports withCabinet cabinet
+back-forgets a g = either (isAway (g .store) a) (but refl) (but refl)
 
 decide-forgets : (k : ℕ) → Forgets (λ g. decideIfAll g k)
 unfolding decideIfAll settle recoverWith broadcast withOutgoing outgoing withCabinet cabinet
@@ -171,19 +176,19 @@ module _ (g : Group) where
       (both (marked (inUse (cabinet g b)) a) (receive-alike g (withLine g a b (rest (line g a b))) a b (oldest (line g a b))) (alike refl))
 
   write-alike : (a : ℕ) → Kind (λ g. writeStep g a)
-  unfolding writeStep writePiece withCabinet cabinet withSlot withSlots slot
+  unfolding writeStep writePiece withCabinet cabinet
   write-alike a = refused (writeRefusal g a) g (took (owed (not (ltb (cabinet g a .noted .pieces) 3))))
     where
-      owed : (t : Bool) → Same (oweIf t (writePiece g a) (cabinet g a .home) a) (oweIf t (writePiece (bare g) a) (cabinet g a .home) a)
+      owed : (t : Bool) → Same (oweIf t (writePiece g a) (homeIn (g .store) a) a) (oweIf t (writePiece (bare g) a) (homeIn (g .store) a) a)
       owed true = but refl
       owed false = but refl
 
   fail-alike : (a : ℕ) → Kind (λ g. failStep g a)
-  unfolding failStep markFailed recoveringOnes working withOutgoing withCabinet cabinet
+  unfolding failStep leave passReports markFailed recoveringOnes working withOutgoing withCabinet cabinet
   fail-alike a = both (failCrashes g a) (crash-alike g) (took (over (alarm-forgets 8 a (AtFailed a)) (over (emptied-forgets 8 a) (but refl))))
 
   trip-alike : (a : ℕ) → Kind (λ g. tripStep g a)
-  unfolding tripStep tripOnce trip tripsOf withTripsOf recoveringOnes working withCabinet cabinet
+  unfolding tripStep tripOnce leave passReports trip tripsOf withTripsOf recoveringOnes working withCabinet cabinet
   trip-alike a =
       both (ltb (tripsOf g a) 2)
       (both (tripCrashes g a) (crash-alike g)
@@ -201,7 +206,7 @@ module _ (g : Group) where
       hit false l = but refl
 
   entered-alike : (s : Step) → Kind (λ g. orRefuse (entryRefusal g s) g (perform g s))
-  unfolding isCrashed sendStep sent noteStep beginStep cutIfAll join savedStep reportSaved fetchStep fetchPiece restoredStep reportRestored loseStep lost unsureStep reportUnsure withLine line withOutgoing outgoing withCabinet cabinet slot recoveringOnes
+  unfolding isCrashed sendStep sent noteStep beginStep cutIfAll join savedStep reportSaved fetchStep fetchPiece restoredStep reportRestored loseStep lost unsureStep reportUnsure withLine line withOutgoing outgoing withCabinet cabinet recoveringOnes
   entered-alike (Send a b p q) = refused (entryRefusal g (Send a b p q)) g (refused (sendRefusal g (a - 1) (b - 1) p q) g (alike refl))
   entered-alike (Note a p q) = refused (entryRefusal g (Note a p q)) g (refused (noteRefusal g (a - 1) p q) g (alike refl))
   entered-alike (Begin a) = refused (entryRefusal g (Begin a)) g (refused (beginRefusal g (a - 1)) g (alike refl))
@@ -209,7 +214,7 @@ module _ (g : Group) where
   entered-alike (Write a) = refused (entryRefusal g (Write a)) g (write-alike (a - 1))
   entered-alike (Saved a) = refused (entryRefusal g (Saved a)) g (refused (savedRefusal g (a - 1)) g (took (commit-forgets _ (reportSaved g (a - 1) _ _))))
   entered-alike (Fetch a) = refused (entryRefusal g (Fetch a)) g (refused (fetchRefusal g (a - 1)) g (alike refl))
-  entered-alike (Restored a) = refused (entryRefusal g (Restored a)) g (refused (restoredRefusal g (a - 1)) g (took (end-forgets _ (reportRestored g (a - 1) _))))
+  entered-alike (Restored a) = refused (entryRefusal g (Restored a)) g (refused (restoredRefusal g (a - 1)) g (took (over (end-forgets _) (back-forgets (a - 1) (reportRestored g (a - 1) _)))))
   entered-alike (Fail a) = refused (entryRefusal g (Fail a)) g (fail-alike (a - 1))
   entered-alike (Damage a b p w) = refused (entryRefusal g (Damage a b p w)) g (damage-alike (a - 1) (b - 1) p w)
   entered-alike (Lose a b p) =
@@ -292,7 +297,7 @@ onward f same w {o} {o′} (alike e) = (ap (λ (x : Outcome). x .answer) e, same
 -- what an operation makes of a world, it makes of it without the note
 one : (w : World) (x : Operation)
     → (operate (siteOf w) x .answer ≡ operate (siteOf (unnoted w)) x .answer) × (unnoted (advance w x) ≡ unnoted (advance (unnoted w) x))
-unfolding operate advance takePoint isCrashed quiet normalOnes working ladenOnes outgoing imagesKept slot cabinet
+unfolding operate advance takePoint isCrashed quiet normalOnes working ladenOnes outgoing imagesKept cabinet
 one w (stepping r) = onward (λ v. stepped v r) (step-same r) w (step-alike (w .group) r)
 one w (pointing name) = (refl, refl)
 one w (returning name) = onward (back name) (back-same name) w (return-alike (w .group) (w .points) name)

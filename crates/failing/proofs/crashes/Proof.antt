@@ -10,4 +10,4 @@ crashes-spec = tie.close (tie.spec
     (λ c κs. search needs)
     (λ c κs. search needs)
     (λ c κs. search needs)
-    (λ c. rw (c .or2 .ensures, c .before .or .ensures, c .before .before .some .ensures, c .before .before .before .recovering-ones .ensures, c .before .before .before .before .cabinet .ensures)))
+    (λ c. rw (c .or2 .ensures, c .before .or .ensures, c .before .before .some .ensures, c .before .before .before .recovering-ones .ensures, c .before .before .before .before .is-last .ensures)))

@@ -12,5 +12,6 @@ fail-step-spec = tie.close (tie.spec
     (λ c κs. search needs)
     (λ c κs. search needs)
     (λ c κs. search needs)
+    (λ c κs. search needs)
     (λ c. rw (c .crashed .ensures, ← c .before .before .fail-crashes .ensures, c .before .if1 .taken))
-    (λ c. rw (c .taken .ensures, c .before .alarm-neighbours .ensures, c .before .before .mark-failed .ensures, ← c .before .before .before .before .fail-crashes .ensures, c .before .before .before .if1 .left)))
+    (λ c. rw (c .taken .ensures, c .before .alarm-neighbours .ensures, c .before .before .mark-failed .ensures, c .before .before .before .leave .ensures, ← c .before .before .before .before .before .fail-crashes .ensures, c .before .before .before .before .if1 .left)))

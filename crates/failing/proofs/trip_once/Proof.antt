@@ -13,5 +13,6 @@ trip-once-spec = tie.close (tie.spec
     (λ c κs. search needs)
     (λ c κs. search needs)
     (λ c κs. search needs)
+    (λ c κs. search needs)
     (λ c. rw (c .crashed .ensures, ← c .before .before .trip-crashes .ensures, c .before .if1 .taken))
-    (λ c. rw (c .taken .ensures, c .before .alarm-neighbours .ensures, c .before .before .trip .ensures, c .before .before .before .with-trips-of .ensures, ← c .before .before .before .before .before .trip-crashes .ensures, c .before .before .before .before .if1 .left)))
+    (λ c. rw (c .taken .ensures, c .before .alarm-neighbours .ensures, c .before .before .trip .ensures, c .before .before .before .leave .ensures, c .before .before .before .before .with-trips-of .ensures, ← c .before .before .before .before .before .before .trip-crashes .ensures, c .before .before .before .before .before .if1 .left)))

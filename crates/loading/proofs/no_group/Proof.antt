@@ -8,4 +8,4 @@ no-group-spec = tie.close (tie.spec
     (λ c κs. search needs)
     (λ c κs. search needs)
     (λ c κs. search needs)
-    (λ c. rw (c .blank .ensures, c .before .empty .ensures, c .before .before .absent .ensures)))
+    (λ c. rw (c .empty2 .ensures, c .before .empty .ensures, c .before .before .absent .ensures)))

@@ -5,16 +5,9 @@ use Rattle.loading.proofs.starting_cabinet.Tie as tie
 
 pub starting-cabinet-spec : {M : Type 1} → statement M
 starting-cabinet-spec = tie.close (tie.spec
-    (λ c. search needs)
     (λ c κs. search needs)
     (λ c κs. search needs)
     (λ c κs. search needs)
     (λ c κs. search needs)
     (λ c κs. search needs)
-    (λ c κs. search needs)
-    (λ c κs. search needs)
-    (λ c κs. search needs)
-    (λ c. search needs)
-    (λ c. search needs)
-    (λ c κs. search needs)
-    (λ c. rw (c .small2 .ensures .0, c .before .less-one .ensures, c .before .before .small .ensures .0, c .before .before .before .image-of .ensures, c .before .before .before .before .start-registers .ensures, c .before .before .before .before .before .nothing-noted .ensures, c .before .before .before .before .before .before .row-of .ensures, c .before .before .before .before .before .before .before .present .ensures, c .before .before .before .before .before .before .before .before .entry-at .ensures .0)))
+    (λ c. rw (c .image-of .ensures, c .before .start-registers .ensures, c .before .before .nothing-noted .ensures, c .before .before .before .row-of .ensures, c .before .before .before .before .present .ensures)))

@@ -1,6 +1,5 @@
--- `store_of` makes each of the eight by one `slots_of`.
+-- `store_of` makes each part by the function of its definition.
 use borrow.Author.Needs.{needs}
-use Rattle.load.proofs.Lists.{eight}
 use Rattle.loading.proofs.store_of.Statement.{statement}
 use Rattle.loading.proofs.store_of.Tie as tie
 
@@ -10,16 +9,4 @@ store-of-spec = tie.close (tie.spec
     (λ c κs. search needs)
     (λ c κs. search needs)
     (λ c κs. search needs)
-    (λ c κs. search needs)
-    (λ c κs. search needs)
-    (λ c κs. search needs)
-    (λ c κs. search needs)
-    (λ c. eight
-    (c .before .before .before .before .before .before .before .slots-of .ensures)
-    (c .before .before .before .before .before .before .slots-of2 .ensures)
-    (c .before .before .before .before .before .slots-of3 .ensures)
-    (c .before .before .before .before .slots-of4 .ensures)
-    (c .before .before .before .slots-of5 .ensures)
-    (c .before .before .slots-of6 .ensures)
-    (c .before .slots-of7 .ensures)
-    (c .slots-of8 .ensures)))
+    (λ c. rw (c .partners-in .ensures, c .before .homes-in .ensures, c .before .before .all-slots .ensures, c .before .before .before .stores-in .ensures)))

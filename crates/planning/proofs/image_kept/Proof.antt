@@ -1,4 +1,4 @@
--- `image_kept` reads the slot that the version names.
+-- `image_kept` reads the slot that the version names, at the home.
 use borrow.Author.Needs.{needs}
 use Rattle.planning.proofs.image_kept.Statement.{statement}
 use Rattle.planning.proofs.image_kept.Tie as tie
@@ -8,4 +8,5 @@ image-kept-spec = tie.close (tie.spec
     (λ c κs. search needs)
     (λ c κs. search needs)
     (λ c κs. search needs)
-    (λ c. cc))
+    (λ c κs. search needs)
+    (λ c. rw (c .slot .ensures, c .before .named-slot .ensures, c .before .before .home .ensures, c .before .before .before .cabinet .ensures)))

@@ -1,4 +1,4 @@
--- `returned` replaces cabinets and store.
+-- `returned` replaces the cabinets and all slots.
 use borrow.Author.Needs.{needs}
 use Rattle.protocol.specs.Points.{returned}
 use Rattle.planning.proofs.returned.Statement.{statement}
@@ -9,4 +9,6 @@ unfolding returned
 returned-spec = tie.close (tie.spec
     (λ c κs. search needs)
     (λ c κs. search needs)
-    (λ c. rw (c .slots-set .ensures, c .before .images-set .ensures)))
+    (λ c κs. search needs)
+    (λ c κs. search needs)
+    (λ c. rw (c .with-store .ensures, c .before .set-slots .ensures, c .before .before .slots-set .ensures, c .before .before .before .images-set .ensures)))

@@ -1,4 +1,4 @@
--- `cabinet_right` asks its four questions in the definition's order.
+-- `cabinet_right` asks its five questions in the definition's order.
 use borrow.Author.Needs.{needs}
 use Rattle.reading.proofs.cabinet_right.Statement.{statement}
 use Rattle.reading.proofs.cabinet_right.Tie as tie
@@ -13,4 +13,6 @@ cabinet-right-spec = tie.close (tie.spec
     (λ c κs. search needs)
     (λ c κs. search needs)
     (λ c κs. search needs)
-    (λ c. rw (c .and3 .ensures, c .before .store-mark2 .ensures, c .before .before .and2 .ensures, c .before .before .before .and .ensures, c .before .before .before .before .cabinet-count .ensures .0, c .before .before .before .before .before .store-mark .ensures, c .before .before .before .before .before .before .less-one .ensures, c .before .before .before .before .before .before .before .home-of .ensures .0)))
+    (λ c κs. search needs)
+    (λ c κs. search needs)
+    (λ c. rw (c .and4 .ensures, c .before .store-mark2 .ensures, c .before .before .and3 .ensures, c .before .before .before .and2 .ensures, c .before .before .before .before .cabinet-count .ensures .0, c .before .before .before .before .before .and .ensures, c .before .before .before .before .before .before .partner-right .ensures, c .before .before .before .before .before .before .before .store-mark .ensures, c .before .before .before .before .before .before .before .before .less-one .ensures, c .before .before .before .before .before .before .before .before .before .home-of .ensures .0)))

@@ -1,4 +1,4 @@
--- `entry_at`: the header, and eight octets for each entry before.
+-- `entry_at`: the header, and nine octets for each entry before.
 use borrow.Author.Needs.{needs}
 use Rattle.reading.proofs.entry_at.Statement.{statement}
 use Rattle.reading.proofs.entry_at.Tie as tie

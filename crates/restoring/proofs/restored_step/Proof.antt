@@ -7,7 +7,7 @@ use Rattle.restoring.proofs.restored_step.Tie as tie
 
 returns : tie.Need-returns
 unfolding restoredStep
-returns c = rw (c .taken .ensures, c .before .end-if-all .ensures, c .before .before .report-restored .ensures, c .before .before .before .coordinator .ensures, c .before .before .before .before .cabinet .ensures, ← c .before .before .before .before .before .before .restored-refusal .ensures, eq-eqb _ _ (c .before .before .before .before .before .if1 .taken))
+returns c = rw (c .taken .ensures, c .before .end-if-all .ensures, c .before .before .come-back-if-away .ensures, c .before .before .before .report-restored .ensures, c .before .before .before .before .coordinator .ensures, c .before .before .before .before .before .cabinet .ensures, ← c .before .before .before .before .before .before .before .restored-refusal .ensures, eq-eqb _ _ (c .before .before .before .before .before .before .if1 .taken))
 
 returns-2 : tie.Need-returns-2
 unfolding restoredStep
@@ -15,6 +15,7 @@ returns-2 c = rw (c .answering .ensures, ← c .before .before .restored-refusal
 
 pub restored-step-spec : {M : Type 1} → statement M
 restored-step-spec = tie.close (tie.spec
+    (λ c κs. search needs)
     (λ c κs. search needs)
     (λ c κs. search needs)
     (λ c κs. search needs)

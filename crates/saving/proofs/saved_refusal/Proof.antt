@@ -13,4 +13,4 @@ saved-refusal-spec = tie.close (tie.spec
     (λ c κs. search needs)
     (λ c κs. search needs)
     (λ c κs. search needs)
-    (λ c. rw (c .need .ensures, c .before .and .ensures, c .before .before .marked .ensures, c .before .before .before .in-saving .ensures, c .before .before .before .before .state-of .ensures, c .before .before .before .before .before .coordinator .ensures, c .before .before .before .before .before .before .before .cabinet2 .ensures, c .before .before .before .before .before .before .before .before .cabinet .ensures)))
+    (λ c. rw (c .need .ensures, c .before .and .ensures, c .before .before .marked .ensures, c .before .before .before .in-saving .ensures, c .before .before .before .before .state-of .ensures, c .before .before .before .before .before .coordinator .ensures, c .before .before .before .before .before .before .before .cabinet .ensures, c .before .before .before .before .before .before .before .before .home .ensures)))

@@ -7,7 +7,7 @@ use Rattle.saving.proofs.saved_step.Tie as tie
 
 returns : tie.Need-returns
 unfolding savedStep
-returns c = rw (c .taken .ensures, c .before .commit-if-all .ensures, c .before .before .report-saved .ensures, c .before .before .before .coordinator .ensures, c .before .before .before .before .cabinet2 .ensures, c .before .before .before .before .before .cabinet .ensures, ← c .before .before .before .before .before .before .before .saved-refusal .ensures, eq-eqb _ _ (c .before .before .before .before .before .before .if1 .taken))
+returns c = rw (c .taken .ensures, c .before .commit-if-all .ensures, c .before .before .report-saved .ensures, c .before .before .before .coordinator .ensures, c .before .before .before .before .cabinet .ensures, c .before .before .before .before .before .home .ensures, ← c .before .before .before .before .before .before .before .saved-refusal .ensures, eq-eqb _ _ (c .before .before .before .before .before .before .if1 .taken))
 
 returns-2 : tie.Need-returns-2
 unfolding savedStep

@@ -12,4 +12,4 @@ alarmed-spec = tie.close (tie.spec
     (λ c κs. search needs)
     (λ c κs. search needs)
     (λ c κs. search needs)
-    (λ c. rw (c .with-noted .ensures, c .before .with-owed .ensures, c .before .before .with-table .ensures, c .before .before .before .with-phase .ensures, c .before .before .before .before .faulted-at .ensures, c .before .before .before .before .before .fault-noted .ensures, c .before .before .before .before .before .before .is-at .ensures)))
+    (λ c. rw (c .with-noted .ensures, c .before .owing-none .ensures, c .before .before .with-table .ensures, c .before .before .before .with-phase .ensures, c .before .before .before .before .faulted-at .ensures, c .before .before .before .before .before .fault-noted .ensures, c .before .before .before .before .before .before .is-at .ensures)))
