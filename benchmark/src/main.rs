@@ -1,9 +1,12 @@
 //! Measures the proved library beside the reference model, on the same cases in one run: steps per
-//! second by the number of cabinets. A case's time is the least of several runs, which leaves out
-//! what other programs on the machine take.
+//! second and depth of the stack, by the number of cabinets. A case's time is the least of several
+//! runs, which leaves out what other programs on the machine take.
+
+mod stack;
 
 use reference::cases::{case_seed, make_case, Case, Wishes};
 use reference::listing::listing;
+use stack::depth;
 use std::hint::black_box;
 use std::process::ExitCode;
 use std::time::{Duration, Instant};
@@ -48,12 +51,15 @@ fn library_listing(case: &Case, out: &mut [u8]) -> usize {
     }
 }
 
-/// Steps that were run, and the time that they took on either side.
+/// Steps that were run, and on either side the time that they took and the octets of stack that
+/// the deepest listing took.
 #[derive(Clone, Copy, Default)]
 struct Measured {
     steps: usize,
     library: Duration,
     model: Duration,
+    library_stack: usize,
+    model_stack: usize,
 }
 
 impl Measured {
@@ -62,6 +68,8 @@ impl Measured {
             steps: self.steps + other.steps,
             library: self.library + other.library,
             model: self.model + other.model,
+            library_stack: self.library_stack.max(other.library_stack),
+            model_stack: self.model_stack.max(other.model_stack),
         }
     }
 
@@ -69,7 +77,9 @@ impl Measured {
         let speed = |time: Duration| self.steps as f64 / time.as_secs_f64();
         let (library, model) = (speed(self.library), speed(self.model));
         let ratio = library / model;
-        format!("{name:>3}  {:6}  {library:15.0}  {model:15.0}  {ratio:7.4}", self.steps)
+        let speeds = format!("{library:15.0}  {model:15.0}  {ratio:7.4}");
+        let stacks = format!("{:13}  {:11}", self.library_stack, self.model_stack);
+        format!("{name:>3}  {:6}  {speeds}  {stacks}", self.steps)
     }
 }
 
@@ -82,20 +92,26 @@ fn least_time(mut work: impl FnMut()) -> Duration {
     (0..RUNS).map(time).min().unwrap_or_default()
 }
 
-/// The time of one case on either side, if both write the same listing.
+/// The time and depth of one case on either side, if both write the same listing.
 fn measure(case: &Case, out: &mut [u8]) -> Option<Measured> {
     let length = library_listing(case, out);
     let expected = listing(&case.group, &case.steps, HIGHEST_KIND);
     if out.get(..length)? != expected.as_bytes() {
         return None;
     }
-    let library = least_time(|| {
+    let mut run_library = || {
         black_box(library_listing(black_box(case), out));
-    });
-    let model = least_time(|| {
+    };
+    let run_model = || {
         black_box(listing(black_box(&case.group), &case.steps, HIGHEST_KIND));
-    });
-    Some(Measured { steps: case.steps.len().div_ceil(RECORD_LENGTH), library, model })
+    };
+    Some(Measured {
+        steps: case.steps.len().div_ceil(RECORD_LENGTH),
+        library: least_time(&mut run_library),
+        model: least_time(run_model),
+        library_stack: depth(run_library),
+        model_stack: depth(run_model),
+    })
 }
 
 fn measure_all(cabinets: usize, out: &mut [u8]) -> Option<Measured> {
@@ -110,7 +126,7 @@ fn measure_all(cabinets: usize, out: &mut [u8]) -> Option<Measured> {
 fn main() -> ExitCode {
     let mut out = vec![0; TEXT_MOST];
     let mut sum = Measured::default();
-    println!("  n   steps  library steps/s    model steps/s  ratio");
+    println!("  n   steps  library steps/s    model steps/s  ratio    library stack  model stack");
     for cabinets in 2..=8 {
         let Some(measured) = measure_all(cabinets, &mut out) else {
             println!("{cabinets:3}  the listings differ");

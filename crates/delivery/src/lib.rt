@@ -1,63 +1,157 @@
 // The step deliver: the oldest packet of a line is received.
-use group::Group;
-use group::Outcome;
+use cabinet::Cabinet;
 use line::Line;
 use packet::Packet;
+use seat::Seat;
+use seat::Spot;
+use settled::Settled;
 ghost use mathlib.Core.Path.{_≡_};
-ghost use mathlib.Core.Bool.{cond, not};
-ghost use Rattle.marks.specs.Marks.{marked};
-ghost use Rattle.packet.specs.Packet.{isEmpty};
-ghost use Rattle.line.specs.Line.{oldest};
-ghost use Rattle.cabinet.specs.Cabinet.{inUse};
-ghost use Rattle.group.specs.Group.{cabinet, taken};
-ghost use Rattle.protocol.specs.Receive.{receive};
-ghost use Rattle.protocol.specs.Kinds.{need, deliverStep};
+ghost use Rattle.delivery.specs.Delivery.{deliverRefusal, faultIf, crashIf, findingBy, finding, isSignal, takenBy, take, heardBy, hear, wordFrom, wordAfter};
 
-// What b does with a packet from a, taken off the line in g.
-fn receive(before: Group, g: Group, a: u8, b: u8, p: Packet) -> Outcome
-    ensures { λ r. ⌜ r ≡ receive before g a b p ⌝ }
-{
-    match p {
-        Packet::Empty => group::taken(g),
-        Packet::Normal(carried) => linkcheck::receive_normal(before, g, a, b, carried),
-        Packet::Checkp(v) => linkcheck::receive_checkp(before, g, a, b, v),
-        Packet::Resume => signals::receive_resume(g, a, b),
-        Packet::Recover(v) => signals::receive_recover(g, a, b, v),
-        Packet::Fault(place) => signals::receive_fault(before, g, a, b, place),
-        Packet::Invalid => linkcheck::receive_invalid(before, g, a, b),
-    }
+// What is found at a packet: nothing, a link fault, or a second fault, at which the group crashes.
+pub enum Finding {
+    Fine,
+    LinkFault,
+    Crash,
 }
 
-// ---- 4 deliver
-
-fn deliver_refusal(linked: bool, l: Line) -> u8
-    ensures { λ r. ⌜ r ≡ need linked 13 (need (not (isEmpty (oldest l))) 18 0) ⌝ }
+// The packet's line is one of the file's, and holds a packet.
+pub fn deliver_refusal(linked: bool, l: Line) -> u8
+    ensures { λ r. ⌜ r ≡ deliverRefusal linked l ⌝ }
 {
     let some = records::need(!packet::is_empty(l.oldest()), 18, 0);
     records::need(linked, 13, some)
 }
 
-// The packet p is off the line in h. Over a link struck at b it is dropped.
-fn delivered(g: Group, h: Group, a: u8, b: u8, p: Packet) -> Outcome
-    ensures { λ r. ⌜ r ≡ cond (marked (inUse (cabinet g b)) a) (receive g h a b p) (taken h) ⌝ }
+fn fault_if(found: bool) -> Finding
+    ensures { λ r. ⌜ r ≡ faultIf found ⌝ }
 {
-    if marks::marked(g.cabinet(b).in_use(), a) {
-        receive(g, h, a, b, p)
+    if found {
+        Finding::LinkFault
     } else {
-        group::taken(h)
+        Finding::Fine
     }
 }
 
-pub fn deliver_step(g: Group, a: u8, b: u8) -> Outcome
-    ensures { λ r. ⌜ r ≡ deliverStep g a b ⌝ }
+fn crash_if(found: bool) -> Finding
+    ensures { λ r. ⌜ r ≡ crashIf found ⌝ }
 {
-    let o = g.outgoing(a);
-    let l = o.line_to(b);
-    let k = deliver_refusal(marks::is_linked(g.link_rows(), a, b), l);
-    if k == 0 {
-        let h = g.with_outgoing(a, o.with_line_to(b, l.rest()));
-        delivered(g, h, a, b, l.oldest())
+    if found { Finding::Crash } else { Finding::Fine }
+}
+
+fn finding_by(c: Cabinet, a: u8, p: Packet) -> Finding
+    ensures { λ r. ⌜ r ≡ findingBy c a p ⌝ }
+{
+    match p {
+        Packet::Empty => Finding::Fine,
+        Packet::Normal(carried) => fault_if(linkcheck::normal_faulty(c, a, carried)),
+        Packet::Checkp(v) => fault_if(linkcheck::checkp_faulty(c, a, v)),
+        Packet::Resume => Finding::Fine,
+        Packet::Recover(_) => Finding::Fine,
+        Packet::Fault(place) => crash_if(signals::fault_crashes(c, place)),
+        Packet::Invalid => fault_if(linkcheck::invalid_faulty(c)),
+    }
+}
+
+// What cabinet c finds at a packet from a: nothing over a link that is struck.
+pub fn finds(c: Cabinet, a: u8, p: Packet) -> Finding
+    ensures { λ r. ⌜ r ≡ finding c a p ⌝ }
+{
+    if marks::marked(c.in_use(), a) {
+        finding_by(c, a, p)
     } else {
-        group::answering(k, g)
+        Finding::Fine
+    }
+}
+
+// It makes its receiver put packets on lines of its own, or may.
+pub fn is_signal(p: Packet) -> bool
+    ensures { λ r. ⌜ r ≡ isSignal p ⌝ }
+{
+    match p {
+        Packet::Empty => false,
+        Packet::Normal(_) => false,
+        Packet::Checkp(_) => true,
+        Packet::Resume => true,
+        Packet::Recover(_) => true,
+        Packet::Fault(_) => true,
+        Packet::Invalid => false,
+    }
+}
+
+fn taken_by(c: Cabinet, a: u8, p: Packet) -> Cabinet
+    ensures { λ r. ⌜ r ≡ takenBy c a p ⌝ }
+{
+    match p {
+        Packet::Empty => c,
+        Packet::Normal(carried) => linkcheck::normal_taken(c, a, carried),
+        Packet::Checkp(_) => c,
+        Packet::Resume => c,
+        Packet::Recover(_) => c,
+        Packet::Fault(_) => c,
+        Packet::Invalid => c,
+    }
+}
+
+// What cabinet c does with a packet from a that is no signal, the oldest of line l. Over a link struck at c it is dropped.
+pub fn take(c: Cabinet, l: Line, a: u8) -> Spot
+    ensures { λ r. ⌜ r ≡ take c l a ⌝ }
+{
+    let left = l.rest();
+    if marks::marked(c.in_use(), a) {
+        seat::spotted(0, taken_by(c, a, l.oldest()), left)
+    } else {
+        seat::spotted(0, c, left)
+    }
+}
+
+fn heard_by(s: Seat, a: u8, b: u8, p: Packet) -> Seat
+    ensures { λ r. ⌜ r ≡ heardBy s a b p ⌝ }
+{
+    match p {
+        Packet::Empty => s,
+        Packet::Normal(_) => s,
+        Packet::Checkp(_) => linkcheck::checkp_taken(s, a),
+        Packet::Resume => signals::resume_taken(s, a, b),
+        Packet::Recover(v) => signals::recover_taken(s, a, v),
+        Packet::Fault(place) => signals::fault_taken(s, a, b, place),
+        Packet::Invalid => s,
+    }
+}
+
+// What cabinet b does with a signal from a; it is dropped as another packet is.
+pub fn hear(s: Seat, a: u8, b: u8, p: Packet) -> Seat
+    ensures { λ r. ⌜ r ≡ hear s a b p ⌝ }
+{
+    let c = s.cabinet;
+    if marks::marked(c.in_use(), a) {
+        heard_by(s, a, b, p)
+    } else {
+        s
+    }
+}
+
+fn word_from(settled: Settled, c: Cabinet, b: u8, p: Packet) -> Settled
+    ensures { λ r. ⌜ r ≡ wordFrom settled c b p ⌝ }
+{
+    match p {
+        Packet::Empty => settled,
+        Packet::Normal(_) => settled,
+        Packet::Checkp(_) => settled,
+        Packet::Resume => settled,
+        Packet::Recover(_) => settled,
+        Packet::Fault(_) => signals::fault_word(settled, c, b),
+        Packet::Invalid => settled,
+    }
+}
+
+// Which word settles the recovery then; cabinet b is c before it.
+pub fn word_after(settled: Settled, c: Cabinet, a: u8, b: u8, p: Packet) -> Settled
+    ensures { λ r. ⌜ r ≡ wordAfter settled c a b p ⌝ }
+{
+    if marks::marked(c.in_use(), a) {
+        word_from(settled, c, b, p)
+    } else {
+        settled
     }
 }

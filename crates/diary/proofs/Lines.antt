@@ -11,7 +11,7 @@ use lib.Seq.{drop-drop, getD-take, getD-drop, take-all}
 use Rattle.protocol.specs.Listing.{Text, stepWord, answerLine, parts}
 use Rattle.protocol.specs.Evening.{pointWord, returnWord, wordOf, planLines, planRecords}
 use Rattle.buffer.proofs.Digits.{at-most}
-use Rattle.replay.proofs.Records.{some-part, enough, at-most as parts-at-most}
+use Rattle.steps.proofs.Records.{some-part, enough, at-most as parts-at-most}
 
 -- ---- one record more
 

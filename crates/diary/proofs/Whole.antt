@@ -1,5 +1,6 @@
 -- The whole text, by the answer of the load, and demand 3 of the run that it is about.
 use Prim.Native.Nat.{ℕ, _+_, _*_, _≤_, min}
+use mathlib.Core.Bool.{true}
 use mathlib.Core.Path.{_≡_, sym, ap, subst, _∙_}
 use mathlib.Core.List.{List, _++_}
 use native.Mathlib.Omega.{arith}
@@ -13,10 +14,10 @@ use Rattle.protocol.specs.Evening.{operateAll, answersTo, operations, planRecor
 use Rattle.buffer.specs.Written.{Written}
 use Rattle.buffer.proofs.Texts.{then}
 use Rattle.replay.specs.Replay.{atFirst, replayed, answersOf, EndsWell}
-use Rattle.replay.proofs.Records.{at-most}
+use Rattle.steps.proofs.Records.{at-most}
 use Rattle.replay.proofs.Moments.{answer-of, loaded, unloaded, group-of}
 use Rattle.plans.specs.Plans.{operationsIn}
-use Rattle.plans.proofs.Operations.{each-said}
+use Rattle.steps.proofs.Operations.{each-said}
 use Rattle.report.proofs.Lines.{load-length, cabs-length}
 use Rattle.report.proofs.Whole.{the-parts, exactly}
 use Rattle.diary.proofs.Lines.{the-first, lines-length}
@@ -39,7 +40,7 @@ module _ (file list : List ℕ) {used : ℕ} (u : used ≡ min (length list) 900
         → planLines 1 (planRecords (length (take used list)) (take used list)) answers ≡ planLines 1 rs (answersTo first (operations rs))
     told {answers} room l s =
         let said : List ℕ = answersTo first (operations rs) in
-        let n : length said ≡ length rs = each-said rs first in
+        let n : length said ≡ length rs = each-said true rs first in
         let a : answers ≡ sets room 0 said =
         s ∙ ap (λ (r : List (List ℕ)). sets room 0 (answersOf file (operations r))) these ∙ rw (loaded file (operations rs) run-of z) in
         let r : length room ≡ 10000 = sym (ap length a ∙ length-sets room 0 said) ∙ l in

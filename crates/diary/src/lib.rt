@@ -35,7 +35,7 @@ pub fn write_evening(file: &[u8], list: &[u8], out: &mut [u8]) -> usize
     ensures { λ r. ⌜ r ≤ 201220 ⌝ }
     ensures { λ r. ⌜ (load (now (file .entry)) .answer ≡ 0 → EndsWell (now (file .entry)) (operations (planRecords 10000 (now (list .entry))))) ⌝ }
 {
-    let used = replay::least(list.len(), 90000);
+    let used = steps::least(list.len(), 90000);
     let mut answers = [0u8; 10000];
     let o = plans::replay_plan(file, &list[..used], &mut answers);
     if o.answer == 0 {

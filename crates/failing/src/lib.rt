@@ -1,17 +1,24 @@
 // The steps fail and trip: a cabinet fails, or trips and restarts, and its neighbours enter error.
+use cabinet::Cabinet;
 use group::Group;
 use group::Outcome;
 use line::Line;
 use outgoing::Outgoing;
 use packet::Place;
+use seat::Seat;
+use settled::Settled;
 use state::State;
 ghost use mathlib.Core.Path.{_≡_};
-ghost use mathlib.Core.Bool.{false, not, _||_};
+ghost use mathlib.Core.Bool.{false, not, cond, _&&_, _||_};
 ghost use lib.ListN.{set};
+ghost use Rattle.marks.specs.Marks.{marked};
 ghost use Rattle.marks.specs.Reach.{connected};
+ghost use Rattle.state.specs.State.{works};
+ghost use Rattle.cabinet.specs.Cabinet.{inUse};
 ghost use Rattle.store.specs.Store.{isLast};
 ghost use Rattle.group.specs.Group.{rowsOf, some, working, recoveringOnes};
-ghost use Rattle.protocol.specs.Moves.{enterErrorIf, emptiedTo, passReports, leave, markFailed, trip, neighbours, alarmTo};
+ghost use Rattle.protocol.specs.Moves.{emptiedTo, passReports, leave, markFailed, trip, alarmTo};
+ghost use Rattle.moves.specs.Seats.{enterError, wordBy};
 ghost use Rattle.protocol.specs.Kinds.{failCrashes, failStep, tripCrashes, tripOnce, tripStep};
 
 // The lines to cabinet a are emptied.
@@ -19,9 +26,11 @@ fn emptied(g: Group, a: u8) -> Group
     ensures { λ r. ⌜ r ≡ emptiedTo 8 g a ⌝ }
 {
     let mut h = g;
-    let mut i: u8 = 0;
+    let mut i = 0;
     while i < 8 {
-        h = h.with_line(i, a, Line::empty());
+        let o = h.outgoing[i];
+        let left = o.with_line_to(a, Line::empty());
+        h.outgoing[i] = left;
         i += 1;
     }
     h
@@ -57,25 +66,36 @@ fn trip(g: Group, a: u8) -> Group
     ensures { λ r. ⌜ r ≡ trip g a ⌝ }
 {
     let h = g.with_cabinet(a, g.cabinet(a).blanked());
-    emptied(moves::enter_error(h, a, Place::Tripped(a)), a)
+    emptied(moves::alarm(h, a, Place::Tripped(a)), a)
 }
 
-fn enter_error_if(asked: bool, g: Group, i: u8, p: Place) -> Group
-    ensures { λ r. ⌜ r ≡ enterErrorIf asked g i p ⌝ }
+fn enter_error_if(asked: bool, s: Seat, i: u8, p: Place) -> Seat
+    ensures { λ r. ⌜ r ≡ cond asked (enterError s i p) s ⌝ }
 {
     if asked {
-        moves::enter_error(g, i, p)
+        moves::enter_error(s, i, p)
     } else {
-        g
+        s
     }
 }
 
-// Cabinet i works and has a link to a in use.
-fn is_neighbour(g: Group, i: u8, a: u8) -> bool
-    ensures { λ r. ⌜ r ≡ neighbours g i a ⌝ }
+fn word_if(asked: bool, settled: Settled, c: Cabinet, i: u8) -> Settled
+    ensures { λ r. ⌜ r ≡ cond asked (wordBy settled c i) settled ⌝ }
 {
-    let works = state::works(g.state_of(i));
-    marks::and(works, marks::marked(g.cabinet(i).in_use(), a))
+    if asked {
+        moves::word_by(settled, c, i)
+    } else {
+        settled
+    }
+}
+
+// A cabinet that works and has a link to a in use.
+fn is_neighbour(c: Cabinet, a: u8) -> bool
+    ensures { λ r. ⌜ r ≡ works (c .phase .state) && marked (inUse c) a ⌝ }
+{
+    let phase = c.phase;
+    let state = phase.state;
+    marks::and(state::works(state), marks::marked(c.in_use(), a))
 }
 
 // All neighbours of cabinet a, which failed or tripped, enter error.
@@ -83,12 +103,30 @@ fn alarm_neighbours(g: Group, a: u8, p: Place) -> Group
     ensures { λ r. ⌜ r ≡ alarmTo 8 g a p ⌝ }
 {
     let mut h = g;
+    let mut settled = g.settled;
     let mut i: u8 = 0;
     while i < 8 {
-        h = enter_error_if(is_neighbour(g, i, a), h, i, p);
+        let k = i as usize;
+        let c = h.cabinets[k];
+        let o = h.outgoing[k];
+        let asked = is_neighbour(c, a);
+        let s = enter_error_if(
+            asked,
+            Seat {
+                cabinet: c,
+                lines: o,
+            },
+            i,
+            p,
+        );
+        let left = s.cabinet;
+        let lines = s.lines;
+        h.cabinets[k] = left;
+        h.outgoing[k] = lines;
+        settled = word_if(asked, settled, c, i);
         i += 1;
     }
-    h
+    h.with_settled(settled)
 }
 
 // ---- what crashes the group
@@ -106,10 +144,9 @@ fn crashes(g: Group, a: u8, cut: bool) -> bool
     ensures { λ r. ⌜ r ≡ isLast (g .store) a || (some (recoveringOnes g) || cut) ⌝ }
 {
     let store = g.store;
-    marks::or(
-        store.is_last(a),
-        marks::or(survey::some(survey::recovering_ones(g)), cut),
-    )
+    let cs = g.cabinets;
+    let recovers = survey::any_recovering(cs);
+    marks::or(store.is_last(a), marks::or(recovers, cut))
 }
 
 // ---- 10 fail

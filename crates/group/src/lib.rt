@@ -5,16 +5,13 @@ use image::Image;
 use line::Line;
 use outgoing::Outgoing;
 use packet::PacketVersion;
-use settled::Reason;
 use settled::Settled;
 use state::State;
 use store::Store;
 ghost use mathlib.Core.Path.{_≡_};
-ghost use mathlib.Core.Bool.{cond};
 ghost use Prim.Native.Nat.{_<_};
 ghost use lib.ListN.{getD};
-ghost use Rattle.outgoing.specs.Lines.{emptyLines};
-ghost use Rattle.group.specs.Group.{cabinet, withCabinet, stateOf, outgoing, withOutgoing, line, withLine, withStore, home, slot, noRow, rowsOf, rowAt, ofRows, withSound, tripsOf, withTripsOf, forgetTrips, withSettled, settle, settleOver, answering, taken};
+ghost use Rattle.group.specs.Group.{cabinet, withCabinet, stateOf, outgoing, withOutgoing, line, withLine, withStore, home, slot, noRow, rowsOf, rowAt, ofRows, withSound, tripsOf, withTripsOf, withSettled, settleOver, answering, taken};
 
 // One row of eight marks for a cabinet: its links.
 pub struct Row {
@@ -170,13 +167,6 @@ impl Group {
         self.with_outgoing(a, o.with_line_to(b, l))
     }
 
-    pub fn link_rows(self) -> [[bool; 8]; 8]
-        ensures { λ r. ⌜ r ≡ rowsOf (self .links) ⌝ }
-    {
-        let rows = self.links;
-        rows_of(rows)
-    }
-
     pub fn sound_rows(self) -> [[bool; 8]; 8]
         ensures { λ r. ⌜ r ≡ rowsOf (self .sound) ⌝ }
     {
@@ -236,15 +226,7 @@ impl Group {
         g
     }
 
-    pub fn forget_trips(self) -> Group
-        ensures { λ r. ⌜ r ≡ forgetTrips self ⌝ }
-    {
-        let mut g = self;
-        g.trips = [0; 8];
-        g
-    }
-
-    fn with_settled(self, s: Settled) -> Group
+    pub fn with_settled(self, s: Settled) -> Group
         ensures { λ g. ⌜ g ≡ withSettled self s ⌝ }
     {
         let cabinets = self.cabinets;
@@ -265,14 +247,6 @@ impl Group {
             packets: packets,
             settled: s,
         }
-    }
-
-    // Cabinet i enters recovering by its own word.
-    pub fn settle(self, i: u8, r: Reason) -> Group
-        ensures { λ g. ⌜ g ≡ settle self i r ⌝ }
-    {
-        let before = self.settled;
-        self.with_settled(before.enters(i, r))
     }
 
     // The recovery ends.

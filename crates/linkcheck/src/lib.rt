@@ -4,18 +4,23 @@ use group::Group;
 use group::Outcome;
 use packet::Check;
 use packet::Payload;
+use seat::Seat;
 use state::State;
 ghost use mathlib.Core.Path.{_≡_};
-ghost use Rattle.protocol.specs.Moves.{takeCheckp, findLinkFault};
-ghost use Rattle.protocol.specs.Receive.{takesFrom, takes, receiveNormal, joinIf, receiveCheckp, receiveInvalid};
+ghost use Rattle.protocol.specs.Receive.{takesFrom, takes};
+ghost use Rattle.linkcheck.specs.Linkcheck.{linkFault, normalFaulty, normalTaken, compares, checkpFaulty, takeCheckp, joinIf, checkpTaken, invalidFaulty};
 
-// A link fault found at b on the link from a. A crash starts from the group before the step.
-fn find_link_fault(before: Group, g: Group, a: u8, b: u8) -> Outcome
-    ensures { λ r. ⌜ r ≡ findLinkFault before g a b ⌝ }
+// ---- a link fault
+
+// A link fault found at b on the link from a, at the packet that is oldest there. A crash starts from the group before the step.
+pub fn link_fault(before: Group, a: u8, b: u8) -> Outcome
+    ensures { λ r. ⌜ r ≡ linkFault before a b ⌝ }
 {
-    let rows = marks::struck(g.sound_rows(), a, b);
-    if marks::connected(rows, survey::working(g)) {
-        group::taken(moves::enter_error(g.with_sound(rows), b, packet::link_place(a, b)))
+    let rows = marks::struck(before.sound_rows(), a, b);
+    if marks::connected(rows, survey::working(before)) {
+        let left = before.line(a, b).rest();
+        let g = before.with_line(a, b, left).with_sound(rows);
+        group::taken(moves::alarm(g, b, packet::link_place(a, b)))
     } else {
         survey::crashed(before)
     }
@@ -45,67 +50,79 @@ fn takes(c: Cabinet, a: u8, p: Payload) -> bool
     marks::and(takes_from(c, a), fit)
 }
 
-pub fn receive_normal(before: Group, g: Group, a: u8, b: u8, p: Payload) -> Outcome
-    ensures { λ r. ⌜ r ≡ receiveNormal before g a b p ⌝ }
+// One that is not taken is a link fault, but for a cabinet in recovery, which drops it.
+pub fn normal_faulty(c: Cabinet, a: u8, p: Payload) -> bool
+    ensures { λ r. ⌜ r ≡ normalFaulty c a p ⌝ }
 {
-    let c = g.cabinet(b);
     let phase = c.phase;
     let s = phase.state;
-    if takes(c, a, p) {
-        group::taken(g.with_cabinet(b, c.taking(a, p)))
-    } else {
-        if moves::serving(s) {
-            find_link_fault(before, g, a, b)
-        } else {
-            group::taken(g)
-        }
-    }
+    marks::and(!takes(c, a, p), moves::serving(s))
+}
+
+pub fn normal_taken(c: Cabinet, a: u8, p: Payload) -> Cabinet
+    ensures { λ r. ⌜ r ≡ normalTaken c a p ⌝ }
+{
+    if takes(c, a, p) { c.taking(a, p) } else { c }
 }
 
 // ---- a checkp
 
-// An equal comparison of b with the checkp from a.
-fn take_checkp(g: Group, a: u8, b: u8) -> Group
-    ensures { λ r. ⌜ r ≡ takeCheckp g a b ⌝ }
+// The states in which every checkp is compared.
+fn compares(s: State) -> bool
+    ensures { λ r. ⌜ r ≡ compares s ⌝ }
 {
-    let c = g.cabinet(b).comparing(a);
-    g.with_cabinet(b, c.cutting())
+    marks::or(
+        state::is_in(s, State::Normal),
+        state::is_in(s, State::CheckpBegin),
+    )
 }
 
-fn join_if(asked: bool, g: Group, b: u8) -> Group
-    ensures { λ r. ⌜ r ≡ joinIf asked g b ⌝ }
+pub fn checkp_faulty(c: Cabinet, a: u8, v: Check) -> bool
+    ensures { λ r. ⌜ r ≡ checkpFaulty c a v ⌝ }
 {
-    if asked { moves::join(g, b) } else { g }
-}
-
-pub fn receive_checkp(before: Group, g: Group, a: u8, b: u8, v: Check) -> Outcome
-    ensures { λ r. ⌜ r ≡ receiveCheckp before g a b v ⌝ }
-{
-    let c = g.cabinet(b);
     let phase = c.phase;
     let s = phase.state;
-    let normal = state::is_in(s, State::Normal);
-    if marks::or(normal, state::is_in(s, State::CheckpBegin)) {
-        let registers = c.registers;
-        let taken = registers.taken;
-        if v.same(registers::check_at(taken, a)) {
-            group::taken(take_checkp(join_if(normal, g, b), a, b))
-        } else {
-            find_link_fault(before, g, a, b)
-        }
+    let registers = c.registers;
+    let taken = registers.taken;
+    let unequal = !v.same(registers::check_at(taken, a));
+    marks::and(compares(s), unequal)
+}
+
+// An equal comparison with the checkp from a.
+fn take_checkp(s: Seat, a: u8) -> Seat
+    ensures { λ r. ⌜ r ≡ takeCheckp s a ⌝ }
+{
+    let c = s.cabinet;
+    let compared = c.comparing(a);
+    s.with_cabinet(compared.cutting())
+}
+
+fn join_if(asked: bool, s: Seat) -> Seat
+    ensures { λ r. ⌜ r ≡ joinIf asked s ⌝ }
+{
+    if asked { moves::join(s) } else { s }
+}
+
+// A checkp that is not faulty: compared and equal, or dropped.
+pub fn checkp_taken(s: Seat, a: u8) -> Seat
+    ensures { λ r. ⌜ r ≡ checkpTaken s a ⌝ }
+{
+    let c = s.cabinet;
+    let phase = c.phase;
+    let state = phase.state;
+    if compares(state) {
+        take_checkp(join_if(state::is_in(state, State::Normal), s), a)
     } else {
-        group::taken(g)
+        s
     }
 }
 
 // ---- an invalid packet
 
-pub fn receive_invalid(before: Group, g: Group, a: u8, b: u8) -> Outcome
-    ensures { λ r. ⌜ r ≡ receiveInvalid before g a b ⌝ }
+pub fn invalid_faulty(c: Cabinet) -> bool
+    ensures { λ r. ⌜ r ≡ invalidFaulty c ⌝ }
 {
-    if moves::serving(g.state_of(b)) {
-        find_link_fault(before, g, a, b)
-    } else {
-        group::taken(g)
-    }
+    let phase = c.phase;
+    let s = phase.state;
+    moves::serving(s)
 }

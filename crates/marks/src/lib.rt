@@ -163,17 +163,6 @@ pub fn next_up(marks: [bool; 8], x: u8) -> u8
     or_lowest(lowest(both(marks, above(x))), marks)
 }
 
-// The row of cabinet a has a mark for b; none is past the eighth.
-pub fn is_linked(rows: [[bool; 8]; 8], a: u8, b: u8) -> bool
-    ensures { λ r. ⌜ r ≡ mark rows a b ⌝ }
-{
-    if a < 8 {
-        marked(rows[a as usize], b)
-    } else {
-        false
-    }
-}
-
 // The rows with i's mark for j cleared.
 fn cleared(rows: [[bool; 8]; 8], i: u8, j: u8) -> [[bool; 8]; 8]
     ensures { λ r. ⌜ r ≡ cleared rows i j ⌝ }

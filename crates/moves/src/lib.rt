@@ -1,16 +1,18 @@
-// The moves of one cabinet that the kinds of step are made of, each promised equal to its definition in protocol.
-use cabinet::Alarm;
+// The moves of one cabinet that the kinds of step are made of, each on the cabinet and its outgoing lines.
 use cabinet::Cabinet;
 use group::Group;
 use outgoing::Outgoing;
 use packet::Packet;
 use packet::Place;
+use seat::Seat;
 use settled::Reason;
+use settled::Settled;
 use state::State;
 use state::Version;
 ghost use mathlib.Core.Path.{_≡_};
-ghost use Rattle.protocol.specs.Moves.{broadcast, join, cutIfAll, resumeWith, commit, recoverWith, recoverIfKnown, raise, reasonFor, enterError, endRecovery, noteAt, noteFor, noteLost};
+ghost use Rattle.protocol.specs.Moves.{reasonFor, enterError as groupEntersError};
 ghost use Rattle.protocol.specs.Receive.{serving};
+ghost use Rattle.moves.specs.Seats.{broadcast, join, cutIfAll, resumeWith, commit, recoverWith, recoverIfKnown, raise, enterError, wordBy, endRecovery};
 
 // In normal or in one of the three saving states.
 pub fn serving(s: State) -> bool
@@ -20,83 +22,90 @@ pub fn serving(s: State) -> bool
     marks::or(state::is_in(s, State::Normal), begun)
 }
 
-// A packet on all lines in use of cabinet i.
-fn broadcast(g: Group, i: u8, p: Packet) -> Group
-    ensures { λ r. ⌜ r ≡ broadcast g i p ⌝ }
+// A packet on all lines in use.
+fn broadcast(s: Seat, p: Packet) -> Seat
+    ensures { λ r. ⌜ r ≡ broadcast s p ⌝ }
 {
-    let marks = g.cabinet(i).in_use();
-    g.with_outgoing(i, g.outgoing(i).put_all(marks, p))
+    let c = s.cabinet;
+    let o = s.lines;
+    s.with_lines(o.put_all(c.in_use(), p))
 }
 
 // ---- saving
 
-// Cabinet i enters checkp-begin and puts checkp on all lines in use.
-pub fn join(g: Group, i: u8) -> Group
-    ensures { λ r. ⌜ r ≡ join g i ⌝ }
+// The cabinet enters checkp-begin and puts checkp on all lines in use.
+pub fn join(s: Seat) -> Seat
+    ensures { λ r. ⌜ r ≡ join s ⌝ }
 {
-    let c = g.cabinet(i);
+    let c = s.cabinet;
+    let o = s.lines;
     let registers = c.registers;
     let sent = registers.sent;
-    let o = g.outgoing(i).put_checkps(c.in_use(), sent);
-    g.with_outgoing(i, o).with_cabinet(i, c.beginning())
+    let begun = s.with_cabinet(c.beginning());
+    begun.with_lines(o.put_checkps(c.in_use(), sent))
 }
 
-pub fn cut_if_all(g: Group, i: u8) -> Group
-    ensures { λ r. ⌜ r ≡ cutIfAll g i ⌝ }
+pub fn cut_if_all(s: Seat) -> Seat
+    ensures { λ r. ⌜ r ≡ cutIfAll s ⌝ }
 {
-    g.with_cabinet(i, g.cabinet(i).cutting())
+    let c = s.cabinet;
+    s.with_cabinet(c.cutting())
 }
 
-// Cabinet i enters normal with a version and puts resume on all lines in use.
-fn resume_with(g: Group, i: u8, v: Version) -> Group
-    ensures { λ r. ⌜ r ≡ resumeWith g i v ⌝ }
+// It enters normal with a version and puts resume on all lines in use.
+fn resume_with(s: Seat, v: Version) -> Seat
+    ensures { λ r. ⌜ r ≡ resumeWith s v ⌝ }
 {
-    broadcast(
-        g.with_cabinet(i, g.cabinet(i).resuming(v)),
-        i,
-        Packet::Resume,
-    )
+    let c = s.cabinet;
+    broadcast(s.with_cabinet(c.resuming(v)), Packet::Resume)
 }
 
-// The coordinator commits; no trip before it counts any more.
-pub fn commit(g: Group, k: u8) -> Group
-    ensures { λ r. ⌜ r ≡ commit g k ⌝ }
+// The coordinator commits.
+pub fn commit(s: Seat) -> Seat
+    ensures { λ r. ⌜ r ≡ commit s ⌝ }
 {
-    let phase = g.cabinet(k).phase;
+    let c = s.cabinet;
+    let phase = c.phase;
     let v = phase.version;
-    resume_with(g, k, state::flipped(v)).forget_trips()
+    resume_with(s, state::flipped(v))
 }
 
 // ---- recovering
 
-// Cabinet i goes on with a known version: it puts recover and enters recovering.
-pub fn recover_with(g: Group, i: u8, v: bool) -> Group
-    ensures { λ r. ⌜ r ≡ recoverWith g i v ⌝ }
+// It goes on with a known version: it puts recover and enters recovering.
+pub fn recover_with(s: Seat, v: bool) -> Seat
+    ensures { λ r. ⌜ r ≡ recoverWith s v ⌝ }
 {
-    broadcast(
-        g.with_cabinet(i, g.cabinet(i).recovering(v)),
-        i,
-        Packet::Recover(v),
-    )
+    let c = s.cabinet;
+    broadcast(s.with_cabinet(c.recovering(v)), Packet::Recover(v))
 }
 
-// By this word of its own cabinet i may settle the recovery.
-fn recover_if_known(g: Group, i: u8, v: Version, reason: Reason) -> Group
-    ensures { λ r. ⌜ r ≡ recoverIfKnown g i v reason ⌝ }
+fn recover_if_known(s: Seat, v: Version) -> Seat
+    ensures { λ r. ⌜ r ≡ recoverIfKnown s v ⌝ }
 {
     match v {
-        Version::Known(bit) => recover_with(g, i, bit).settle(i, reason),
-        Version::Unknown(_) => g,
-        Version::Lost => g,
+        Version::Known(bit) => recover_with(s, bit),
+        Version::Unknown(_) => s,
+        Version::Lost => s,
     }
 }
 
 // Cabinet i strikes the place, empties its lines, forgets, and puts fault.
-fn raise(g: Group, i: u8, p: Place) -> Group
-    ensures { λ r. ⌜ r ≡ raise g i p ⌝ }
+fn raise(s: Seat, i: u8, p: Place) -> Seat
+    ensures { λ r. ⌜ r ≡ raise s i p ⌝ }
 {
-    let h = g.with_cabinet(i, g.cabinet(i).alarmed(i, p));
-    broadcast(h.with_outgoing(i, Outgoing::empty()), i, Packet::Fault(p))
+    let c = s.cabinet;
+    let struck = s.with_cabinet(c.alarmed(i, p));
+    broadcast(struck.with_lines(Outgoing::empty()), Packet::Fault(p))
+}
+
+pub fn enter_error(s: Seat, i: u8, p: Place) -> Seat
+    ensures { λ r. ⌜ r ≡ enterError s i p ⌝ }
+{
+    let c = s.cabinet;
+    let phase = c.phase;
+    let v = phase.version;
+    recover_if_known(raise(s, i, p), v)
 }
 
 // Why cabinet i could go on, as it is before it enters error.
@@ -108,49 +117,34 @@ fn reason_for(c: Cabinet, i: u8) -> Reason
     settled::reason_of(c.coordinator() == i, state)
 }
 
-pub fn enter_error(g: Group, i: u8, p: Place) -> Group
-    ensures { λ r. ⌜ r ≡ enterError g i p ⌝ }
+// Which word settles the recovery, once cabinet i, which is c before it, enters error: its own may where it knows its version.
+pub fn word_by(settled: Settled, c: Cabinet, i: u8) -> Settled
+    ensures { λ r. ⌜ r ≡ wordBy settled c i ⌝ }
 {
-    let c = g.cabinet(i);
+    let phase = c.phase;
+    let version = phase.version;
+    match version {
+        Version::Known(_) => settled.enters(i, reason_for(c, i)),
+        Version::Unknown(_) => settled,
+        Version::Lost => settled,
+    }
+}
+
+// Cabinet i of a group enters error.
+pub fn alarm(g: Group, i: u8, p: Place) -> Group
+    ensures { λ r. ⌜ r ≡ groupEntersError g i p ⌝ }
+{
+    let s = seat::taken_out(g, i);
+    let c = s.cabinet;
+    let before = g.settled;
+    seat::stored(g, i, enter_error(s, i, p)).with_settled(word_by(before, c, i))
+}
+
+pub fn end_recovery(s: Seat) -> Seat
+    ensures { λ r. ⌜ r ≡ endRecovery s ⌝ }
+{
+    let c = s.cabinet;
     let phase = c.phase;
     let v = phase.version;
-    recover_if_known(raise(g, i, p), i, v, reason_for(c, i))
-}
-
-pub fn end_recovery(g: Group, i: u8) -> Group
-    ensures { λ r. ⌜ r ≡ endRecovery g i ⌝ }
-{
-    let phase = g.cabinet(i).phase;
-    let v = phase.version;
-    resume_with(g, i, v)
-}
-
-// A failed cabinet's version, which no rule reads any more, notes the slot that its image is in.
-fn note_at(place: Place, g: Group, v: Version) -> Group
-    ensures { λ r. ⌜ r ≡ noteAt place g v ⌝ }
-{
-    match place {
-        Place::Failed(x) => g.with_cabinet(x, g.cabinet(x).with_version(v)),
-        Place::Tripped(_) => g,
-        Place::Link(_, _) => g,
-    }
-}
-
-fn note_for(alarm: Alarm, g: Group, v: Version) -> Group
-    ensures { λ r. ⌜ r ≡ noteFor alarm g v ⌝ }
-{
-    match alarm {
-        Alarm::Quiet => g,
-        Alarm::Fault(place) => note_at(place, g, v),
-    }
-}
-
-// The cabinet that k recovers from the fail of, if it is one, has k's version noted.
-pub fn note_lost(g: Group, k: u8) -> Group
-    ensures { λ r. ⌜ r ≡ noteLost g k ⌝ }
-{
-    let phase = g.cabinet(k).phase;
-    let alarm = phase.alarm;
-    let v = phase.version;
-    note_for(alarm, g, v)
+    resume_with(s, v)
 }

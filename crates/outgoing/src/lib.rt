@@ -5,11 +5,19 @@ use packet::Check;
 use packet::Packet;
 ghost use mathlib.Core.Path.{_≡_};
 ghost use Prim.Native.Nat.{_<_};
-ghost use Rattle.outgoing.specs.Lines.{emptyLines, lineTo, withLineTo, isLaden, laden, putIf, putRowTo, putAll, checkpCell, checkps, putCheckps};
+ghost use mathlib.Core.Bool.{cond};
+ghost use Rattle.line.specs.Line.{put};
+ghost use Rattle.outgoing.specs.Lines.{emptyLines, lineTo, withLineTo, isLaden, laden, putRowTo, putAll, checkpCell, checkps, putCheckps};
 
 // A cabinet's eight outgoing lines.
 pub struct Outgoing {
     pub lines: [Line; 8],
+}
+
+fn put_if(asked: bool, l: Line, p: Packet) -> Line
+    ensures { λ r. ⌜ r ≡ cond asked (put l p) l ⌝ }
+{
+    if asked { l.put(p) } else { l }
 }
 
 impl Outgoing {
@@ -60,27 +68,18 @@ impl Outgoing {
         ]
     }
 
-    fn put_if(self, asked: bool, j: u8, p: Packet) -> Outgoing
-        ensures { λ r. ⌜ r ≡ putIf asked self j p ⌝ }
-    {
-        if asked {
-            self.with_line_to(j, self.line_to(j).put(p))
-        } else {
-            self
-        }
-    }
-
     // On each marked line its packet of the row.
     fn put_row(self, marks: [bool; 8], row: [Cell; 8]) -> Outgoing
         ensures { λ r. ⌜ r ≡ putRowTo 8 marks row self ⌝ }
     {
         let mut o = self;
-        let mut j: u8 = 0;
+        let mut j = 0;
         while j < 8 {
-            let k = j as usize;
-            let c = row[k];
+            let c = row[j];
             let p = c.packet;
-            o = o.put_if(marks[k], j, p);
+            let l = o.lines[j];
+            let left = put_if(marks[j], l, p);
+            o.lines[j] = left;
             j += 1;
         }
         o

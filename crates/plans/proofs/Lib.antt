@@ -1,2 +1,2 @@
--- The records of a plan one after the other.
+-- The records of a plan.
 pub mod Operations

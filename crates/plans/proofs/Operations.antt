@@ -1,46 +1,14 @@
--- The records of a plan, one at a time, and their octets.
+-- The records of a plan are octets.
 use Prim.Native.Nat.{ℕ, _+_}
-use mathlib.Core.Path.{_≡_, refl}
 use mathlib.Core.Bool.{Bool, true, false, cond}
-use mathlib.Core.List.{List, [], _∷_}
+use mathlib.Core.List.{List, []}
 use native.Mathlib.Omega.{arith}
 use lib.Dec.{eqb}
-use lib.ListN.{length, getD, drop, length-map}
-use Rattle.protocol.specs.declared.Site.{Site}
-use Rattle.protocol.specs.declared.Turn.{Turn}
+use lib.ListN.{length, getD, drop}
 use Rattle.protocol.specs.History.{Operation}
 use Rattle.protocol.specs.Restored.{Octets, OctetsIn}
-use Rattle.protocol.specs.Evening.{operate, operateAll, answersTo, noOperation, operationOf, operations}
+use Rattle.protocol.specs.Evening.{noOperation, operationOf}
 use Rattle.claims.proofs.State.Octets.{octets-take, octets-drop}
-use Rattle.replay.proofs.Moments.{an-answer-each}
-
--- what a list of records makes of a group and its points, and what they are answered
-abbrev pub allOf : Site → List (List ℕ) → Site
-allOf s rs = operateAll s (operations rs)
-
-abbrev pub saidOf : Site → List (List ℕ) → List ℕ
-saidOf s rs = answersTo s (operations rs)
-
-pub none-made : (s : Site) → allOf s [] ≡ s
-unfolding operateAll
-none-made s = refl
-
-pub none-said : (s : Site) → saidOf s [] ≡ []
-unfolding answersTo
-none-said s = refl
-
-pub one-made : (s : Site) (r : List ℕ) {t : Turn} → t ≡ operate s (operationOf r) → (rs : List (List ℕ)) → allOf s (r ∷ rs) ≡ allOf (t .site) rs
-unfolding operateAll
-one-made s r e rs = rw e
-
-pub one-said : (s : Site) (r : List ℕ) {t : Turn} → t ≡ operate s (operationOf r) → (rs : List (List ℕ)) → saidOf s (r ∷ rs) ≡ t .answer ∷ saidOf (t .site) rs
-unfolding answersTo
-one-said s r e rs = rw e
-
-pub each-said : (rs : List (List ℕ)) (s : Site) → length (saidOf s rs) ≡ length rs
-each-said rs s = rw (an-answer-each (operations rs) s) (length-map rs operationOf)
-
--- ---- octets
 
 either : (b : Bool) (x y : Operation) → OctetsIn x → OctetsIn y → OctetsIn (cond b x y)
 either true x y p q = p

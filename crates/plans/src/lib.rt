@@ -6,28 +6,8 @@ use protocol::Site;
 ghost use mathlib.Core.Path.{_≡_};
 ghost use lib.Seq.{sets};
 ghost use Rattle.load.specs.Load.{load};
-ghost use Rattle.protocol.specs.Evening.{operateAll, answersTo};
 ghost use Rattle.replay.specs.Replay.{replayed, answersOf, EndsWell};
 ghost use Rattle.plans.specs.Plans.{operationsIn};
-
-// The group and its points after all records, nine octets each and the last one shorter if it must
-// be. What each is answered is stored in the buffer, as far as it reaches.
-fn run(site: Site, list: &[u8], answers: &mut [u8]) -> Site
-    ensures { λ r. ⌜ r ≡ operateAll site (operationsIn (now (list .entry))) ⌝ }
-    ensures { λ r. ⌜ now (answers .exit) ≡ sets (now (answers .entry)) 0 (answersTo site (operationsIn (now (list .entry)))) ⌝ }
-{
-    let mut site = site;
-    let mut from = 0;
-    let mut at = 0;
-    while from < list.len() {
-        let to = replay::least(from + 9, list.len());
-        let turn = turns::operate(site, &list[from..to]);
-        at = buffer::put(answers, at, turn.answer);
-        site = turn.site;
-        from = to;
-    }
-    site
-}
 
 // As `replay::replay`, for a plan: what load answers to the file, and where it answers 0 the group
 // after the last record; the answer of record k, counted from 0, is stored at place k as far as the
@@ -41,7 +21,7 @@ pub fn replay_plan(file: &[u8], list: &[u8], answers: &mut [u8]) -> Outcome
     if o.answer == 0 {
         let group = o.group;
         let points = Points::none();
-        let last = run(Site { group, points }, list, answers);
+        let last = steps::run(Site { group, points }, true, list, answers);
         let after = last.group;
         Outcome {
             answer: 0,

@@ -1,20 +1,17 @@
 // The step record and the checks that every step meets first: 8 and 9 in decoding it, 10 to 12 of the cabinets that it names.
 // Cabinets are numbered from 1 in a record and in a decoded step, and from 0 elsewhere.
 use cabinet::Cabinet;
-use group::Group;
 use packet::Pattern;
 use protocol::Decoded;
 use protocol::Step;
 ghost use mathlib.Core.Path.{_≡_};
-ghost use mathlib.Core.Bool.{cond, _&&_};
+ghost use mathlib.Core.Bool.{cond};
 ghost use Prim.Native.Nat.{_+_, _-_, _*_};
-ghost use lib.Dec.{ltb, leb};
 ghost use Rattle.state.specs.State.{works};
-ghost use Rattle.group.specs.declared.Group.{Group};
-ghost use Rattle.group.specs.Group.{stateOf};
 ghost use Rattle.protocol.specs.declared.Decoded.the-variants.{Unused};
 ghost use Rattle.protocol.specs.Kinds.{need};
-ghost use Rattle.protocol.specs.Entry.{aloneOf, isKind, damageOf, fieldsOf, decode, decodedNumber, firstOf, secondOf, actorWorks, entryRefusal};
+ghost use Rattle.protocol.specs.Entry.{aloneOf, isKind, damageOf, fieldsOf, decode, decodedNumber, firstOf, secondOf};
+ghost use Rattle.records.specs.Records.{actorWorksOf, isCabinetOf, entryRefusalOf};
 
 // ---- refusals
 
@@ -149,7 +146,7 @@ pub fn decoded_number(d: Decoded) -> u8
 // ---- the cabinets
 
 // The cabinets that a step names: the second is the first again where it names one only.
-fn first_of(s: Step) -> u8
+pub fn first_of(s: Step) -> u8
     ensures { λ r. ⌜ r ≡ firstOf s ⌝ }
 {
     match s {
@@ -179,7 +176,7 @@ fn first_of(s: Step) -> u8
     }
 }
 
-fn second_of(s: Step) -> u8
+pub fn second_of(s: Step) -> u8
     ensures { λ r. ⌜ r ≡ secondOf s ⌝ }
 {
     match s {
@@ -216,20 +213,18 @@ pub fn before(a: u8) -> u8
     if 1 <= a { a - 1 } else { 0 }
 }
 
-// Cabinet c, with number i, has not failed; past the eighth none works.
-fn works_at(i: u8, c: Cabinet) -> bool
-    ensures { λ r. ⌜ r ≡ ltb i 8 && works (c .phase .state) ⌝ }
+fn works_at(c: Cabinet) -> bool
+    ensures { λ r. ⌜ r ≡ works (c .phase .state) ⌝ }
 {
     let phase = c.phase;
     let state = phase.state;
-    marks::and(i < 8, state::works(state))
+    state::works(state)
 }
 
 // Check 12, by whether the cabinets that the step names have not failed: the one that acts has not.
 // In deliver it is the receiver; saved and damage skip the check.
 fn actor_works(s: Step, first: bool, second: bool) -> bool
-    ensures { λ r. ⌜ ((g : Group) → first ≡ works (stateOf g (firstOf s - 1))
-        → second ≡ works (stateOf g (secondOf s - 1)) → r ≡ actorWorks g s) ⌝ }
+    ensures { λ r. ⌜ r ≡ actorWorksOf s first second ⌝ }
 {
     match s {
         Step::Send {
@@ -259,24 +254,19 @@ fn actor_works(s: Step, first: bool, second: bool) -> bool
 }
 
 fn is_cabinet(n: u8, a: u8) -> bool
-    ensures { λ r. ⌜ r ≡ leb 1 a && leb a n ⌝ }
+    ensures { λ r. ⌜ r ≡ isCabinetOf n a ⌝ }
 {
     marks::and(1 <= a, a <= n)
 }
 
-// Checks 10 to 12. The two cabinets are read in place: a call would copy the group.
-pub fn entry_refusal(g: Group, s: Step) -> u8
-    ensures { λ r. ⌜ r ≡ entryRefusal g s ⌝ }
+// Checks 10 to 12, of a group of n cabinets; c and d are those that the step names.
+pub fn entry_refusal(n: u8, crashed: bool, s: Step, c: Cabinet, d: Cabinet) -> u8
+    ensures { λ r. ⌜ r ≡ entryRefusalOf n crashed s c d ⌝ }
 {
     let a = first_of(s);
     let b = second_of(s);
-    let i = before(a);
-    let j = before(b);
-    let c = g.cabinets[(i % 8) as usize];
-    let d = g.cabinets[(j % 8) as usize];
-    let able = actor_works(s, works_at(i, c), works_at(j, d));
-    let named = marks::and(is_cabinet(g.n, a), is_cabinet(g.n, b));
-    let running = !survey::is_crashed(g);
+    let able = actor_works(s, works_at(c), works_at(d));
+    let named = marks::and(is_cabinet(n, a), is_cabinet(n, b));
     let acts = need(able, 12, 0);
-    need(running, 10, need(named, 11, acts))
+    need(!crashed, 10, need(named, 11, acts))
 }

@@ -1,4 +1,3 @@
--- The records of a list one after the other, the steps that they are, and demand 3 of every moment of a run.
-pub mod Records
+-- The steps that a list of records is, and demand 3 of every moment of a run.
 pub mod Steps
 pub mod Moments

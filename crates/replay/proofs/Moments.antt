@@ -36,11 +36,6 @@ run-groups (stepping r ∷ xs) w = run-groups xs (advance w (stepping r))
 run-groups (pointing name ∷ xs) w = run-groups xs (advance w (pointing name))
 run-groups (returning name ∷ xs) w = run-groups xs (advance w (returning name))
 
-pub an-answer-each : (xs : List Operation) (s : Site) → length (answersTo s xs) ≡ length xs
-unfolding answersTo
-an-answer-each [] s = refl
-an-answer-each (x ∷ xs) s = ap suc (an-answer-each xs (operate s x .site))
-
 -- one operation more
 next-moment : (m : ℕ) (xs : List Operation) (w : World)
     → (length xs ≤ m → run w (take (suc m) xs) ≡ run w (take m xs)) × (m < length xs → run w (take (suc m) xs) ≡ advance (run w (take m xs)) (getD xs m noOperation))

@@ -5,26 +5,9 @@ use mathlib.Core.List.{List, [], _∷_}
 use lib.ListN.{length}
 use Rattle.points.specs.declared.Points.{Points}
 use Rattle.group.specs.declared.Group.{Group}
-use Rattle.group.specs.declared.Outcome.{Outcome}
 use Rattle.protocol.specs.Entry.{step, stepAll, answersFrom}
 use Rattle.protocol.specs.History.{steps}
 use Rattle.protocol.specs.Evening.{operate, operateAll, answersTo}
-
-pub no-step : (g : Group) → stepAll g [] ≡ g
-unfolding stepAll
-no-step g = refl
-
-pub no-answer : (g : Group) → answersFrom g [] ≡ []
-unfolding answersFrom
-no-answer g = refl
-
-pub one-step : (g : Group) (r : List ℕ) {o : Outcome} → o ≡ step g r → (rs : List (List ℕ)) → stepAll g (r ∷ rs) ≡ stepAll (o .group) rs
-unfolding stepAll
-one-step g r e rs = rw e
-
-pub one-answer : (g : Group) (r : List ℕ) {o : Outcome} → o ≡ step g r → (rs : List (List ℕ)) → answersFrom g (r ∷ rs) ≡ o .answer ∷ answersFrom (o .group) rs
-unfolding answersFrom
-one-answer g r e rs = rw e
 
 pub each-answered : (rs : List (List ℕ)) (g : Group) → length (answersFrom g rs) ≡ length rs
 unfolding answersFrom

@@ -11,7 +11,7 @@ use borrow.Author.Tests.{le-leb, eqb-true}
 use Rattle.group.specs.Group.{answering}
 use Rattle.load.specs.Load.{number, cabinetCount, totalLength, offsetsRight, refuse, noGroup, loadWith, load}
 use Rattle.protocol.specs.Listing.{listing}
-use Rattle.replay.proofs.Records.{first-parts}
+use Rattle.steps.proofs.Records.{first-parts}
 
 -- ---- the group file: where it is longer than its header can say, the header alone decides the refusal
 

@@ -15,7 +15,7 @@ use Rattle.buffer.specs.Written.{Written}
 use Rattle.buffer.proofs.Texts.{then, place-added, stored-sets, at-start}
 use Rattle.protocol.specs.Entry.{stepAll, answersFrom}
 use Rattle.replay.specs.Replay.{recordsIn, replayed, answersOf, EndsWell}
-use Rattle.replay.proofs.Records.{enough, first-parts, count}
+use Rattle.steps.proofs.Records.{enough, first-parts, count}
 use Rattle.replay.proofs.Steps.{each-answered, steps-groups, steps-answers}
 use Rattle.replay.proofs.Moments.{answer-of, loaded, unloaded, group-of}
 use Rattle.report.proofs.Lines.{load-length, steps-length, cabs-length}

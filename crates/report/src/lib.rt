@@ -49,7 +49,7 @@ pub fn write_listing(file: &[u8], list: &[u8], out: &mut [u8]) -> usize
     ensures { λ r. ⌜ r ≤ 200000 ⌝ }
     ensures { λ r. ⌜ (load (now (file .entry)) .answer ≡ 0 → EndsWell (now (file .entry)) (steps (records 10000 (now (list .entry))))) ⌝ }
 {
-    let used = replay::least(list.len(), 60000);
+    let used = steps::least(list.len(), 60000);
     let mut answers = [0u8; 10000];
     let o = replay::replay(file, &list[..used], &mut answers);
     if o.answer == 0 {

@@ -1,44 +1,65 @@
 // The steps of a recovery: fetch, restored and unsure.
+use cabinet::Alarm;
 use cabinet::Cabinet;
 use group::Group;
-use group::Outcome;
+use packet::Place;
+use saving::Kept;
+use seat::Seat;
 use settled::Reason;
+use settled::Settled;
 use state::State;
+use state::Version;
+use store::Share;
 ghost use mathlib.Core.Path.{_≡_};
-ghost use Rattle.protocol.specs.Moves.{dropReports, comeBack};
-ghost use Rattle.protocol.specs.Kinds.{fetchRefusal, fetchPiece, fetchStep, mayReport, restoredRefusal, reportRestored, comeBackIfAway, endIfAll, restoredStep, isUnsure, takesUnsure, unsureRefusal, reportUnsure, decideIfAll, unsureStep};
+ghost use Rattle.protocol.specs.Moves.{dropReports, comeBack, noteAt, noteFor, noteLost};
+ghost use Rattle.protocol.specs.Kinds.{mayReport, comeBackIfAway, endIfAll, isUnsure, takesUnsure};
+ghost use Rattle.restoring.specs.Restoring.{fetchRefusal, fetchPiece, fetch, restoredRefusal, allRestored, closes, closing, unsureRefusal, allUnsure, decideIfAll, wordAfter};
 
 // ---- 7 fetch
 
-fn fetch_refusal(g: Group, a: u8) -> u8
-    ensures { λ r. ⌜ r ≡ fetchRefusal g a ⌝ }
+fn fetch_refusal(c: Cabinet, home: Cabinet) -> u8
+    ensures { λ r. ⌜ r ≡ fetchRefusal c home ⌝ }
 {
-    let home = g.state_of(g.home(a));
-    let ready = records::need(state::in_restoring(home), 19, 0);
-    records::need(state::is_in(g.state_of(a), State::Recovering), 14, ready)
+    let own = c.phase;
+    let phase = home.phase;
+    let state = own.state;
+    let at_home = phase.state;
+    let ready = records::need(state::in_restoring(at_home), 19, 0);
+    records::need(state::is_in(state, State::Recovering), 14, ready)
 }
 
-fn fetch_piece(g: Group, a: u8) -> Group
-    ensures { λ r. ⌜ r ≡ fetchPiece g a ⌝ }
+// The next piece, from the slot of the home's version, as the home has it.
+fn fetch_piece(c: Cabinet, home: Cabinet, share: Share) -> Cabinet
+    ensures { λ r. ⌜ r ≡ fetchPiece c home share ⌝ }
 {
-    let c = g.cabinet(a);
-    let h = g.home(a);
-    let phase = g.cabinet(h).phase;
+    let phase = home.phase;
     let version = phase.version;
     let noted = c.noted;
     let image = c.image;
-    let from = g.slot(h, a, state::bit_of(version));
-    g.with_cabinet(a, c.fetched(image.with_piece(noted.pieces, from)))
+    let h = share.serves();
+    let from = share.slot_at(h, state::bit_of(version));
+    c.fetched(image.with_piece(noted.pieces, from))
 }
 
-pub fn fetch_step(g: Group, a: u8) -> Outcome
-    ensures { λ r. ⌜ r ≡ fetchStep g a ⌝ }
+// Cabinet c fetches its next piece.
+pub fn fetch(c: Cabinet, home: Cabinet, share: Share) -> Kept
+    ensures { λ r. ⌜ r ≡ fetch c home share ⌝ }
 {
-    let k = fetch_refusal(g, a);
+    let k = fetch_refusal(c, home);
     if k == 0 {
-        group::taken(fetch_piece(g, a))
+        Kept {
+            answer: 0,
+            cabinet: fetch_piece(c, home, share),
+            share: share,
+            owes: false,
+        }
     } else {
-        group::answering(k, g)
+        Kept {
+            answer: k,
+            cabinet: c,
+            share: share,
+            owes: false,
+        }
     }
 }
 
@@ -60,22 +81,34 @@ fn may_report(c: Cabinet, k: Cabinet, a: u8) -> bool
     marks::and(first, marks::and(marks::covers(heard, in_use), ready))
 }
 
-fn restored_refusal(g: Group, a: u8) -> u8
-    ensures { λ r. ⌜ r ≡ restoredRefusal g a ⌝ }
+pub fn restored_refusal(c: Cabinet, k: Cabinet, a: u8) -> u8
+    ensures { λ r. ⌜ r ≡ restoredRefusal c k a ⌝ }
 {
-    let c = g.cabinet(a);
-    let may = may_report(c, g.cabinet(c.coordinator()), a);
-    records::need(
-        state::is_in(g.state_of(a), State::Recovered),
-        14,
-        records::need(may, 19, 0),
-    )
+    let phase = c.phase;
+    let state = phase.state;
+    let may = records::need(may_report(c, k, a), 19, 0);
+    records::need(state::is_in(state, State::Recovered), 14, may)
 }
 
-fn report_restored(g: Group, a: u8, k: u8) -> Group
-    ensures { λ r. ⌜ r ≡ reportRestored g a k ⌝ }
+// The coordinator, in recovered, has restored reports from all in its table.
+fn all_restored(c: Cabinet) -> bool
+    ensures { λ r. ⌜ r ≡ allRestored c ⌝ }
 {
-    g.with_cabinet(k, g.cabinet(k).restored_for(a))
+    let noted = c.noted;
+    let restored = noted.restored;
+    let table = c.table;
+    let cabinets = table.cabinets;
+    let phase = c.phase;
+    let state = phase.state;
+    let recovered = state::is_in(state, State::Recovered);
+    marks::and(recovered, marks::covers(restored, cabinets))
+}
+
+// A report that does more than be noted by the coordinator, which is c then: a store comes back with it, or the recovery ends.
+pub fn closes(away: bool, c: Cabinet) -> bool
+    ensures { λ r. ⌜ r ≡ closes away c ⌝ }
+{
+    marks::or(away, all_restored(c))
 }
 
 // What store p still owes on the cabinets of store a is dropped.
@@ -101,33 +134,53 @@ fn come_back_if_away(g: Group, a: u8) -> Group
     if store.is_away(a) { come_back(g, a) } else { g }
 }
 
+// A failed cabinet's version, which no rule reads any more, notes the slot that its image is in.
+fn note_at(place: Place, g: Group, v: Version) -> Group
+    ensures { λ r. ⌜ r ≡ noteAt place g v ⌝ }
+{
+    match place {
+        Place::Failed(x) => g.with_cabinet(x, g.cabinet(x).with_version(v)),
+        Place::Tripped(_) => g,
+        Place::Link(_, _) => g,
+    }
+}
+
+fn note_for(alarm: Alarm, g: Group, v: Version) -> Group
+    ensures { λ r. ⌜ r ≡ noteFor alarm g v ⌝ }
+{
+    match alarm {
+        Alarm::Quiet => g,
+        Alarm::Fault(place) => note_at(place, g, v),
+    }
+}
+
+// The cabinet that k recovers from the fail of, if it is one, has k's version noted.
+fn note_lost(g: Group, k: u8) -> Group
+    ensures { λ r. ⌜ r ≡ noteLost g k ⌝ }
+{
+    let phase = g.cabinet(k).phase;
+    let alarm = phase.alarm;
+    let v = phase.version;
+    note_for(alarm, g, v)
+}
+
 fn end_if_all(g: Group, k: u8) -> Group
     ensures { λ r. ⌜ r ≡ endIfAll g k ⌝ }
 {
     let c = g.cabinet(k);
-    let noted = c.noted;
-    let restored = noted.restored;
-    let table = c.table;
-    let cabinets = table.cabinets;
-    let recovered = state::is_in(g.state_of(k), State::Recovered);
-    if marks::and(recovered, marks::covers(restored, cabinets)) {
-        moves::end_recovery(moves::note_lost(g, k), k).settle_over()
+    if all_restored(c) {
+        let h = note_lost(g, k);
+        seat::stored(h, k, moves::end_recovery(seat::taken_out(h, k))).settle_over()
     } else {
         g
     }
 }
 
-pub fn restored_step(g: Group, a: u8) -> Outcome
-    ensures { λ r. ⌜ r ≡ restoredStep g a ⌝ }
+// Once coordinator k has the report of a: a store that was away comes back, and with the last report the recovery ends.
+pub fn closing(g: Group, a: u8, k: u8) -> Group
+    ensures { λ r. ⌜ r ≡ closing g a k ⌝ }
 {
-    let n = restored_refusal(g, a);
-    if n == 0 {
-        let k = g.cabinet(a).coordinator();
-        let h = come_back_if_away(report_restored(g, a, k), a);
-        group::taken(end_if_all(h, k))
-    } else {
-        group::answering(n, g)
-    }
+    end_if_all(come_back_if_away(g, a), k)
 }
 
 // ---- 14 unsure
@@ -155,48 +208,47 @@ fn takes_unsure(k: Cabinet, a: u8) -> bool
     marks::and(first, state::is_in(state, State::Error))
 }
 
-fn unsure_refusal(g: Group, a: u8) -> u8
-    ensures { λ r. ⌜ r ≡ unsureRefusal g a ⌝ }
+pub fn unsure_refusal(c: Cabinet, k: Cabinet, a: u8) -> u8
+    ensures { λ r. ⌜ r ≡ unsureRefusal c k a ⌝ }
 {
-    let c = g.cabinet(a);
     let noted = c.noted;
-    let takes = takes_unsure(g.cabinet(c.coordinator()), a);
+    let takes = takes_unsure(k, a);
     let due = marks::and(is_unsure(c), noted.former);
     records::need(due, 14, records::need(takes, 19, 0))
 }
 
-fn report_unsure(g: Group, a: u8, k: u8) -> Group
-    ensures { λ r. ⌜ r ≡ reportUnsure g a k ⌝ }
+// The coordinator has the reports of all in its table that they are unsure.
+fn all_unsure(c: Cabinet) -> bool
+    ensures { λ r. ⌜ r ≡ allUnsure c ⌝ }
 {
-    g.with_cabinet(k, g.cabinet(k).unsure_for(a))
-}
-
-// With the reports of all in its table the coordinator goes on with its old version.
-fn decide_if_all(g: Group, k: u8) -> Group
-    ensures { λ r. ⌜ r ≡ decideIfAll g k ⌝ }
-{
-    let c = g.cabinet(k);
     let noted = c.noted;
     let unsure = noted.unsure;
     let table = c.table;
     let cabinets = table.cabinets;
+    marks::covers(unsure, cabinets)
+}
+
+// It then goes on with its old version.
+pub fn decide_if_all(s: Seat) -> Seat
+    ensures { λ r. ⌜ r ≡ decideIfAll s ⌝ }
+{
+    let c = s.cabinet;
     let phase = c.phase;
     let version = phase.version;
-    if marks::covers(unsure, cabinets) {
-        moves::recover_with(g, k, state::bit_of(version)).settle(k, Reason::Decided)
+    if all_unsure(c) {
+        moves::recover_with(s, state::bit_of(version))
     } else {
-        g
+        s
     }
 }
 
-pub fn unsure_step(g: Group, a: u8) -> Outcome
-    ensures { λ r. ⌜ r ≡ unsureStep g a ⌝ }
+// .. by a word of its own; coordinator k is c before it.
+pub fn word_after(c: Cabinet, k: u8, settled: Settled) -> Settled
+    ensures { λ r. ⌜ r ≡ wordAfter c k settled ⌝ }
 {
-    let n = unsure_refusal(g, a);
-    if n == 0 {
-        let k = g.cabinet(a).coordinator();
-        group::taken(decide_if_all(report_unsure(g, a, k), k))
+    if all_unsure(c) {
+        settled.enters(k, Reason::Decided)
     } else {
-        group::answering(n, g)
+        settled
     }
 }

@@ -1,47 +1,56 @@
 // The steps of a save: begin, write and saved.
 use cabinet::Cabinet;
-use group::Group;
-use group::Outcome;
+use seat::Done;
+use seat::Seat;
 use state::State;
-use store::Store;
+use store::Share;
 ghost use mathlib.Core.Path.{_≡_};
 ghost use mathlib.Core.Bool.{not};
-ghost use Rattle.state.specs.declared.State.the-variants.{Checkpointing};
-ghost use Rattle.state.specs.State.{isIn, inRecovery, bitOf};
-ghost use Rattle.store.specs.Store.{putPiece};
-ghost use Rattle.group.specs.Group.{cabinet};
-ghost use Rattle.protocol.specs.Kinds.{need, beginRefusal, beginStep, writePiece, oweIf, writeStep, savedRefusal, reportSaved, commitIfAll, savedStep};
+ghost use Rattle.state.specs.State.{bitOf};
+ghost use Rattle.saving.specs.Saving.{beginRefusal, begin, writeRefusal, pieceSaved, write, oweIf, savedRefusal, allSaved, commitIfAll, tripsAfter};
 
 // ---- 3 begin
 
-fn begin_refusal(g: Group, a: u8) -> u8
-    ensures { λ r. ⌜ r ≡ beginRefusal g a ⌝ }
+fn begin_refusal(c: Cabinet, a: u8) -> u8
+    ensures { λ r. ⌜ r ≡ beginRefusal c a ⌝ }
 {
-    let c = g.cabinet(a);
     let phase = c.phase;
     let state = phase.state;
     let normal = state::is_in(state, State::Normal);
     records::need(marks::and(normal, c.coordinator() == a), 14, 0)
 }
 
-pub fn begin_step(g: Group, a: u8) -> Outcome
-    ensures { λ r. ⌜ r ≡ beginStep g a ⌝ }
+// Cabinet a begins a save.
+pub fn begin(s: Seat, a: u8) -> Done
+    ensures { λ r. ⌜ r ≡ begin s a ⌝ }
 {
-    let k = begin_refusal(g, a);
+    let k = begin_refusal(s.cabinet, a);
     if k == 0 {
-        group::taken(moves::cut_if_all(moves::join(g, a), a))
+        seat::answered(0, moves::cut_if_all(moves::join(s)))
     } else {
-        group::answering(k, g)
+        seat::answered(k, s)
     }
 }
 
 // ---- 5 write
 
-fn write_refusal(s: State, home: State) -> u8
-    ensures { λ r. ⌜ r ≡ need (isIn s Checkpointing) 14 (need (not (inRecovery home)) 19 0) ⌝ }
+// What a cabinet leaves that writes a piece or fetches one: the answer, itself and its share of the store, and whether its home owes a report on it.
+pub struct Kept {
+    pub answer: u8,
+    pub cabinet: Cabinet,
+    pub share: Share,
+    pub owes: bool,
+}
+
+fn write_refusal(c: Cabinet, home: Cabinet) -> u8
+    ensures { λ r. ⌜ r ≡ writeRefusal c home ⌝ }
 {
-    let ready = records::need(!state::in_recovery(home), 19, 0);
-    records::need(state::is_in(s, State::Checkpointing), 14, ready)
+    let own = c.phase;
+    let phase = home.phase;
+    let state = own.state;
+    let at_home = phase.state;
+    let ready = records::need(!state::in_recovery(at_home), 19, 0);
+    records::need(state::is_in(state, State::Checkpointing), 14, ready)
 }
 
 // The slot that pieces go to: not that of the version.
@@ -54,92 +63,82 @@ fn other_slot(c: Cabinet) -> bool
 }
 
 // The next piece, at each store of the pair that is present.
-fn piece_saved(store: Store, a: u8, c: Cabinet) -> Store
-    ensures { λ r. ⌜ r ≡ putPiece store a (not (bitOf (c .phase .version))) (c .noted .pieces) (c .image) ⌝ }
+fn piece_saved(share: Share, c: Cabinet) -> Share
+    ensures { λ r. ⌜ r ≡ pieceSaved share c ⌝ }
 {
     let image = c.image;
     let noted = c.noted;
-    store.put_piece(a, other_slot(c), noted.pieces, image)
+    share.put_piece(other_slot(c), noted.pieces, image)
 }
 
-fn write_piece(g: Group, a: u8, c: Cabinet) -> Group
-    ensures { λ r. ⌜ (c ≡ cabinet g a → r ≡ writePiece g a) ⌝ }
+// Cabinet a, which is c, writes its next piece; with the last its home owes a report.
+pub fn write(c: Cabinet, home: Cabinet, share: Share, a: u8) -> Kept
+    ensures { λ r. ⌜ r ≡ write c home share a ⌝ }
 {
-    let store = g.store;
-    g.with_store(piece_saved(store, a, c))
-        .with_cabinet(a, c.wrote(a))
-}
-
-fn owe_if(asked: bool, g: Group, h: u8, a: u8) -> Group
-    ensures { λ r. ⌜ r ≡ oweIf asked g h a ⌝ }
-{
-    if asked {
-        g.with_cabinet(h, g.cabinet(h).owing(a, true))
-    } else {
-        g
-    }
-}
-
-pub fn write_step(g: Group, a: u8) -> Outcome
-    ensures { λ r. ⌜ r ≡ writeStep g a ⌝ }
-{
-    let c = g.cabinet(a);
-    let phase = c.phase;
-    let state = phase.state;
-    let noted = c.noted;
-    let h = g.home(a);
-    let k = write_refusal(state, g.state_of(h));
+    let k = write_refusal(c, home);
     if k == 0 {
+        let noted = c.noted;
         let more = noted.pieces < 3;
-        group::taken(owe_if(!more, write_piece(g, a, c), h, a))
+        Kept {
+            answer: 0,
+            cabinet: c.wrote(a),
+            share: piece_saved(share, c),
+            owes: !more,
+        }
     } else {
-        group::answering(k, g)
+        Kept {
+            answer: k,
+            cabinet: c,
+            share: share,
+            owes: false,
+        }
     }
+}
+
+// A home that owes the report on a, if it does.
+pub fn owe_if(asked: bool, home: Cabinet, a: u8) -> Cabinet
+    ensures { λ r. ⌜ r ≡ oweIf asked home a ⌝ }
+{
+    if asked { home.owing(a, true) } else { home }
 }
 
 // ---- 6 saved
 
-fn saved_refusal(g: Group, a: u8) -> u8
-    ensures { λ r. ⌜ r ≡ savedRefusal g a ⌝ }
+// The home owes the report, and its coordinator k takes it.
+pub fn saved_refusal(home: Cabinet, k: Cabinet, a: u8) -> u8
+    ensures { λ r. ⌜ r ≡ savedRefusal home k a ⌝ }
 {
-    let home = g.cabinet(g.home(a));
     let owed = home.owed;
-    let saving = state::in_saving(g.state_of(home.coordinator()));
+    let phase = k.phase;
+    let state = phase.state;
+    let saving = state::in_saving(state);
     records::need(marks::and(marks::marked(owed, a), saving), 19, 0)
 }
 
-// The report on a goes from home h to coordinator k.
-fn report_saved(g: Group, a: u8, h: u8, k: u8) -> Group
-    ensures { λ r. ⌜ r ≡ reportSaved g a h k ⌝ }
+// The coordinator has this save's reports on all in its table.
+fn all_saved(c: Cabinet) -> bool
+    ensures { λ r. ⌜ r ≡ allSaved c ⌝ }
 {
-    let made = g.with_cabinet(h, g.cabinet(h).owing(a, false));
-    made.with_cabinet(k, made.cabinet(k).saved_for(a))
-}
-
-fn commit_if_all(g: Group, k: u8) -> Group
-    ensures { λ r. ⌜ r ≡ commitIfAll g k ⌝ }
-{
-    let c = g.cabinet(k);
     let noted = c.noted;
     let saved = noted.saved;
     let table = c.table;
     let cabinets = table.cabinets;
-    if marks::covers(saved, cabinets) {
-        moves::commit(g, k)
+    marks::covers(saved, cabinets)
+}
+
+pub fn commit_if_all(s: Seat) -> Seat
+    ensures { λ r. ⌜ r ≡ commitIfAll s ⌝ }
+{
+    if all_saved(s.cabinet) {
+        moves::commit(s)
     } else {
-        g
+        s
     }
 }
 
-pub fn saved_step(g: Group, a: u8) -> Outcome
-    ensures { λ r. ⌜ r ≡ savedStep g a ⌝ }
+// No trip before a commit counts any more; the coordinator is c before it.
+pub fn trips_after(c: Cabinet, trips: [u8; 8]) -> [u8; 8]
+    ensures { λ r. ⌜ r ≡ tripsAfter c trips ⌝ }
 {
-    let n = saved_refusal(g, a);
-    if n == 0 {
-        let h = g.home(a);
-        let k = g.cabinet(h).coordinator();
-        group::taken(commit_if_all(report_saved(g, a, h, k), k))
-    } else {
-        group::answering(n, g)
-    }
+    if all_saved(c) { [0; 8] } else { trips }
 }

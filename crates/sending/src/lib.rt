@@ -1,33 +1,18 @@
 // The steps of a cabinet at work: send and note.
 use cabinet::Cabinet;
-use group::Group;
-use group::Outcome;
 use line::Line;
-use outgoing::Outgoing;
 use packet::Packet;
+use packet::PacketVersion;
+use seat::Spot;
 use state::State;
 ghost use mathlib.Core.Path.{_≡_};
-ghost use mathlib.Core.Bool.{_&&_};
 ghost use Prim.Native.Nat.{_%_};
-ghost use lib.Dec.{ltb, leb};
-ghost use Rattle.marks.specs.Marks.{marked};
-ghost use Rattle.line.specs.Line.{normals};
-ghost use Rattle.state.specs.declared.State.the-variants.{Normal};
-ghost use Rattle.state.specs.State.{isIn};
-ghost use Rattle.outlet.specs.Outlet.{endsOf, partyOf};
-ghost use Rattle.image.specs.Image.{booking, firstNote};
-ghost use Rattle.cabinet.specs.Cabinet.{inUse};
-ghost use Rattle.group.specs.Group.{cabinet, outgoing};
-ghost use Rattle.protocol.specs.Kinds.{need, sent, sendStep, noteStep};
+ghost use Rattle.sending.specs.Sending.{sendRefusal, send, noteRefusal, note};
 
 // ---- 1 send
 
 fn send_refusal(c: Cabinet, l: Line, b: u8, p: u8, q: u16) -> u8
-    ensures { λ r. ⌜ r ≡ need (marked (inUse c) b) 13
-        (need (isIn (c .phase .state) Normal) 14
-        (need (ltb 0 q && leb p 4) 15
-        (need (leb q (booking (endsOf p .from) (c .image))) 16
-        (need (ltb (normals (partyOf (endsOf p .to)) l) 4) 17 0)))) ⌝ }
+    ensures { λ r. ⌜ r ≡ sendRefusal c l b p q ⌝ }
 {
     let phase = c.phase;
     let state = phase.state;
@@ -44,37 +29,27 @@ fn send_refusal(c: Cabinet, l: Line, b: u8, p: u8, q: u16) -> u8
     records::need(linked, 13, records::need(normal, 14, some))
 }
 
-// The sender is c, its lines are o.
-fn sent(g: Group, a: u8, b: u8, p: u8, q: u16, c: Cabinet, o: Outgoing) -> Group
-    ensures { λ r. ⌜ (c ≡ cabinet g a → o ≡ outgoing g a → r ≡ sent g a b p q) ⌝ }
+// Cabinet c sends b an amount: it leaves its booking, and the packet, as the group's packet version has it, stands last on the line l to b.
+pub fn send(c: Cabinet, l: Line, b: u8, p: u8, q: u16, version: PacketVersion) -> Spot
+    ensures { λ r. ⌜ r ≡ send c l b p q version ⌝ }
 {
-    let ends = outlet::ends_of(p);
-    let from = ends.from;
-    let to = ends.to;
-    let version = g.packets;
-    let carried = packet::packed(version, to, q);
-    let l = o.line_to(b).put(Packet::Normal(carried));
-    let h = g.with_cabinet(a, c.sending(b, from, carried));
-    h.with_outgoing(a, o.with_line_to(b, l))
-}
-
-pub fn send_step(g: Group, a: u8, b: u8, p: u8, q: u16) -> Outcome
-    ensures { λ r. ⌜ r ≡ sendStep g a b p q ⌝ }
-{
-    let c = g.cabinet(a);
-    let o = g.outgoing(a);
-    let k = send_refusal(c, o.line_to(b), b, p, q);
+    let k = send_refusal(c, l, b, p, q);
     if k == 0 {
-        group::taken(sent(g, a, b, p, q, c, o))
+        let ends = outlet::ends_of(p);
+        let from = ends.from;
+        let to = ends.to;
+        let carried = packet::packed(version, to, q);
+        let left = l.put(Packet::Normal(carried));
+        seat::spotted(0, c.sending(b, from, carried), left)
     } else {
-        group::answering(k, g)
+        seat::spotted(k, c, l)
     }
 }
 
 // ---- 2 note
 
 fn note_refusal(s: State, p: u8, q: u16) -> u8
-    ensures { λ r. ⌜ r ≡ need (isIn s Normal) 14 (need (leb firstNote p && (leb p 31 && leb q 255)) 15 0) ⌝ }
+    ensures { λ r. ⌜ r ≡ noteRefusal s p q ⌝ }
 {
     let fits = marks::and(6 <= p, marks::and(p <= 31, q <= 255));
     let normal = state::is_in(s, State::Normal);
@@ -87,18 +62,18 @@ fn low_octet(q: u16) -> u8
     (q % 256) as u8
 }
 
-pub fn note_step(g: Group, a: u8, p: u8, q: u16) -> Outcome
-    ensures { λ r. ⌜ r ≡ noteStep g a p q ⌝ }
+// Cabinet c sets an octet of its image; no line changes.
+pub fn note(c: Cabinet, l: Line, p: u8, q: u16) -> Spot
+    ensures { λ r. ⌜ r ≡ note c l p q ⌝ }
 {
-    let c = g.cabinet(a);
     let phase = c.phase;
     let state = phase.state;
     let k = note_refusal(state, p, q);
     if k == 0 {
         let image = c.image;
         let noted = image.with_octet(p, low_octet(q));
-        group::taken(g.with_cabinet(a, c.with_image(noted)))
+        seat::spotted(0, c.with_image(noted), l)
     } else {
-        group::answering(k, g)
+        seat::spotted(k, c, l)
     }
 }

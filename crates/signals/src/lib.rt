@@ -1,27 +1,27 @@
 // What a cabinet does with resume, recover and fault.
 use cabinet::Cabinet;
-use group::Group;
-use group::Outcome;
 use packet::Packet;
 use packet::Place;
+use seat::Seat;
+use settled::Settled;
 use state::State;
 ghost use mathlib.Core.Path.{_≡_};
-ghost use Rattle.protocol.specs.Moves.{adopt, hear};
-ghost use Rattle.protocol.specs.Receive.{resumesFrom, receiveResume, receiveRecover, receiveFault};
+ghost use Rattle.protocol.specs.Receive.{resumesFrom};
+ghost use Rattle.signals.specs.Signals.{adopt, resumeTaken, recoverTaken, hear, faultCrashes, faultTaken, faultWord};
 
 // ---- resume
 
-// Cabinet b takes a's resume in checkpointed, and puts resume on its other lines.
-fn adopt(g: Group, a: u8, b: u8) -> Group
-    ensures { λ r. ⌜ r ≡ adopt g a b ⌝ }
+// The cabinet takes a's resume in checkpointed, and puts resume on its other lines.
+fn adopt(s: Seat, a: u8) -> Seat
+    ensures { λ r. ⌜ r ≡ adopt s a ⌝ }
 {
-    let c = g.cabinet(b);
+    let c = s.cabinet;
+    let o = s.lines;
     let phase = c.phase;
     let v = phase.version;
     let others = marks::set_mark(c.in_use(), a, false);
-    let o = g.outgoing(b).put_all(others, Packet::Resume);
-    g.with_cabinet(b, c.resuming(state::adopted(v)))
-        .with_outgoing(b, o)
+    let resumed = s.with_cabinet(c.resuming(state::adopted(v)));
+    resumed.with_lines(o.put_all(others, Packet::Resume))
 }
 
 fn resumes_from(c: Cabinet, a: u8, b: u8) -> bool
@@ -38,66 +38,88 @@ fn resumes_from(c: Cabinet, a: u8, b: u8) -> bool
     )
 }
 
-pub fn receive_resume(g: Group, a: u8, b: u8) -> Outcome
-    ensures { λ r. ⌜ r ≡ receiveResume g a b ⌝ }
+pub fn resume_taken(s: Seat, a: u8, b: u8) -> Seat
+    ensures { λ r. ⌜ r ≡ resumeTaken s a b ⌝ }
 {
-    let c = g.cabinet(b);
+    let c = s.cabinet;
     let phase = c.phase;
-    let s = phase.state;
-    if state::is_in(s, State::Checkpointed) {
-        group::taken(adopt(g, a, b))
+    let state = phase.state;
+    if state::is_in(state, State::Checkpointed) {
+        adopt(s, a)
     } else {
         if resumes_from(c, a, b) {
-            group::taken(moves::end_recovery(g, b))
+            moves::end_recovery(s)
         } else {
-            group::taken(g)
+            s
         }
     }
 }
 
 // ---- recover
 
-pub fn receive_recover(g: Group, a: u8, b: u8, v: bool) -> Outcome
-    ensures { λ r. ⌜ r ≡ receiveRecover g a b v ⌝ }
+pub fn recover_taken(s: Seat, a: u8, v: bool) -> Seat
+    ensures { λ r. ⌜ r ≡ recoverTaken s a v ⌝ }
 {
-    let c = g.cabinet(b);
+    let c = s.cabinet;
     let phase = c.phase;
-    let s = phase.state;
+    let state = phase.state;
     let noted = c.noted;
-    let waits = state::is_in(s, State::Error);
+    let waits = state::is_in(state, State::Error);
     let heard = noted.heard;
     if marks::and(waits, marks::marked(heard, a)) {
-        group::taken(moves::recover_with(g, b, v))
+        moves::recover_with(s, v)
     } else {
-        group::taken(g)
+        s
     }
 }
 
 // ---- fault
 
-// Cabinet b has had a's fault packet.
-fn hear(g: Group, a: u8, b: u8) -> Group
-    ensures { λ r. ⌜ r ≡ hear g a b ⌝ }
+// The cabinet has had a's fault packet.
+fn hear(s: Seat, a: u8) -> Seat
+    ensures { λ r. ⌜ r ≡ hear s a ⌝ }
 {
-    g.with_cabinet(b, g.cabinet(b).hearing(a))
+    let c = s.cabinet;
+    s.with_cabinet(c.hearing(a))
 }
 
-pub fn receive_fault(before: Group, g: Group, a: u8, b: u8, p: Place) -> Outcome
-    ensures { λ r. ⌜ r ≡ receiveFault before g a b p ⌝ }
+// A fault for another place than the one that a cabinet is in recovery from crashes the group.
+pub fn fault_crashes(c: Cabinet, p: Place) -> bool
+    ensures { λ r. ⌜ r ≡ faultCrashes c p ⌝ }
 {
-    let s = g.state_of(b);
-    if moves::serving(s) {
-        return group::taken(hear(moves::enter_error(g, b, p), a, b));
+    let phase = c.phase;
+    let state = phase.state;
+    let alarm = phase.alarm;
+    let other = !cabinet::is_for(alarm, p);
+    marks::and(state::in_recovery(state), other)
+}
+
+// One that does not: cabinet b enters error for its place, or notes it.
+pub fn fault_taken(s: Seat, a: u8, b: u8, p: Place) -> Seat
+    ensures { λ r. ⌜ r ≡ faultTaken s a b p ⌝ }
+{
+    let c = s.cabinet;
+    let phase = c.phase;
+    let state = phase.state;
+    if moves::serving(state) {
+        return hear(moves::enter_error(s, b, p), a);
     }
-    if state::in_recovery(s) {
-        let phase = g.cabinet(b).phase;
-        let alarm = phase.alarm;
-        if cabinet::is_for(alarm, p) {
-            group::taken(hear(g, a, b))
-        } else {
-            survey::crashed(before)
-        }
+    if state::in_recovery(state) {
+        hear(s, a)
     } else {
-        group::taken(g)
+        s
+    }
+}
+
+// Which word settles the recovery then; cabinet b is c before it.
+pub fn fault_word(settled: Settled, c: Cabinet, b: u8) -> Settled
+    ensures { λ r. ⌜ r ≡ faultWord settled c b ⌝ }
+{
+    let phase = c.phase;
+    let state = phase.state;
+    if moves::serving(state) {
+        moves::word_by(settled, c, b)
+    } else {
+        settled
     }
 }

@@ -3,8 +3,9 @@
 use image::Image;
 ghost use mathlib.Core.Path.{_≡_};
 ghost use Prim.Native.Nat.{_<_};
-ghost use lib.ListN.{set};
-ghost use Rattle.store.specs.Store.{blankSlots, slotIn, withSlotIn, withPresent, emptyStore, fileHome, isStore, partner, isPresent, homeIn, isLast, isAway, isHomedAt, homedAt, firstOf, secondOf, copyAt, withCopyAt, slotAt, withPieceAt, pieceAt, putPiece, leaves, firstBack, secondBack, ofEach, comesBack, setSlots};
+ghost use lib.ListN.{getD};
+ghost use Rattle.store.specs.Store.{blankSlots, slotIn, withSlotIn, withPresent, emptyStore, fileHome, isStore, partner, isPresent, homeIn, isLast, isAway, isHomedAt, homedAt, firstOf, secondOf, copyAt, slotAt, leaves, firstBack, secondBack, ofEach, comesBack, setSlots};
+ghost use Rattle.store.specs.Share.{share, withShare, servesIn, slotInShare, pieceTo, putPieceIn};
 
 // A cabinet's two slots.
 pub struct Slots {
@@ -21,6 +22,16 @@ pub struct Store {
     pub present: [bool; 8],
     pub firsts: [Slots; 8],
     pub seconds: [Slots; 8],
+}
+
+// What the stores of a pair have of one cabinet: the slots at its home in the file and at that one's partner, who these are, and whether the home (here) and the partner (there) are present.
+pub struct Share {
+    pub first: Slots,
+    pub second: Slots,
+    pub home: u8,
+    pub partner: u8,
+    pub here: bool,
+    pub there: bool,
 }
 
 impl Slots {
@@ -50,6 +61,70 @@ impl Slots {
             s.zero = m;
         }
         s
+    }
+}
+
+// A row's number for cabinet i, 8 past the eighth.
+fn number_at(row: [u8; 8], i: u8) -> u8
+    ensures { λ r. ⌜ r ≡ getD row i 8 ⌝ }
+{
+    let k = i as usize;
+    if k < 8 { row[k] } else { 8 }
+}
+
+fn slots_at(row: [Slots; 8], i: u8) -> Slots
+    ensures { λ r. ⌜ r ≡ getD row i blankSlots ⌝ }
+{
+    let k = i as usize;
+    if k < 8 { row[k] } else { Slots::blank() }
+}
+
+impl Share {
+    // The store that serves the cabinet.
+    pub fn serves(self) -> u8
+        ensures { λ r. ⌜ r ≡ servesIn self ⌝ }
+    {
+        if self.here { self.home } else { self.partner }
+    }
+
+    // Slot 0 or 1, as store h has it.
+    pub fn slot_at(self, h: u8, v: bool) -> Image
+        ensures { λ r. ⌜ r ≡ slotInShare self h v ⌝ }
+    {
+        if h == self.home {
+            self.first.image(v)
+        } else {
+            self.second.image(v)
+        }
+    }
+
+    // Piece k of an image goes to a slot at the home in the file or at its partner, if that one is present.
+    fn piece_to(self, first: bool, present: bool, v: bool, k: u8, m: Image) -> Share
+        ensures { λ r. ⌜ r ≡ pieceTo self first present v k m ⌝ }
+    {
+        let mut x = self;
+        if present {
+            if first {
+                let slots = x.first;
+                let written = slots.image(v).with_piece(k, m);
+                let slots = slots.with_image(v, written);
+                x.first = slots;
+            } else {
+                let slots = x.second;
+                let written = slots.image(v).with_piece(k, m);
+                let slots = slots.with_image(v, written);
+                x.second = slots;
+            }
+        }
+        x
+    }
+
+    // .. at each store of the pair that is present.
+    pub fn put_piece(self, v: bool, k: u8, m: Image) -> Share
+        ensures { λ r. ⌜ r ≡ putPieceIn self v k m ⌝ }
+    {
+        self.piece_to(true, self.here, v, k, m)
+            .piece_to(self.partner == self.home, self.there, v, k, m)
     }
 }
 
@@ -182,22 +257,6 @@ impl Store {
         }
     }
 
-    fn with_copy_at(self, h: u8, c: u8, x: Slots) -> Store
-        ensures { λ r. ⌜ r ≡ withCopyAt self h c x ⌝ }
-    {
-        let first = h == self.file_home(c);
-        let k = c as usize;
-        let mut s = self;
-        if k < 8 {
-            if first {
-                s.firsts[k] = x;
-            } else {
-                s.seconds[k] = x;
-            }
-        }
-        s
-    }
-
     // Slot 0 or 1 of cabinet c, as store h has it.
     pub fn slot_at(self, h: u8, c: u8, v: bool) -> Image
         ensures { λ r. ⌜ r ≡ slotAt self h c v ⌝ }
@@ -205,33 +264,42 @@ impl Store {
         self.copy_at(h, c).image(v)
     }
 
-    // ---- what changes them
-
-    // Piece k of an image goes to a slot of cabinet c at store h.
-    fn with_piece_at(self, h: u8, c: u8, v: bool, k: u8, m: Image) -> Store
-        ensures { λ r. ⌜ r ≡ withPieceAt self h c v k m ⌝ }
+    // What the stores of its pair have of cabinet c.
+    pub fn share(self, c: u8) -> Share
+        ensures { λ r. ⌜ r ≡ share self c ⌝ }
     {
-        let written = self.slot_at(h, c, v).with_piece(k, m);
-        self.with_copy_at(h, c, self.copy_at(h, c).with_image(v, written))
-    }
-
-    fn piece_at(self, h: u8, c: u8, v: bool, k: u8, m: Image) -> Store
-        ensures { λ r. ⌜ r ≡ pieceAt self h c v k m ⌝ }
-    {
-        if self.is_present(h) {
-            self.with_piece_at(h, c, v, k, m)
-        } else {
-            self
+        let homes = self.homes;
+        let partners = self.partners;
+        let present = self.present;
+        let firsts = self.firsts;
+        let seconds = self.seconds;
+        let h = number_at(homes, c);
+        let p = number_at(partners, h);
+        Share {
+            first: slots_at(firsts, c),
+            second: slots_at(seconds, c),
+            home: h,
+            partner: p,
+            here: marks::marked(present, h),
+            there: marks::marked(present, p),
         }
     }
 
-    // .. at each store of the pair that is present.
-    pub fn put_piece(self, c: u8, v: bool, k: u8, m: Image) -> Store
-        ensures { λ r. ⌜ r ≡ putPiece self c v k m ⌝ }
+    // ---- what changes them
+
+    // The slots of cabinet c become those of a share.
+    pub fn with_share(self, c: u8, x: Share) -> Store
+        ensures { λ r. ⌜ r ≡ withShare self c x ⌝ }
     {
-        let h = self.file_home(c);
-        self.piece_at(h, c, v, k, m)
-            .piece_at(self.partner(h), c, v, k, m)
+        let k = c as usize;
+        let mut s = self;
+        if k < 8 {
+            let first = x.first;
+            let second = x.second;
+            s.firsts[k] = first;
+            s.seconds[k] = second;
+        }
+        s
     }
 
     fn with_present(self, present: [bool; 8]) -> Store

@@ -7,7 +7,8 @@ ghost use mathlib.Core.Path.{_≡_};
 ghost use Rattle.state.specs.declared.State.the-variants.{Normal, Crashed};
 ghost use Rattle.state.specs.State.{works, isIn, inRecovery};
 ghost use Rattle.cabinet.specs.Cabinet.{crashing};
-ghost use Rattle.group.specs.Group.{cabinet, stateOf, those, some, working, recoveringOnes, isCrashed, normalOnes, hasLaden, ladenOnes, quiet, crashAll, crashed};
+ghost use Rattle.survey.specs.Survey.{anyOf};
+ghost use Rattle.group.specs.Group.{cabinet, stateOf, some, working, isCrashed, normalOnes, hasLaden, ladenOnes, quiet, crashAll, crashed};
 
 // One is marked.
 pub fn some(marks: [bool; 8]) -> bool
@@ -37,53 +38,59 @@ pub fn working(g: Group) -> [bool; 8]
     ]
 }
 
-fn recovers_at(g: Group, i: u8) -> bool
-    ensures { λ r. ⌜ r ≡ inRecovery (stateOf g i) ⌝ }
+fn crashed_in(c: Cabinet) -> bool
+    ensures { λ r. ⌜ r ≡ isIn (c .phase .state) Crashed ⌝ }
 {
-    state::in_recovery(g.state_of(i))
+    let phase = c.phase;
+    let state = phase.state;
+    state::is_in(state, State::Crashed)
 }
 
-// Those in error, recovering or recovered.
-pub fn recovering_ones(g: Group) -> [bool; 8]
-    ensures { λ r. ⌜ r ≡ recoveringOnes g ⌝ }
+// One of eight cabinets is crashed. They are read at fixed places, so that none is copied.
+pub fn any_crashed(cs: [Cabinet; 8]) -> bool
+    ensures { λ r. ⌜ r ≡ anyOf (λ c. isIn (c .phase .state) Crashed) cs ⌝ }
 {
-    [
-        recovers_at(g, 0),
-        recovers_at(g, 1),
-        recovers_at(g, 2),
-        recovers_at(g, 3),
-        recovers_at(g, 4),
-        recovers_at(g, 5),
-        recovers_at(g, 6),
-        recovers_at(g, 7),
-    ]
-}
-
-fn crashed_at(g: Group, i: u8) -> bool
-    ensures { λ r. ⌜ r ≡ isIn (stateOf g i) Crashed ⌝ }
-{
-    state::is_in(g.state_of(i), State::Crashed)
-}
-
-fn crashed_ones(g: Group) -> [bool; 8]
-    ensures { λ r. ⌜ r ≡ those (λ c. isIn (c .phase .state) Crashed) g ⌝ }
-{
-    [
-        crashed_at(g, 0),
-        crashed_at(g, 1),
-        crashed_at(g, 2),
-        crashed_at(g, 3),
-        crashed_at(g, 4),
-        crashed_at(g, 5),
-        crashed_at(g, 6),
-        crashed_at(g, 7),
-    ]
+    some([
+        crashed_in(cs[0]),
+        crashed_in(cs[1]),
+        crashed_in(cs[2]),
+        crashed_in(cs[3]),
+        crashed_in(cs[4]),
+        crashed_in(cs[5]),
+        crashed_in(cs[6]),
+        crashed_in(cs[7]),
+    ])
 }
 
 pub fn is_crashed(g: Group) -> bool
     ensures { λ r. ⌜ r ≡ isCrashed g ⌝ }
 {
-    some(crashed_ones(g))
+    let cs = g.cabinets;
+    any_crashed(cs)
+}
+
+fn recovers_in(c: Cabinet) -> bool
+    ensures { λ r. ⌜ r ≡ inRecovery (c .phase .state) ⌝ }
+{
+    let phase = c.phase;
+    let state = phase.state;
+    state::in_recovery(state)
+}
+
+// One of eight cabinets is in error, recovering or recovered.
+pub fn any_recovering(cs: [Cabinet; 8]) -> bool
+    ensures { λ r. ⌜ r ≡ anyOf (λ c. inRecovery (c .phase .state)) cs ⌝ }
+{
+    some([
+        recovers_in(cs[0]),
+        recovers_in(cs[1]),
+        recovers_in(cs[2]),
+        recovers_in(cs[3]),
+        recovers_in(cs[4]),
+        recovers_in(cs[5]),
+        recovers_in(cs[6]),
+        recovers_in(cs[7]),
+    ])
 }
 
 fn normal_at(g: Group, i: u8) -> bool

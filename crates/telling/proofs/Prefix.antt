@@ -5,7 +5,7 @@ use mathlib.Core.List.{List}
 use native.Mathlib.Omega.{arith}
 use lib.ListN.{getD, take}
 use Rattle.protocol.specs.Word.{word}
-use Rattle.replay.proofs.Records.{first-parts}
+use Rattle.steps.proofs.Records.{first-parts}
 use Rattle.report.proofs.Prefix.{same-load}
 
 -- for a group file of octets

@@ -1,2 +1,3 @@
--- The name in a record.
-mod Names
+-- That a turn, stored back, is the step of the group.
+pub mod Same
+pub mod Names

@@ -1,38 +1,50 @@
--- `alarm_neighbours`. The loop's invariant: the neighbours of a among the cabinets passed have entered error.
+-- `alarm_neighbours`. The loop's invariant: the cabinets passed have had their turn, the others are as they were.
 use borrow.Author.Needs.{needs}
-use Prim.Native.Nat.{_≤_, _-_}
-use mathlib.Core.Path.{_≡_, _∙_, refl}
-use native.Mathlib.Omega.{arith}
+use Prim.Native.Nat.{_-_}
+use mathlib.Core.Path.{_∙_}
+use lib.ListN.{length-map}
 use native.Mathlib.Numerals.{add-one}
-use Rattle.protocol.specs.Moves.{alarmTo}
+use Rattle.failing.proofs.Turns.{Alarmed, none-yet, next, all-turned}
 use Rattle.failing.proofs.alarm_neighbours.Statement.{statement}
 use Rattle.failing.proofs.alarm_neighbours.Tie as tie
 
 abbrev Inv-loop : tie.InvT-loop
-Inv-loop g a p h₀ i₀ h i = (i ≤ 8) × (h ≡ alarmTo i g a p)
+Inv-loop a p h₀ settled₀ i₀ h settled i = Alarmed h₀ a p h settled i
 
 abbrev μ-loop : tie.MeasureT-loop
-μ-loop g a p h₀ i₀ h i = 8 - i
+μ-loop a p h₀ settled₀ i₀ h settled i = 8 - i
 
 loop-holds : tie.Need-loop-holds Inv-loop μ-loop
-unfolding alarmTo
-loop-holds c = (search needs, refl)
+loop-holds c = none-yet _ _ _ (simp length-map at (c .good .0 .1 .1 .1 .0 .1 .0 .1)) (simp length-map at (c .good .0 .1 .1 .1 .1 .1 .1 .0 .1 .0 .1))
 
 loop-again : tie.Need-loop-again Inv-loop μ-loop
-unfolding alarmTo
-loop-again c = (search needs, rw (c .enter-error-if .ensures, c .before .is-neighbour .ensures, add-one, ← c .before .before .before .loop .inv .1))
+loop-again c = rw add-one (next _ _ _ (c .before .before .before .enter-error-if .result) _ (c .before .before .before .before .before .before .before .before .loop .inv) (c .before .before .before .before .before .before .before .loop-test .taken)
+    (c .before .before .before .before .is-neighbour .ensures)
+    (c .before .before .before .enter-error-if .ensures)
+    (c .word-if .ensures))
 
 returns : tie.Need-returns Inv-loop μ-loop
-returns c = let e : c .before .loop .i ≡ 8 = omega arith in c .before .loop .inv .1 ∙ rw e
+returns c = c .with-settled .ensures ∙ all-turned (c .before .before .loop .inv) (c .before .loop-test .left)
 
 pub alarm-neighbours-spec : {M : Type 1} → statement M
 alarm-neighbours-spec = tie.close (tie.spec
     Inv-loop
     μ-loop
     loop-holds
+    (λ c. search needs)
+    (λ c. search needs)
+    (λ c. search needs)
+    (λ c. search needs)
+    (λ c. search needs)
     (λ c κs. search needs)
+    (λ c κs. search needs)
+    (λ c. search needs)
+    (λ c. search needs)
+    (λ c. search needs)
+    (λ c. search needs)
     (λ c κs. search needs)
     (λ c. search needs)
     (λ c. search needs)
     loop-again
+    (λ c κs. search needs)
     returns)

@@ -1,5 +1,6 @@
--- `crashes` is the three tests of its contract.
+-- `crashes` is the three tests of its contract, the second asked of the row of cabinets.
 use borrow.Author.Needs.{needs}
+use Rattle.survey.proofs.Rows.{any-recovering}
 use Rattle.failing.proofs.crashes.Statement.{statement}
 use Rattle.failing.proofs.crashes.Tie as tie
 
@@ -9,5 +10,4 @@ crashes-spec = tie.close (tie.spec
     (λ c κs. search needs)
     (λ c κs. search needs)
     (λ c κs. search needs)
-    (λ c κs. search needs)
-    (λ c. rw (c .or2 .ensures, c .before .or .ensures, c .before .before .some .ensures, c .before .before .before .recovering-ones .ensures, c .before .before .before .before .is-last .ensures)))
+    (λ c. rw (c .or2 .ensures, c .before .or .ensures, c .before .before .is-last .ensures, c .before .before .before .any-recovering .ensures, any-recovering _)))

@@ -9,6 +9,4 @@ is-neighbour-spec = tie.close (tie.spec
     (λ c κs. search needs)
     (λ c κs. search needs)
     (λ c κs. search needs)
-    (λ c κs. search needs)
-    (λ c κs. search needs)
-    (λ c. rw (c .and .ensures, c .before .marked .ensures, c .before .before .in-use .ensures, c .before .before .before .cabinet .ensures, c .before .before .before .before .works .ensures, c .before .before .before .before .before .state-of .ensures)))
+    (λ c. rw (c .and .ensures, c .before .marked .ensures, c .before .before .in-use .ensures, c .before .before .before .works .ensures)))

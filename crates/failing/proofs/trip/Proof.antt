@@ -12,4 +12,4 @@ trip-spec = tie.close (tie.spec
     (λ c κs. search needs)
     (λ c κs. search needs)
     (λ c κs. search needs)
-    (λ c. rw (c .emptied .ensures, c .before .enter-error .ensures, c .before .before .with-cabinet .ensures, c .before .before .before .blanked .ensures, c .before .before .before .before .cabinet .ensures)))
+    (λ c. rw (c .emptied .ensures, c .before .alarm .ensures, c .before .before .with-cabinet .ensures, c .before .before .before .blanked .ensures, c .before .before .before .before .cabinet .ensures)))

@@ -13,7 +13,4 @@ damage-refusal-spec = tie.close (tie.spec
     (λ c κs. search needs)
     (λ c κs. search needs)
     (λ c κs. search needs)
-    (λ c κs. search needs)
-    (λ c κs. search needs)
-    (λ c κs. search needs)
-    (λ c. rw (c .need4 .ensures, c .before .is-linked .ensures, c .before .before .link-rows .ensures, c .before .before .before .need3 .ensures, c .before .before .before .before .is-empty .ensures, c .before .before .before .before .before .need2 .ensures, c .before .before .before .before .before .before .pattern-right .ensures, c .before .before .before .before .before .before .before .need .ensures, c .before .before .before .before .before .before .before .before .hurt-already .ensures, c .before .before .before .before .before .before .before .before .before .packet-at .ensures, c .before .before .before .before .before .before .before .before .before .before .line .ensures)))
+    (λ c. rw (c .need4 .ensures, c .before .need3 .ensures, c .before .before .is-empty .ensures, c .before .before .before .need2 .ensures, c .before .before .before .before .pattern-right .ensures, c .before .before .before .before .before .need .ensures, c .before .before .before .before .before .before .hurt-already .ensures, c .before .before .before .before .before .before .before .packet-at .ensures)))

@@ -8,5 +8,4 @@ hurt-already-spec = tie.close (tie.spec
     (λ c κs. search needs)
     (λ c κs. search needs)
     (λ c κs. search needs)
-    (λ c κs. search needs)
-    (λ c. rw (c .and .ensures, c .before .marked .ensures, c .before .before .is-normal .ensures, c .before .before .before .before .before .cabinet .ensures)))
+    (λ c. rw (c .and .ensures, c .before .marked .ensures, c .before .before .is-normal .ensures)))

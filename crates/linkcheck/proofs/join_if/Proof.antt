@@ -1,4 +1,4 @@
--- `join_if`, by whether it is asked for.
+-- `join_if`, by whether it is asked.
 use borrow.Author.Needs.{needs}
 use Rattle.linkcheck.proofs.join_if.Statement.{statement}
 use Rattle.linkcheck.proofs.join_if.Tie as tie

@@ -1,6 +1,6 @@
 -- `commit` follows its definition, call by call.
 use borrow.Author.Needs.{needs}
-use Rattle.protocol.specs.Moves.{commit}
+use Rattle.moves.specs.Seats.{commit}
 use Rattle.moves.proofs.commit.Statement.{statement}
 use Rattle.moves.proofs.commit.Tie as tie
 
@@ -9,6 +9,4 @@ unfolding commit
 commit-spec = tie.close (tie.spec
     (λ c κs. search needs)
     (λ c κs. search needs)
-    (λ c κs. search needs)
-    (λ c κs. search needs)
-    (λ c. rw (c .forget-trips .ensures, c .before .resume-with .ensures, c .before .before .flipped .ensures, c .before .before .before .before .cabinet .ensures)))
+    (λ c. rw (c .resume-with .ensures, c .before .flipped .ensures)))

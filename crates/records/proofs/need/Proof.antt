@@ -1,5 +1,4 @@
 -- `need`, by whether the test holds.
-use borrow.Author.Needs.{needs}
 use Rattle.records.proofs.need.Statement.{statement}
 use Rattle.records.proofs.need.Tie as tie
 

@@ -1,4 +1,4 @@
--- `come_back` changes the store and then the partner.
+-- `come_back` is the calls of its definition, the innermost first.
 use borrow.Author.Needs.{needs}
 use Rattle.protocol.specs.Moves.{comeBack}
 use Rattle.restoring.proofs.come_back.Statement.{statement}

@@ -4,11 +4,14 @@ use Rattle.protocol.specs.Moves.{dropReports}
 use Rattle.restoring.proofs.drop_reports.Statement.{statement}
 use Rattle.restoring.proofs.drop_reports.Tie as tie
 
-pub drop-reports-spec : {M : Type 1} → statement M
+returns : tie.Need-returns
 unfolding dropReports
+returns c = rw (c .with-cabinet .ensures, c .before .owing-but .ensures, c .before .before .homed-at .ensures, c .before .before .before .cabinet .ensures)
+
+pub drop-reports-spec : {M : Type 1} → statement M
 drop-reports-spec = tie.close (tie.spec
     (λ c κs. search needs)
     (λ c κs. search needs)
     (λ c κs. search needs)
     (λ c κs. search needs)
-    (λ c. rw (c .with-cabinet .ensures, c .before .owing-but .ensures, c .before .before .homed-at .ensures, c .before .before .before .cabinet .ensures)))
+    returns)

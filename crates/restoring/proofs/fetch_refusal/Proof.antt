@@ -9,7 +9,4 @@ fetch-refusal-spec = tie.close (tie.spec
     (λ c κs. search needs)
     (λ c κs. search needs)
     (λ c κs. search needs)
-    (λ c κs. search needs)
-    (λ c κs. search needs)
-    (λ c κs. search needs)
-    (λ c. rw (c .need2 .ensures, c .before .is-in .ensures, c .before .before .state-of2 .ensures, c .before .before .before .need .ensures, c .before .before .before .before .in-restoring .ensures, c .before .before .before .before .before .state-of .ensures, c .before .before .before .before .before .before .home .ensures)))
+    (λ c. rw (c .need2 .ensures, c .before .is-in .ensures, c .before .before .need .ensures, c .before .before .before .in-restoring .ensures)))

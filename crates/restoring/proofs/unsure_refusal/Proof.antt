@@ -10,7 +10,4 @@ unsure-refusal-spec = tie.close (tie.spec
     (λ c κs. search needs)
     (λ c κs. search needs)
     (λ c κs. search needs)
-    (λ c κs. search needs)
-    (λ c κs. search needs)
-    (λ c κs. search needs)
-    (λ c. rw (c .need2 .ensures, c .before .need .ensures, c .before .before .and .ensures, c .before .before .before .is-unsure .ensures, c .before .before .before .before .takes-unsure .ensures, c .before .before .before .before .before .cabinet2 .ensures, c .before .before .before .before .before .before .coordinator .ensures, c .before .before .before .before .before .before .before .before .cabinet .ensures)))
+    (λ c. rw (c .need2 .ensures, c .before .need .ensures, c .before .before .and .ensures, c .before .before .before .is-unsure .ensures, c .before .before .before .before .takes-unsure .ensures)))

@@ -9,5 +9,4 @@ begin-refusal-spec = tie.close (tie.spec
     (λ c κs. search needs)
     (λ c κs. search needs)
     (λ c κs. search needs)
-    (λ c κs. search needs)
-    (λ c. rw (c .need .ensures, c .before .and .ensures, c .before .before .coordinator .ensures, c .before .before .before .is-in .ensures, c .before .before .before .before .before .cabinet .ensures)))
+    (λ c. rw (c .need .ensures, c .before .and .ensures, c .before .before .coordinator .ensures, c .before .before .before .is-in .ensures)))

@@ -6,7 +6,5 @@ use Rattle.saving.proofs.owe_if.Tie as tie
 pub owe-if-spec : {M : Type 1} → statement M
 owe-if-spec = tie.close (tie.spec
     (λ c κs. search needs)
-    (λ c κs. search needs)
-    (λ c κs. search needs)
-    (λ c. rw (c .with-cabinet .ensures, c .before .owing .ensures, c .before .before .cabinet .ensures, c .before .before .before .if1 .taken))
+    (λ c. rw (c .owing .ensures, c .before .if1 .taken))
     (λ c. rw (c .if1 .left)))

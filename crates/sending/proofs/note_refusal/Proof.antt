@@ -1,4 +1,4 @@
--- `note_refusal` is the chain of note's checks, the last first.
+-- `note_refusal` is the chain of the checks of note, the last first.
 use borrow.Author.Needs.{needs}
 use Rattle.sending.proofs.note_refusal.Statement.{statement}
 use Rattle.sending.proofs.note_refusal.Tie as tie

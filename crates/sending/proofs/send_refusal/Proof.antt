@@ -1,4 +1,4 @@
--- `send_refusal` is the chain of send's checks, the last first.
+-- `send_refusal` is the chain of the checks of send, the last first.
 use borrow.Author.Needs.{needs}
 use Rattle.sending.proofs.send_refusal.Statement.{statement}
 use Rattle.sending.proofs.send_refusal.Tie as tie

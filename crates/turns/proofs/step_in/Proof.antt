@@ -17,12 +17,10 @@ step-in-spec = tie.close (tie.spec
     (λ c. search needs)
     (λ c. search needs)
     (λ c κs. search needs)
-    (λ c κs. search needs)
     (λ c.
     let test = c .before .before in
     let l = test .before .before .before .before .args .octets .now in
-    rw (getD-drop 1 l 6 0, getD-drop 1 l 7 0, eq-eqb _ _ (test .if1 .taken)) (c .stepping .ensures))
+    rw (getD-drop 1 l 6 0, getD-drop 1 l 7 0, eq-eqb _ _ (test .if1 .taken)) (c .decode .ensures))
     (λ c.
-    let test = c .before in
-    let l = test .before .before .before .before .args .octets .now in
-    rw (getD-drop 1 l 6 0, getD-drop 1 l 7 0, ne-eqb _ _ (test .if1 .left)) (c .nothing .ensures)))
+    let l = c .before .before .before .before .args .octets .now in
+    rw (getD-drop 1 l 6 0, getD-drop 1 l 7 0, ne-eqb _ _ (c .if1 .left))))

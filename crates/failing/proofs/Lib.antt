@@ -1,0 +1,2 @@
+-- The turns of the loops over the eight cabinets.
+mod Turns

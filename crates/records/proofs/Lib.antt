@@ -1,0 +1,2 @@
+-- That the checks on parts are those on the group.
+pub mod Stored

@@ -1,0 +1,2 @@
+-- The definitions that the functions of this crate are promised equal to.
+pub mod Sending

@@ -1,0 +1,2 @@
+-- What is asked of the row of cabinets, and of the group.
+pub mod Rows
