@@ -1,4 +1,6 @@
 // Whether the library's text, a listing, an evening or the line of `word`, is the expected one.
+#![tactic(auto)]
+
 ghost use Rattle.std.specs.Prelude.{◌≡◌, take};
 ghost use Rattle.io.specs.Counts.{IsPrefixLen};
 ghost use Rattle.protocol.specs.Listing.{listing};

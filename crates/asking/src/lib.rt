@@ -1,4 +1,6 @@
 // Which word settled the latest recovery, asked of a group.
+#![tactic(auto)]
+
 ghost use Rattle.std.specs.Prelude.{◌≡◌};
 ghost use Rattle.protocol.specs.Word.{told_of, which_word};
 

@@ -1,6 +1,8 @@
 // Octets, words and numbers, written into a buffer that the caller lends.
 // A writing function takes the place to start at and answers the place after its text. What lies
 // past the buffer's end is counted and not stored.
+#![tactic(auto)]
+
 ghost use Rattle.std.specs.Prelude.{◌≡◌, ℕ, suc, ◌+◌, ◌^◌, ◌<◌, [], ◌∷◌};
 ghost use Rattle.protocol.specs.Listing.{digits, decimal};
 ghost use Rattle.buffer.specs.Written.{Written};

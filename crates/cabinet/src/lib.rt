@@ -1,5 +1,7 @@
 // One cabinet by value: its logical state, table, notes, check registers and image.
 // Cabinets are numbered 0 to 7 here: a cabinet's number in a file or a record, less one.
+#![tactic(auto)]
+
 ghost use Rattle.std.specs.Prelude.{◌≡◌, cond};
 ghost use Rattle.marks.specs.Marks.{covers};
 ghost use Rattle.cabinet.specs.Alarm.{is_for};
@@ -14,13 +16,13 @@ use state::{State, Version};
 use table::Table;
 
 // The fault that a cabinet entered error for.
-#[derive(Drop)]
+#[derive(Clone, Copy)]
 pub enum Alarm {
     Quiet,
     Fault(Place),
 }
 
-#[derive(Drop)]
+#[derive(Clone, Copy)]
 pub struct Phase {
     pub state: State,
     pub version: Version,
@@ -28,7 +30,7 @@ pub struct Phase {
 }
 
 // What is noted of one save or recovery; `former`: the fault is the coordinator as it was before; `unsure`: whose unsure reports have come.
-#[derive(Drop)]
+#[derive(Clone, Copy)]
 pub struct Noted {
     pub come: [bool; 8],
     pub pieces: u8,
@@ -39,7 +41,7 @@ pub struct Noted {
     pub unsure: [bool; 8],
 }
 
-#[derive(Drop)]
+#[derive(Clone, Copy)]
 pub struct Cabinet {
     pub phase: Phase,
     pub table: Table,

@@ -2,6 +2,8 @@
 //
 // A container holds one case after the other: three lengths of four octets, high octet first, and
 // then the group file, the step records or the plan, and the expected text. Cases are numbered from 0.
+#![tactic(auto)]
+
 ghost use Rattle.std.specs.Prelude.{◌+◌, ◌*◌, ◌<◌, ◌≤◌, ◌≡◌};
 
 use libc::STDOUT_FILENO;
@@ -10,14 +12,14 @@ use libc::STDOUT_FILENO;
 const CASES_MOST: u64 = 1000000;
 
 // What the library writes of a case: the listing, the text of an evening, or the line of `word`.
-#[derive(Drop)]
+#[derive(Clone, Copy)]
 enum Kind {
     Listing,
     Evening,
     Word,
 }
 
-#[derive(Drop)]
+#[derive(Clone, Copy)]
 enum Verdict {
     Agrees,
     Differs,
@@ -25,14 +27,14 @@ enum Verdict {
     End,
 }
 
-#[derive(Drop)]
+#[derive(Clone, Copy)]
 struct Sizes {
     file: usize,
     list: usize,
     text: usize,
 }
 
-#[derive(Drop)]
+#[derive(Clone, Copy)]
 struct Tally {
     agree: u64,
     differ: u64,

@@ -1,4 +1,6 @@
 // The check value of the link: CRC-16, an octet at a time.
+#![tactic(auto)]
+
 ghost use Rattle.std.specs.Prelude.{◌≡◌, true};
 ghost use Rattle.crc.specs.Crc.{crc_octet, crc_from, crc};
 

@@ -1,4 +1,6 @@
 // The step deliver: the oldest packet of a line is received.
+#![tactic(auto)]
+
 ghost use Rattle.std.specs.Prelude.{◌≡◌};
 ghost use Rattle.delivery.specs.Delivery.{deliver_refusal, fault_if, crash_if, finding_by, finding, is_signal, taken_by, take, heard_by, hear, word_from, word_after};
 
@@ -9,7 +11,7 @@ use seat::{Seat, Spot};
 use settled::Settled;
 
 // What is found at a packet: nothing, a link fault, or a second fault, at which the group crashes.
-#[derive(Drop)]
+#[derive(Clone, Copy)]
 pub enum Finding {
     Fine,
     LinkFault,

@@ -1,5 +1,7 @@
 // The text of an evening: the answers to a plan, and the cabinets after it, written octet by octet into
 // a buffer that the caller lends.
+#![tactic(auto)]
+
 ghost use Rattle.std.specs.Prelude.{◌≤◌, ◌≡◌, length};
 ghost use Rattle.std.proofs.lemmas.List.Edits.{sets};
 ghost use Rattle.load.specs.Load.{load};

@@ -1,5 +1,7 @@
 // Prints the text of the evening that group.dat and plan.dat describe, in the folder that it runs in.
 // A file that cannot be opened or read counts as empty.
+#![tactic(auto)]
+
 ghost use Rattle.io.specs.Counts.{IsPrefixLen};
 
 use libc::STDOUT_FILENO;

@@ -1,5 +1,7 @@
 // What an operation comes to, for a chronicle: what became of a packet, whether a recovery ended, and what a cabinet did.
 // Cabinets are numbered from 0 here.
+#![tactic(auto)]
+
 ghost use Rattle.std.specs.Prelude.{◌≤◌, ◌≡◌, cond};
 ghost use Rattle.claims.specs.Fifo.{enters_error, fails, trips};
 ghost use Rattle.events.specs.Fates.{heeds, is_fault, fate_of, fate_at, fate_by, fate_in, ended_by, ended_in};

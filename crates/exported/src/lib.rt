@@ -1,5 +1,7 @@
 // What programs in other languages may call, as `rt staticlib exported` builds it. In C a slice is two parameters, where it begins and
 // how many octets it has. Each function answers the whole length of its text and stores as much of it as the buffer takes.
+#![tactic(auto)]
+
 ghost use Rattle.std.specs.Prelude.{◌≤◌, ◌≡◌, length};
 ghost use Rattle.std.proofs.lemmas.List.Edits.{sets};
 ghost use Rattle.load.specs.Load.{load};

@@ -1,4 +1,6 @@
 // The steps fail and trip: a cabinet fails, or trips and restarts, and its neighbours enter error.
+#![tactic(auto)]
+
 ghost use Rattle.std.specs.Prelude.{◌≡◌, false, not, cond, ◌&&◌, ◌||◌, set};
 ghost use Rattle.marks.specs.Marks.{marked};
 ghost use Rattle.marks.specs.Reach.{connected};

@@ -1,5 +1,7 @@
 // The state of a group by value: cabinets, the link rows, the lines and the store.
 // Cabinets are numbered 0 to 7 here: a cabinet's number in a file or a record, less one.
+#![tactic(auto)]
+
 ghost use Rattle.std.specs.Prelude.{◌≡◌, ◌<◌, get_or};
 ghost use Rattle.group.specs.Group.{cabinet, with_cabinet, state_of, outgoing, with_outgoing, line, with_line, with_store, home, slot, no_row, rows_of, row_at, of_rows, with_sound, trips_of, with_trips_of, with_settled, settle_over, answering, taken};
 
@@ -13,14 +15,14 @@ use state::State;
 use store::Store;
 
 // One row of eight marks for a cabinet: its links.
-#[derive(Drop)]
+#[derive(Clone, Copy)]
 pub struct Row {
     pub marks: [bool; 8],
 }
 
 // links: the file's; sound: those of them not found faulty; trips: how often each cabinet tripped since the last commit;
 // packets: the packet version, the file's; settled: which word settled the latest recovery.
-#[derive(Drop)]
+#[derive(Clone, Copy)]
 pub struct Group {
     pub n: u8,
     pub cabinets: [Cabinet; 8],
@@ -34,7 +36,7 @@ pub struct Group {
 }
 
 // An answer with the group, lines and store after it.
-#[derive(Drop)]
+#[derive(Clone, Copy)]
 pub struct Outcome {
     pub answer: u8,
     pub group: Group,

@@ -1,4 +1,6 @@
 // The steps damage and lose: a packet on a line is damaged, or a normal one vanishes from it.
+#![tactic(auto)]
+
 ghost use Rattle.std.specs.Prelude.{◌≡◌};
 ghost use Rattle.hurting.specs.Hurting.{hurt_already, hurt_if, damage_refusal, damage, lose_refusal, lose};
 

@@ -1,10 +1,12 @@
 // A cabinet's image: 32 octets, the bookings of the outlets and of the workshop first.
+#![tactic(auto)]
+
 ghost use Rattle.std.specs.Prelude.{◌≡◌, ◌+◌, ◌-◌, ◌*◌, ◌<◌, slice_index};
 ghost use Rattle.image.specs.Image.{blank_image, booking_at, booking, with_booking, charged, credited, with_octet, with_piece};
 
 use outlet::Outlet;
 
-#[derive(Drop)]
+#[derive(Clone, Copy)]
 pub struct Image {
     pub octets: [u8; 32],
 }

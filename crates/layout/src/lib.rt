@@ -1,4 +1,6 @@
 // A packet, a line and a cabinet as octets of a chronicle, each written into a buffer that the caller lends, as in `buffer`.
+#![tactic(auto)]
+
 ghost use Rattle.std.specs.Prelude.{◌≡◌, if◌then◌else◌};
 ghost use Rattle.buffer.specs.Written.{Written};
 ghost use Rattle.layout.specs.Layout.{high, low, numbered, place_kind, place_first, place_second, alarm_kind, alarm_first, alarm_second, four_octets, packet_octets, line_octets, lines_to, lines_from, version_octet, detail_octets, cabinet_octets};

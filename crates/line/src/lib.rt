@@ -1,17 +1,19 @@
 // The lines between cabinets, by value.
+#![tactic(auto)]
+
 ghost use Rattle.std.specs.Prelude.{◌≡◌, ◌≤◌, cond};
 ghost use Rattle.line.specs.Line.{empty_line, oldest, rest, put, normals, packet_at, replaced, without, first_empty};
 
 use outlet::Party;
 use packet::Packet;
 
-#[derive(Drop)]
+#[derive(Clone, Copy)]
 pub struct Cell {
     pub packet: Packet,
 }
 
 // One direction of a link, oldest packet first; the empty cells stand last.
-#[derive(Drop)]
+#[derive(Clone, Copy)]
 pub struct Line {
     pub cells: [Cell; 12],
 }

@@ -1,4 +1,6 @@
 // What a cabinet does with a normal packet, a checkp and an invalid one: the packets at which a link fault is found.
+#![tactic(auto)]
+
 ghost use Rattle.std.specs.Prelude.{◌≡◌};
 ghost use Rattle.protocol.specs.Receive.{takes_from, takes};
 ghost use Rattle.linkcheck.specs.Linkcheck.{link_fault, normal_faulty, normal_taken, compares, checkp_faulty, take_checkp, join_if, checkp_taken, invalid_faulty};

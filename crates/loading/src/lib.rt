@@ -1,5 +1,7 @@
 // The group, lines and store that a group file makes.
 // A cabinet has its number in the file, less one: 0 to 7.
+#![tactic(auto)]
+
 ghost use Rattle.std.specs.Prelude.{◌≡◌, ◌<◌, ◌≤◌, get_or};
 ghost use Rattle.marks.specs.Marks.{no_marks};
 ghost use Rattle.store.specs.Store.{of_each};

@@ -1,4 +1,6 @@
 // Eight marks, one for each cabinet, rows of marks, and the reach check. Cabinets are numbered 0 to 7.
+#![tactic(auto)]
+
 ghost use Rattle.std.specs.Prelude.{◌≡◌, false, ◌&&◌, ◌||◌, ℕ, ◌<◌, ◌≤◌, set};
 ghost use Rattle.marks.specs.Marks.{marked, in_both, in_either, in_first, lowest, covers, both, either, without, above, or_lowest, next_up};
 ghost use Rattle.marks.specs.Reach.{

@@ -1,4 +1,6 @@
 // The moves of one cabinet that the kinds of step are made of, each on the cabinet and its outgoing lines.
+#![tactic(auto)]
+
 ghost use Rattle.std.specs.Prelude.{◌≡◌};
 ghost use Rattle.protocol.specs.Moves.{reason_for, enter_error as groupEntersError};
 ghost use Rattle.protocol.specs.Receive.{serving};

@@ -1,5 +1,7 @@
 // Which save the rule "Which save" gives, by the number of the operation that made it, and the operations that change it.
 // Cabinets are numbered from 0 here.
+#![tactic(auto)]
+
 ghost use Rattle.std.specs.Prelude.{◌≡◌};
 ghost use Rattle.protocol.specs.History.{goes};
 ghost use Rattle.newest.specs.declared.Sort.TheVariants.{SavedReport};
@@ -12,7 +14,7 @@ use state::State;
 use turns::Order;
 
 // The operations that a chronicle tells more of than their answer; a loss is a fail or a trip.
-#[derive(Drop)]
+#[derive(Clone, Copy)]
 pub enum Sort {
     Delivery { a: u8, b: u8 },
     SavedReport { a: u8 },
@@ -25,7 +27,7 @@ pub enum Sort {
 
 // The save that the rule gives: the number of the operation that made it, that of the save before, its coordinator, and whether a
 // cabinet took its resume or was restored from it.
-#[derive(Drop)]
+#[derive(Clone, Copy)]
 pub struct Newest {
     pub number: u16,
     pub before: u16,

@@ -1,4 +1,6 @@
 // A cabinet's outgoing lines by value: one of them read or replaced, and packets put on several at once.
+#![tactic(auto)]
+
 ghost use Rattle.std.specs.Prelude.{◌≡◌, ◌<◌, cond};
 ghost use Rattle.line.specs.Line.{put};
 ghost use Rattle.outgoing.specs.Lines.{empty_lines, line_to, with_line_to, is_laden, laden, put_row_to, put_all, checkp_cell, checkps, put_checkps};
@@ -7,7 +9,7 @@ use line::{Cell, Line};
 use packet::{Check, Packet};
 
 // A cabinet's eight outgoing lines.
-#[derive(Drop)]
+#[derive(Clone, Copy)]
 pub struct Outgoing {
     pub lines: [Line; 8],
 }

@@ -1,9 +1,11 @@
 // The outlets of a cabinet and its workshop's booking, how a send and a packet name them, and the two parties that they belong to.
+#![tactic(auto)]
+
 ghost use Rattle.std.specs.Prelude.{◌≡◌};
 ghost use Rattle.outlet.specs.Outlet.{octet_of, ends_of, party_of, same_party};
 
 // What a cabinet books for: its outlets A and B, and the workshop.
-#[derive(Drop)]
+#[derive(Clone, Copy)]
 pub enum Outlet {
     A,
     B,
@@ -11,14 +13,14 @@ pub enum Outlet {
 }
 
 // Who sends over the lines.
-#[derive(Drop)]
+#[derive(Clone, Copy)]
 pub enum Party {
     Buses,
     Workshop,
 }
 
 // The outlets at the two ends of a send.
-#[derive(Drop)]
+#[derive(Clone, Copy)]
 pub struct Ends {
     pub from: Outlet,
     pub to: Outlet,

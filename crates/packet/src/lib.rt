@@ -1,5 +1,7 @@
 // Packets, and what they and a check register hold, by value.
 // Cabinets are numbered 0 to 7 here: a cabinet's number in a file or a record, less one.
+#![tactic(auto)]
+
 ghost use Rattle.std.specs.Prelude.{◌≡◌, ◌*◌, ◌^◌, ◌<◌, ◌&&◌, ◌==◌};
 ghost use Rattle.crc.specs.Crc.{crc_from};
 ghost use Rattle.packet.specs.Packet.{first_three, own_check, own_in, packed, own_octets, fits, start_check, step_check, same_check, link_place, same_place, is_empty, is_normal, is_of, in_reach, shifted, may_shift, pattern_right, hurt_by, damaged};
@@ -7,21 +9,21 @@ ghost use Rattle.packet.specs.Packet.{first_three, own_check, own_in, packed, ow
 use outlet::{Outlet, Party};
 
 // The packet version of a group: in version 2 each normal packet carries a check of its own.
-#[derive(Drop)]
+#[derive(Clone, Copy)]
 pub enum PacketVersion {
     One,
     Two,
 }
 
 // The check that a normal packet carries of itself, if any.
-#[derive(Drop)]
+#[derive(Clone, Copy)]
 pub enum OwnCheck {
     Unchecked,
     Checked(u16),
 }
 
 // What a normal packet carries: the receiving outlet, the amount that changes hands, and its own check.
-#[derive(Drop)]
+#[derive(Clone, Copy)]
 pub struct Payload {
     pub outlet: Outlet,
     pub amount: u16,
@@ -29,7 +31,7 @@ pub struct Payload {
 }
 
 // What damage hits a packet with: a pattern, shifted up by so many bits and then by so many octets.
-#[derive(Drop)]
+#[derive(Clone, Copy)]
 pub struct Pattern {
     pub mask: u16,
     pub bits: u8,
@@ -37,14 +39,14 @@ pub struct Pattern {
 }
 
 // What a check register and a checkp packet hold.
-#[derive(Drop)]
+#[derive(Clone, Copy)]
 pub struct Check {
     pub crc: u16,
     pub count: u16,
 }
 
 // Where a fault is: a cabinet that failed, one that tripped, or a link named lower number first.
-#[derive(Drop)]
+#[derive(Clone, Copy)]
 pub enum Place {
     Failed(u8),
     Tripped(u8),
@@ -52,7 +54,7 @@ pub enum Place {
 }
 
 // What stands in one place of a line: nothing, or a packet.
-#[derive(Drop)]
+#[derive(Clone, Copy)]
 pub enum Packet {
     Empty,
     Normal(Payload),

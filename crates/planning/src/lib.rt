@@ -1,4 +1,6 @@
 // Taking a point, and returning to one.
+#![tactic(auto)]
+
 ghost use Rattle.std.specs.Prelude.{◌≡◌};
 ghost use Rattle.state.specs.State.{bit_of};
 ghost use Rattle.store.specs.Store.{of_each};

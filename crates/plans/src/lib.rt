@@ -1,5 +1,7 @@
 // A group file and a plan, run from its first record to the last; what one record does is in
 // `turns`. The contract carries demand 3.
+#![tactic(auto)]
+
 ghost use Rattle.std.specs.Prelude.{◌≡◌};
 ghost use Rattle.std.proofs.lemmas.List.Edits.{sets};
 ghost use Rattle.load.specs.Load.{load};

@@ -1,11 +1,13 @@
 // Points to come back to: up to four, each with a name of eight octets and one image for each cabinet.
+#![tactic(auto)]
+
 ghost use Rattle.std.specs.Prelude.{◌≡◌, cond};
 ghost use Rattle.points.specs.Points.{no_point, no_points, point_at, with_point, image_at, same_name, is_named, is_free, first_place, place_of, place_for};
 
 use image::Image;
 
 // A place for a point: whether it holds one, the point's name, and its images.
-#[derive(Drop)]
+#[derive(Clone, Copy)]
 pub struct Point {
     pub kept: bool,
     pub name: [u8; 8],
@@ -13,7 +15,7 @@ pub struct Point {
 }
 
 // The four places.
-#[derive(Drop)]
+#[derive(Clone, Copy)]
 pub struct Points {
     pub places: [Point; 4],
 }

@@ -1,5 +1,6 @@
 // The steps of a group, what a step record decodes to, and a group with the points beside it.
 // The protocol itself is in specs/, closed runs of it are in proofs/, and the theorems about it in the crate claims.
+#![tactic(auto)]
 
 use group::Group;
 use packet::Pattern;
@@ -7,7 +8,7 @@ use points::Points;
 use settled::First;
 
 // A step with the fields that its kind uses. Cabinets are numbered from 1, as in the record.
-#[derive(Drop)]
+#[derive(Clone, Copy)]
 pub enum Step {
     Send { a: u8, b: u8, p: u8, q: u16 },
     Note { a: u8, p: u8, q: u16 },
@@ -25,7 +26,7 @@ pub enum Step {
 }
 
 // What six octets, or some other number of them, decode to.
-#[derive(Drop)]
+#[derive(Clone, Copy)]
 pub enum Decoded {
     Malformed,
     Unused,
@@ -33,28 +34,28 @@ pub enum Decoded {
 }
 
 // An answer with the points after it.
-#[derive(Drop)]
+#[derive(Clone, Copy)]
 pub struct Noted {
     pub answer: u8,
     pub points: Points,
 }
 
 // What is told of the word that settled the latest recovery: a refusal's number, or who it was.
-#[derive(Drop)]
+#[derive(Clone, Copy)]
 pub enum Told {
     Refused(u8),
     Settled(First),
 }
 
 // A group and its points.
-#[derive(Drop)]
+#[derive(Clone, Copy)]
 pub struct Site {
     pub group: Group,
     pub points: Points,
 }
 
 // An answer with the group and its points after it.
-#[derive(Drop)]
+#[derive(Clone, Copy)]
 pub struct Turn {
     pub answer: u8,
     pub site: Site,

@@ -1,5 +1,7 @@
 // A group file: its fields and the checks of a load.
 // A cabinet has its number in the file, less one: 0 to 7. Offsets are whole numbers and never wrap.
+#![tactic(auto)]
+
 ghost use Rattle.std.specs.Prelude.{◌≡◌, true, ◌&&◌, ◌-◌, ◌<◌, ◌≤◌, get_or, set, leb};
 ghost use Rattle.marks.specs.Reach.{connected};
 ghost use Rattle.load.specs.Load.{number, cabinet_count, link_count, table_offset, version_of, table_in, entry_at, link_table, total_length, home_of, store_mark, partner_of, booking_of, entry_total, lower_of, higher_of, order_of, version_named, offsets_right, partners_right, partner_right, cabinet_right, cabinets_right, link_right, rises_to, links_right, linked, with_link, link_rows, rows_in, present, feeder_total, totals_right, load_refusal};

@@ -1,5 +1,7 @@
 // The step record and the checks that every step meets first: 8 and 9 in decoding it, 10 to 12 of the cabinets that it names.
 // Cabinets are numbered from 1 in a record and in a decoded step, and from 0 elsewhere.
+#![tactic(auto)]
+
 ghost use Rattle.std.specs.Prelude.{◌≡◌, cond, ◌+◌, ◌-◌, ◌*◌};
 ghost use Rattle.state.specs.State.{works};
 ghost use Rattle.protocol.specs.declared.Decoded.TheVariants.{Unused};

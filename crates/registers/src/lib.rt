@@ -1,5 +1,7 @@
 // The check registers of one cabinet, by value.
 // Cabinets are numbered 0 to 7 here: a cabinet's number in a file or a record, less one.
+#![tactic(auto)]
+
 ghost use Rattle.std.specs.Prelude.{◌≡◌, get_or, set};
 ghost use Rattle.packet.specs.Packet.{start_check};
 ghost use Rattle.registers.specs.Registers.{start_registers, run_over_sent, run_over_taken, mark_hurt, restart_if, restart_to, restart_sent, restart_taken};
@@ -8,7 +10,7 @@ use packet::{Check, Payload};
 
 // The check registers of a cabinet's lines out and in, and which lines in had a normal packet
 // hurt since the register restarted.
-#[derive(Drop)]
+#[derive(Clone, Copy)]
 pub struct Registers {
     pub sent: [Check; 8],
     pub taken: [Check; 8],

@@ -1,6 +1,8 @@
 // A group file and a list of step records, run from the first record to the last; the contract
 // carries demand 3. What serves any list of operations is in specs/ and proofs/: `plans` runs one
 // with points and returns.
+#![tactic(auto)]
+
 ghost use Rattle.std.specs.Prelude.{◌≡◌};
 ghost use Rattle.std.proofs.lemmas.List.Edits.{sets};
 ghost use Rattle.load.specs.Load.{load};

@@ -1,4 +1,6 @@
 // The steps of a recovery: fetch, restored and unsure.
+#![tactic(auto)]
+
 ghost use Rattle.std.specs.Prelude.{◌≡◌};
 ghost use Rattle.protocol.specs.Moves.{drop_reports, come_back, note_at, note_for, note_lost};
 ghost use Rattle.protocol.specs.Kinds.{may_report, come_back_if_away, end_if_all, is_unsure, takes_unsure};

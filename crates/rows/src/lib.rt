@@ -1,4 +1,6 @@
 // A row of a chronicle, written into a buffer that the caller lends, as in `buffer`.
+#![tactic(auto)]
+
 ghost use Rattle.std.specs.Prelude.{◌≡◌};
 ghost use Rattle.buffer.specs.Written.{Written};
 ghost use Rattle.rows.specs.Rows.{told_first, told_second, head_octets, cabinets_to, row_octets};

@@ -1,4 +1,6 @@
 // The steps of a save: begin, write and saved.
+#![tactic(auto)]
+
 ghost use Rattle.std.specs.Prelude.{◌≡◌, not};
 ghost use Rattle.state.specs.State.{bit_of};
 ghost use Rattle.saving.specs.Saving.{begin_refusal, begin, write_refusal, piece_saved, write, owe_if, saved_refusal, all_saved, commit_if_all, trips_after};
@@ -34,7 +36,7 @@ pub fn begin(s: Seat, a: u8) -> Done
 // ---- 5 write
 
 // What a cabinet leaves that writes a piece or fetches one: the answer, itself and its share of the store, and whether its home owes a report on it.
-#[derive(Drop)]
+#[derive(Clone, Copy)]
 pub struct Kept {
     pub answer: u8,
     pub cabinet: Cabinet,

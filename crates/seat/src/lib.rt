@@ -1,5 +1,7 @@
 // A cabinet with its outgoing lines, by value: what one controller changes by itself.
 // Cabinets are numbered 0 to 7 here: a cabinet's number in a file or a record, less one.
+#![tactic(auto)]
+
 ghost use Rattle.std.specs.Prelude.{◌%◌, ◌≡◌};
 ghost use Rattle.seat.specs.Seat.{there, kept, line_there, line_kept, seat, with_seat, with_seat_cabinet, with_seat_lines, answered, spot};
 
@@ -8,21 +10,21 @@ use group::Group;
 use line::Line;
 use outgoing::Outgoing;
 
-#[derive(Drop)]
+#[derive(Clone, Copy)]
 pub struct Seat {
     pub cabinet: Cabinet,
     pub lines: Outgoing,
 }
 
 // An answer with the seat after it.
-#[derive(Drop)]
+#[derive(Clone, Copy)]
 pub struct Done {
     pub answer: u8,
     pub seat: Seat,
 }
 
 // An answer with a cabinet and one line after it.
-#[derive(Drop)]
+#[derive(Clone, Copy)]
 pub struct Spot {
     pub answer: u8,
     pub cabinet: Cabinet,

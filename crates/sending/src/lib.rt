@@ -1,4 +1,6 @@
 // The steps of a cabinet at work: send and note.
+#![tactic(auto)]
+
 ghost use Rattle.std.specs.Prelude.{◌≡◌, ◌%◌};
 ghost use Rattle.sending.specs.Sending.{send_refusal, send, note_refusal, note};
 

@@ -1,5 +1,7 @@
 // Which word settled a recovery: the first cabinet that entered recovering in it, and why.
 // Cabinets are numbered 0 to 7 here: a cabinet's number in a file or a record, less one.
+#![tactic(auto)]
+
 ghost use Rattle.std.specs.Prelude.{◌≡◌};
 ghost use Rattle.settled.specs.declared.Settled.TheVariants.{By};
 ghost use Rattle.settled.specs.Settled.{number_of, unfinished, reason_of, first_of, enters, ends};
@@ -8,7 +10,7 @@ use state::State;
 
 // Why a cabinet could go on: it was coordinator and knew its version, it was in a save with pieces
 // unfinished, it was in normal, or it decided when all had reported unsure.
-#[derive(Drop)]
+#[derive(Clone, Copy)]
 pub enum Reason {
     Led,
     Unfinished,
@@ -17,7 +19,7 @@ pub enum Reason {
 }
 
 // Who it was, why, and whether that recovery goes on: it has not ended yet.
-#[derive(Drop)]
+#[derive(Clone, Copy)]
 pub struct First {
     pub cabinet: u8,
     pub reason: Reason,
@@ -25,7 +27,7 @@ pub struct First {
 }
 
 // The first of the latest recovery in which a cabinet has entered recovering.
-#[derive(Drop)]
+#[derive(Clone, Copy)]
 pub enum Settled {
     Nobody,
     By(First),

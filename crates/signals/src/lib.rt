@@ -1,4 +1,6 @@
 // What a cabinet does with resume, recover and fault.
+#![tactic(auto)]
+
 ghost use Rattle.std.specs.Prelude.{◌≡◌};
 ghost use Rattle.protocol.specs.Receive.{resumes_from};
 ghost use Rattle.signals.specs.Signals.{adopt, resume_taken, recover_taken, hear, fault_crashes, fault_taken, fault_word};

@@ -1,9 +1,11 @@
 // The logical states of a cabinet and its version variable.
+#![tactic(auto)]
+
 ghost use Rattle.std.specs.Prelude.{◌≡◌};
 ghost use Rattle.state.specs.State.{rank, is_in, works, in_recovery, in_restoring, in_saving, is_unknown, bit_of, doubted, flipped, adopted};
 
 // The eight logical states of the 1984 paper, III-D, and failed.
-#[derive(Drop)]
+#[derive(Clone, Copy)]
 pub enum State {
     Failed,
     Normal,
@@ -17,7 +19,7 @@ pub enum State {
 }
 
 // The version variable: 0 is false, 1 is true. While it is unknown the old version is kept with it; a trip leaves none.
-#[derive(Drop)]
+#[derive(Clone, Copy)]
 pub enum Version {
     Known(bool),
     Unknown(bool),

@@ -1,5 +1,7 @@
 // The run of a list of records. The group is in one place, a local of the loop's function: a turn reads the parts that it touches, and stores
 // them back one by one. What is done to the parts is in `turns` and the kinds below it.
+#![tactic(auto)]
+
 ghost use Rattle.std.specs.Prelude.{min, ◌≡◌};
 ghost use Rattle.std.proofs.lemmas.List.Edits.{sets};
 ghost use Rattle.protocol.specs.Entry.{step};

@@ -1,5 +1,7 @@
 // The store by value: which cabinets keep saved images, who is home for whom, and each cabinet's two slots, which a store and its partner both have.
 // Cabinets are numbered 0 to 7 here: a cabinet's number in a file or a record, less one. No cabinet has the number 8.
+#![tactic(auto)]
+
 ghost use Rattle.std.specs.Prelude.{◌≡◌, ◌<◌, get_or};
 ghost use Rattle.store.specs.Store.{blank_slots, slot_in, with_slot_in, with_present, empty_store, file_home, is_store, partner, is_present, home_in, is_last, is_away, is_homed_at, homed_at, first_of, second_of, copy_at, slot_at, leaves, first_back, second_back, of_each, comes_back, set_slots};
 ghost use Rattle.store.specs.Share.{share, with_share, serves_in, slot_in_share, piece_to, put_piece_in};
@@ -7,7 +9,7 @@ ghost use Rattle.store.specs.Share.{share, with_share, serves_in, slot_in_share,
 use image::Image;
 
 // A cabinet's two slots.
-#[derive(Drop)]
+#[derive(Clone, Copy)]
 pub struct Slots {
     pub zero: Image,
     pub one: Image,
@@ -15,7 +17,7 @@ pub struct Slots {
 
 // homes: the home of each cabinet that the file names; stores: which cabinets are stores; partners: of each store its partner, 8 for none;
 // present: the stores that work and are not away; firsts: each cabinet's slots at its home in the file; seconds: those at that one's partner.
-#[derive(Drop)]
+#[derive(Clone, Copy)]
 pub struct Store {
     pub homes: [u8; 8],
     pub stores: [bool; 8],
@@ -26,7 +28,7 @@ pub struct Store {
 }
 
 // What the stores of a pair have of one cabinet: the slots at its home in the file and at that one's partner, who these are, and whether the home (here) and the partner (there) are present.
-#[derive(Drop)]
+#[derive(Clone, Copy)]
 pub struct Share {
     pub first: Slots,
     pub second: Slots,

@@ -1,4 +1,6 @@
 // What is asked of all cabinets at once, and a crash of the group.
+#![tactic(auto)]
+
 ghost use Rattle.std.specs.Prelude.{◌≡◌};
 ghost use Rattle.state.specs.declared.State.TheVariants.{Normal, Crashed};
 ghost use Rattle.state.specs.State.{works, is_in, in_recovery};

@@ -1,12 +1,14 @@
 // One cabinet's table of what is still in use and who is coordinator, by value.
 // Cabinets are numbered 0 to 7 here: a cabinet's number in a file or a record, less one.
+#![tactic(auto)]
+
 ghost use Rattle.std.specs.Prelude.{◌≡◌, false, cond, eqb, set};
 ghost use Rattle.table.specs.Table.{in_use, coordinator, struck_at, is_at, led_on_if, faulted_at};
 
 use packet::Place;
 
 // The cabinets still in use, a cabinet's own links still in use, and the coordinator.
-#[derive(Drop)]
+#[derive(Clone, Copy)]
 pub struct Table {
     pub cabinets: [bool; 8],
     pub links: [bool; 8],

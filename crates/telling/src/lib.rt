@@ -1,5 +1,7 @@
 // The line that tells which word settled the latest recovery of a run, written octet by octet into
 // a buffer that the caller lends.
+#![tactic(auto)]
+
 ghost use Rattle.std.specs.Prelude.{◌≤◌, ◌≡◌, length};
 ghost use Rattle.std.proofs.lemmas.List.Edits.{sets};
 ghost use Rattle.load.specs.Load.{load};

@@ -1,4 +1,6 @@
 // The lines of the listing, and that of the program `word`, each written into a buffer that the caller lends, as in `buffer`.
+#![tactic(auto)]
+
 ghost use Rattle.std.specs.Prelude.{◌≡◌, [], ◌∷◌};
 ghost use Rattle.protocol.specs.Listing.{
   version_word,

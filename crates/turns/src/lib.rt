@@ -1,5 +1,7 @@
 // What a record asks, which parts of the group it touches, and what is done to them: the kinds of step, each in the crate that is named here.
 // Cabinets are numbered from 0 here.
+#![tactic(auto)]
+
 ghost use Rattle.std.specs.Prelude.{◌≡◌, true, length, drop};
 ghost use Rattle.turns.specs.Turns.{record_size, step_in, order_of, name_in, first_in, second_in, first_named, second_named, linked, refused_or, taken_turn, found, unless_recovering, step_turn, record_turn, turn_of, doer, deed_done, line_left, call_done, word_left, piece_done, coordinator_of, report_refusal, home_left, reported, concluded, trips_left, word_of, closes_with};
 ghost use Rattle.turns.specs.Stored.{whole_stored};
@@ -16,7 +18,7 @@ use settled::Settled;
 use store::Share;
 
 // A step record, or a plan's record to take a point or to return to one.
-#[derive(Drop)]
+#[derive(Clone, Copy)]
 pub enum Order {
     Record(Decoded),
     Point,
@@ -24,7 +26,7 @@ pub enum Order {
 }
 
 // What changes one cabinet, the sender or the receiver, and the line between them.
-#[derive(Drop)]
+#[derive(Clone, Copy)]
 pub enum Deed {
     Send { p: u8, q: u16 },
     Note { p: u8, q: u16 },
@@ -34,21 +36,21 @@ pub enum Deed {
 }
 
 // What changes a cabinet and all its lines.
-#[derive(Drop)]
+#[derive(Clone, Copy)]
 pub enum Call {
     Begin,
     Signal,
 }
 
 // What goes between a cabinet and its home.
-#[derive(Drop)]
+#[derive(Clone, Copy)]
 pub enum Piece {
     Write,
     Fetch,
 }
 
 // What is reported to a coordinator.
-#[derive(Drop)]
+#[derive(Clone, Copy)]
 pub enum Report {
     Saved,
     Restored,
@@ -56,7 +58,7 @@ pub enum Report {
 }
 
 // What may change all cabinets.
-#[derive(Drop)]
+#[derive(Clone, Copy)]
 pub enum Whole {
     Fail,
     Trip,
@@ -64,7 +66,7 @@ pub enum Whole {
     Crash,
 }
 
-#[derive(Drop)]
+#[derive(Clone, Copy)]
 pub enum Turn {
     Refused(u8),
     Deed(Deed),

@@ -1,5 +1,7 @@
 // Prints which word settled the latest recovery in the run of group.dat and steps.dat in the folder
 // that it runs in. A file that cannot be opened or read counts as empty.
+#![tactic(auto)]
+
 ghost use Rattle.io.specs.Counts.{IsPrefixLen};
 
 use libc::STDOUT_FILENO;

@@ -1,4 +1,6 @@
 // The word of a logical state, written into a buffer that the caller lends, as in `buffer`.
+#![tactic(auto)]
+
 ghost use Rattle.protocol.specs.Listing.{state_word};
 ghost use Rattle.buffer.specs.Written.{Written};
 

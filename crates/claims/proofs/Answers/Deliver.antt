@@ -111,6 +111,7 @@ module _ (g : Group) (a b : ℕ) where
       to (n, (s, u)) = inr (found (fits p) refl n s, u)
 
       from : Upset (NormalPacket p) → (takes (cabinet g b) a p ≡ true → ⊥) × (Serves state × Parts)
+      from (inl x') = elim x' [ ]
       from (inr (after_checkp e m, u)) = let l = (late state (marked (cabinet g b).noted.come a)).1 (inl (e, m)) in (untaken l.0, (l.1, u))
       from (inr (after_cut e, u)) = let l = (late state (marked (cabinet g b).noted.come a)).1 (inr e) in (untaken l.0, (l.1, u))
       from (inr (unfit c e, u)) =
@@ -127,6 +128,7 @@ module _ (g : Group) (a b : ℕ) where
       to (s, (n, u)) = inr (unequal s n, u)
 
       from : Upset (Checkp v) → Compares state × ((v ≡ register → ⊥) × Parts)
+      from (inl x') = elim x' [ ]
       from (inr (unequal s n, u)) = (s, (n, u))
 
   fault_answers : (p : Place) → Answer g [] (Upset (Fault p)) (receive_fault g after a b p)
@@ -152,6 +154,7 @@ module _ (g : Group) (a b : ℕ) where
       to (s, u) = inr (hit s, u)
 
       from : Upset Invalid → Serves state × Parts
+      from (inl x') = elim x' [ ]
       from (inr (hit s, u)) = (s, u)
 
   resume_answers : Answer g [] (Upset Resume) (receive_resume after a b)

@@ -1,0 +1,8 @@
+-- `packet::Check::step` runs over the three octets and the packet's own check, and counts one more.
+use Rattle.packet.specs.Packet.{step_check}
+use Rattle.crc.specs.Crc.{crc_from}
+use Rattle.packet.proofs.Check.step.Goals as goal
+
+pub returns : goal.returns
+unfolding crc_from
+returns c = rw (c.wrapping_add_u16.ensures.value, c.over_own.ensures, c.over_three.ensures)
