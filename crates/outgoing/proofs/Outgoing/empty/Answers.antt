@@ -1,0 +1,8 @@
+-- `outgoing::Outgoing::empty` meets its contract.
+use borrow.Author.Rules.{rules}
+use Rattle.outgoing.specs.Lines.{empty_lines}
+use Rattle.outgoing.proofs.Outgoing.empty.Goals as goal
+
+pub returns : goal.returns
+unfolding empty_lines
+returns c = rw c.empty-line.ensures

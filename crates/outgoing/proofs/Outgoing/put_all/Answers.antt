@@ -1,0 +1,8 @@
+-- `outgoing::Outgoing::put_all` meets its contract.
+use borrow.Author.Rules.{rules}
+use Rattle.outgoing.specs.Lines.{put_all}
+use Rattle.outgoing.proofs.Outgoing.put_all.Goals as goal
+
+pub returns : goal.returns
+unfolding put_all
+returns c = rw c.put_row.ensures

@@ -1,0 +1,18 @@
+-- `with_point` meets its contract: past the last place nothing is set.
+use borrow.Author.Rules.{rules}
+use mathlib.Core.Path.{◌≡◌}
+use native.Mathlib.Omega.{arith}
+use lib.ListN.{length, length-map}
+use lib.Seq.{set_out}
+use Rattle.points.specs.Points.{with_point}
+use Rattle.points.proofs.Points.with_point.Goals as goal
+
+pub returns-then-k-lt4 : goal.returns-then-k-lt4
+unfolding with_point
+returns-then-k-lt4 c = search rules
+
+pub returns-else-k-lt4 : goal.returns-else-k-lt4
+unfolding with_point
+returns-else-k-lt4 c = let a = c.args in
+    let h : length a.self.places ≡ 4 = search rules in
+    rw (set_out a.self.places a.i a.p (omega arith))
