@@ -1,0 +1,13 @@
+-- `word` goes through its text in order: the invariant is that the octets passed are written.
+use Rattle.std.proofs.Common.{◌-◌, ◌≤◌, length, take, add-one, take_all, take-suc, rules}
+use Rattle.buffer.specs.Written.{Written}
+use Rattle.buffer.proofs.Texts.{then, nothing}
+use Rattle.buffer.proofs.word.Given as goal
+
+abbrev pub invariant-loop-i : goal.invariant-loop-i
+invariant-loop-i l = (l.i ≤ length l.initial.out) × Written (take l.i l.initial.out) l.text l.at l.end l.out
+
+
+abbrev pub decreases-loop-i : goal.decreases-loop-i
+decreases-loop-i l = length l.initial.out - l.i
+

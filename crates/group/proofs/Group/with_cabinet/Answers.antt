@@ -1,0 +1,18 @@
+-- `group::Group::with_cabinet` meets its contract: past the last place nothing is set.
+use borrow.Author.Rules.{rules}
+use mathlib.Core.Path.{◌≡◌}
+use native.Mathlib.Omega.{arith}
+use lib.ListN.{length, length-map}
+use lib.Seq.{set_out}
+use Rattle.group.specs.Group.{with_cabinet}
+use Rattle.group.proofs.Group.with_cabinet.Goals as goal
+
+pub returns-then-k-lt8 : goal.returns-then-k-lt8
+unfolding with_cabinet
+returns-then-k-lt8 c = search rules
+
+pub returns-else-k-lt8 : goal.returns-else-k-lt8
+unfolding with_cabinet
+returns-else-k-lt8 c = let a = c.args in
+    let h : length a.self.cabinets ≡ 8 = search rules in
+    rw (set_out a.self.cabinets a.i a.c (omega arith))

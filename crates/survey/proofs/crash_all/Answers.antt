@@ -1,0 +1,8 @@
+-- `survey::crash_all` meets its contract.
+use borrow.Author.Rules.{rules}
+use Rattle.group.specs.Group.{crash_all}
+use Rattle.survey.proofs.crash_all.Goals as goal
+
+pub returns : goal.returns
+unfolding crash_all
+returns c = rw c.crashing_ones-cabinets.ensures

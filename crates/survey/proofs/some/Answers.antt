@@ -1,0 +1,8 @@
+-- `survey::some` meets its contract.
+use borrow.Author.Rules.{rules}
+use Rattle.group.specs.Group.{some}
+use Rattle.survey.proofs.some.Goals as goal
+
+pub returns : goal.returns
+unfolding some
+returns c = rw c.lowest.ensures
