@@ -3,8 +3,8 @@
 
 usage: python3 tools/respell.py [--list]     at the top of the repository, once, after the kit's port.py
 
-What is renamed: what specs/ and proofs/ of a crate declare (definitions, lemmas, fields, constructors), where the name has a
-capital inside or a dash between two words. Types and modules keep their camel case. Not renamed: names that a generated
+What is renamed: what specs/ and proofs/ of a crate declare (definitions, lemmas, fields, constructors) and what an import calls
+them, where the name has a capital inside or a dash between two words. Types and modules keep their camel case. Not renamed: names that a generated
 statement asks for (answers of a function's proof), names that stand in strings, and functions of src/.
 --list writes the table of old and new names and changes nothing.
 """
@@ -112,6 +112,10 @@ def main():
                 new = snake(n)
                 if new != n:
                     table[n] = new
+    # What a definition is called where it is used.
+    for t in texts.values():
+        for n in re.findall(r" as ([a-z]\w*[A-Z]\w*)", t):
+            table[n] = snake(n)
     # A name that is also imported from the kit's library is the library's, and stays.
     for p, t in texts.items():
         for m in re.finditer(r"^(?:pub )?(?:ghost )?use ([^\s{]+)\.\{([^}]*)\}", t, re.M):

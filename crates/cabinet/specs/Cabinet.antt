@@ -7,7 +7,7 @@ use Rattle.packet.specs.declared.Place.{Place}
 use Rattle.registers.specs.declared.Registers.{Registers}
 use Rattle.registers.specs.Registers.{start_registers, run_over_sent, run_over_taken, mark_hurt, restart_sent, restart_taken}
 use Rattle.table.specs.declared.Table.{Table}
-use Rattle.table.specs.Table.{is_at, faulted_at, in_use as tableInUse, coordinator as tableCoordinator}
+use Rattle.table.specs.Table.{is_at, faulted_at, in_use as table_in_use, coordinator as table_coordinator}
 use Rattle.image.specs.Image.{blank_image, charged, credited}
 use Rattle.state.specs.declared.State.{State}
 use Rattle.state.specs.declared.State.TheVariants.{Failed, Normal, CheckpBegin, Checkpointing, Checkpointed, Error, Recovering, Recovered, Crashed}
@@ -88,10 +88,10 @@ absent = record {
 -- ---- what a cabinet's table says: its neighbours over links in use, and its coordinator
 
 abbrev pub in_use : Cabinet → Marks
-in_use c = tableInUse c.table
+in_use c = table_in_use c.table
 
 abbrev pub coordinator : Cabinet → ℕ
-coordinator c = tableCoordinator c.table
+coordinator c = table_coordinator c.table
 
 -- ---- normal packets
 

@@ -2,7 +2,7 @@
 #![tactic(auto)]
 
 ghost use Rattle.std.specs.Prelude.{◌≡◌};
-ghost use Rattle.protocol.specs.Moves.{reason_for, enter_error as groupEntersError};
+ghost use Rattle.protocol.specs.Moves.{reason_for, enter_error as group_enters_error};
 ghost use Rattle.protocol.specs.Receive.{serving};
 ghost use Rattle.moves.specs.Seats.{broadcast, join, cut_if_all, resume_with, commit, recover_with, recover_if_known, raise, enter_error, word_by, end_recovery};
 
@@ -132,7 +132,7 @@ pub fn word_by(settled: Settled, c: Cabinet, i: u8) -> Settled
 
 // Cabinet i of a group enters error.
 pub fn alarm(g: Group, i: u8, p: Place) -> Group
-    ensures { result ≡ groupEntersError g i p }
+    ensures { result ≡ group_enters_error g i p }
 {
     let s = seat::taken_out(g, i);
     let c = s.cabinet;

@@ -5,9 +5,9 @@ use Rattle.buffer.proofs.Texts.{then, nothing}
 use Rattle.buffer.proofs.word.Given as goal
 
 abbrev pub invariant-loop-i : goal.invariant-loop-i
-invariant-loop-i l = (l.i ≤ length l.initial.out) × Written (take l.i l.initial.out) l.text l.at l.end l.out
+invariant-loop-i l = (l.i ≤ length l.text) × Written (take l.i l.text) l.at l.initial.out l.end l.out
 
 
 abbrev pub decreases-loop-i : goal.decreases-loop-i
-decreases-loop-i l = length l.initial.out - l.i
+decreases-loop-i l = length l.text - l.i
 

@@ -21,7 +21,7 @@ use Rattle.settled.specs.declared.Reason.{Reason}
 use Rattle.settled.specs.declared.Reason.TheVariants.{Led, Unfinished, InNormal, Decided}
 use Rattle.settled.specs.declared.Settled.{Settled}
 use Rattle.settled.specs.declared.Settled.TheVariants.{Nobody, By}
-use Rattle.settled.specs.Settled.{number_of, unfinished, reason_of, first_of as firstBy, enters, ends as noteEnds}
+use Rattle.settled.specs.Settled.{number_of, unfinished, reason_of, first_of as first_by, enters, ends as note_ends}
 use Rattle.cabinet.specs.declared.Phase.{Phase}
 use Rattle.cabinet.specs.declared.Cabinet.{Cabinet}
 use Rattle.group.specs.declared.Group.{Group}
@@ -158,11 +158,11 @@ open_enters : (s : Settled) (i : ℕ) (r : Reason) → open_in (enters s i r) �
 open_enters Nobody i r = refl
 open_enters (By f) i r = go f.going refl
   where
-    go : (t : Bool) → f.going ≡ t → open_in (cond t (By f) (By (firstBy i r))) ≡ true
+    go : (t : Bool) → f.going ≡ t → open_in (cond t (By f) (By (first_by i r))) ≡ true
     go true e = e
     go false e = refl
 
-over_ends : (s : Settled) → (open_in (noteEnds s) ≡ false) × (first_in (noteEnds s) ≡ first_in s)
+over_ends : (s : Settled) → (open_in (note_ends s) ≡ false) × (first_in (note_ends s) ≡ first_in s)
 over_ends Nobody = (refl, refl)
 over_ends (By f) = (refl, refl)
 
@@ -175,10 +175,10 @@ noted_said : (h : Account) (g g' : Group) (i : ℕ) (d : Bool) (r : Reason) → 
     → reason_in d (h.entry i) ≡ number_of r → Said g' (note_first h i d)
 noted_said h g g' i d r l said e fits = go g.settled refl
   where
-    fresh : (s : Settled) → g.settled ≡ s → open_in s ≡ false → enters s i r ≡ By (firstBy i r) → Said g' (note_first h i d)
+    fresh : (s : Settled) → g.settled ≡ s → open_in s ≡ false → enters s i r ≡ By (first_by i r) → Said g' (note_first h i d)
     fresh s q o n =
         let unopened : (ltb i 8 && not h.under_way) ≡ true = and_intro (lt-ltb i 8 l) (ap not (said.open' ∙ ap open_in q ∙ o)) in
-        let note : g'.settled ≡ By (firstBy i r) = e ∙ ap (λ (x : Settled). enters x i r) q ∙ n in
+        let note : g'.settled ≡ By (first_by i r) = e ∙ ap (λ (x : Settled). enters x i r) q ∙ n in
         rw unopened (record { open' = sym (ap open_in note); told = ap (λ (k : ℕ). some (i, k)) fits ∙ sym (ap first_in note) })
 
     go : (s : Settled) → g.settled ≡ s → Said g' (note_first h i d)
@@ -191,10 +191,10 @@ noted_said h g g' i d r l said e fits = go g.settled refl
 
         on : (t : Bool) → f.going ≡ t → Said g' (note_first h i d)
         on true k =
-            let same : g'.settled ≡ g.settled = e ∙ ap (λ (x : Settled). enters x i r) q ∙ ap (λ (t : Bool). cond t (By f) (By (firstBy i r))) k ∙ sym q in
+            let same : g'.settled ≡ g.settled = e ∙ ap (λ (x : Settled). enters x i r) q ∙ ap (λ (t : Bool). cond t (By f) (By (first_by i r))) k ∙ sym q in
             rw (unnoted h i d (ap (λ (t : Bool). ltb i 8 && not t) (said.open' ∙ ap open_in q ∙ k) ∙ off (ltb i 8)))
             (record { open' = said.open' ∙ ap open_in (sym same); told = said.told ∙ ap first_in (sym same) })
-        on false k = fresh (By f) q k (ap (λ (t : Bool). cond t (By f) (By (firstBy i r))) k)
+        on false k = fresh (By f) q k (ap (λ (t : Bool). cond t (By f) (By (first_by i r))) k)
 
 -- ---- a taken step
 
@@ -371,7 +371,7 @@ module _ (total : Party → ℕ) (g : Group) (p : History) (u : Runs total g p) 
       by_word q (gone_on b k) b Decided k.below (gone_lowest b k) note
       (ap (λ (y : Bool). reason_in y (entered.entry b)) so ∙ ap (reason_in true) (entry_old b (ap in_recovery k.erred) ∙ l.1) ∙ decided_fits l.0 l.2 l.3)
 
-  by_end : e ≡ true → (j : ℕ) → works (state_of g j) ≡ true → ends g g' j ≡ true → ((c : ℕ) → newly (v c) (w c) ≡ false) → g'.settled ≡ noteEnds g.settled → Holds
+  by_end : e ≡ true → (j : ℕ) → works (state_of g j) ≡ true → ends g g' j ≡ true → ((c : ℕ) → newly (v c) (w c) ≡ false) → g'.settled ≡ note_ends g.settled → Holds
   by_end q j wk en off note = (
     record {
       open' = ap (λ (k : Account). k.under_way) is ∙ sym (ap open_in note ∙ (over_ends g.settled).0);

@@ -49,7 +49,7 @@ use Rattle.claims.proofs.Moves.Alarming.{Alarmed, near, g_said, alarm_all}
 use Rattle.claims.proofs.Moves.Failing.{rest_reached, uncut}
 use Rattle.claims.proofs.Moves.FailPlaces.{below_eight}
 use Rattle.claims.proofs.Moves.FailStep.{past_big, kept_known, kept_other, past_undone, fail_reach}
-use Rattle.claims.proofs.Moves.Tripping.{tripped as vDown, tripped_seen, trip_works, other_own, trip_own, trip_unused, tripped_other, tripped_chief, tripped_undone}
+use Rattle.claims.proofs.Moves.Tripping.{tripped as v_down, tripped_seen, trip_works, other_own, trip_own, trip_unused, tripped_other, tripped_chief, tripped_undone}
 
 split_or : (x y z w : Bool) → (x || (y || (z && not w))) ≡ false → (x ≡ false) × (y ≡ false) × (z ≡ true → w ≡ true)
 split_or true y z w e = absurd (true≢false e)
@@ -95,7 +95,7 @@ module _ (total : Party → ℕ) (g : Group) (h : History) (γ : Ghost) (fit : F
   flipped : Core g.n total v (g_faulted γ)
   flipped = openly.flipped total g γ fit i checks.1
 
-  pub seen : view g1 ≡ vDown v a
+  pub seen : view g1 ≡ v_down v a
   seen = sim_tripped g fit a la ∙ tripped_seen v a
 
   below : (c : ℕ) → work_of v c ≡ true → c < 8
@@ -103,10 +103,10 @@ module _ (total : Party → ℕ) (g : Group) (h : History) (γ : Ghost) (fit : F
 
   -- ---- the tripped cabinet and the others
 
-  works_down : (c : ℕ) → work_of (vDown v a) c ≡ work_of v c
+  works_down : (c : ℕ) → work_of (v_down v a) c ≡ work_of v c
   works_down = trip_works g.n total v (g_faulted γ) flipped nobody refl a up (λ d. i.meets a d up)
 
-  pub own_down : (c : ℕ) → c ≢ a → (vDown v a).own c ≡ v.own c
+  pub own_down : (c : ℕ) → c ≢ a → (v_down v a).own c ≡ v.own c
   own_down = other_own g.n total v (g_faulted γ) flipped nobody refl a up (λ d. i.meets a d up)
 
   -- it is in error and has no version
@@ -115,39 +115,39 @@ module _ (total : Party → ℕ) (g : Group) (h : History) (γ : Ghost) (fit : F
       let e = ap (λ (u : View). u.own a) seen ∙ trip_own g.n total v (g_faulted γ) flipped nobody refl a up (λ d. i.meets a d up) in
       (ap (λ (o : Own). o.state) e, ap (λ (o : Own). o.version) e)
 
-  used_down : (c d : ℕ) → used ((vDown v a).side c d) ≡ true → used (v.side c d) ≡ true
+  used_down : (c d : ℕ) → used ((v_down v a).side c d) ≡ true → used (v.side c d) ≡ true
   used_down c d =
       upd_elim (λ (s : ℕ → Side). used (s d) ≡ true → used (v.side c d) ≡ true) v.side a (λ d. s_alarmed q a d (v.side a d)) c
       (λ e u. ap (λ (j : ℕ). used (v.side j d)) e ∙ strike_used q a d (v.side a d) u) (λ n u. u)
 
   -- a neighbour is another cabinet: it was not in error
-  pub near_other : (c : ℕ) → near (vDown v a) a c ≡ true → c ≢ a
+  pub near_other : (c : ℕ) → near (v_down v a) a c ≡ true → c ≢ a
   near_other c e f =
-      never (subst (λ (j : ℕ). used ((vDown v a).side j a) ≡ true) f (and_true {s = work_of (vDown v a) c} e).1)
+      never (subst (λ (j : ℕ). used ((v_down v a).side j a) ≡ true) f (and_true {s = work_of (v_down v a) c} e).1)
       (trip_unused g.n total v (g_faulted γ) flipped nobody refl a up (λ d. i.meets a d up))
 
-  none_near : (c : ℕ) → near (vDown v a) a c ≡ true → (in_recovery ((vDown v a).own c).state ≡ false) × (is_at q c ≡ false)
+  none_near : (c : ℕ) → near (v_down v a) a c ≡ true → (in_recovery ((v_down v a).own c).state ≡ false) × (is_at q c ≡ false)
   none_near c e =
       let d = near_other c e in
       (ap (λ (o : Own). in_recovery o.state) (own_down c d) ∙ nobody c, ne_eqb a c (λ f. d (sym f)))
 
-  meets_down : (c d : ℕ) → work_of (vDown v a) c ≡ true → used ((vDown v a).side c d) ≡ true → work_of (vDown v a) d ≡ true
+  meets_down : (c d : ℕ) → work_of (v_down v a) c ≡ true → used ((v_down v a).side c d) ≡ true → work_of (v_down v a) d ≡ true
   meets_down c d w u = works_down d ∙ i.meets c d (sym (works_down c) ∙ w) (used_down c d u)
 
   -- ---- what is left once the ghost after the trip is settled
 
-  module _ (δ : Ghost) (core : Core g.n total (vDown v a) δ) (faulted : δ.big.faulted ≡ true)
+  module _ (δ : Ghost) (core : Core g.n total (v_down v a) δ) (faulted : δ.big.faulted ≡ true)
       (tabs : (c : ℕ) → (δ.mind c).tab ≡ (γ.mind c).tab) (links : (c d : ℕ) → (δ.wire c d).lk ≡ (γ.wire c d).lk)
       (left : (w : View) (t : Bool) → ((j : ℕ) → work_of w j ≡ true → work_of v j ≡ true)
       → ((j : ℕ) → is_in (w.own j).state Checkpointed ≡ true → is_in (v.own j).state Checkpointed ≡ true) → Past g.n w (g_said δ t) h') where
-    alarmed : Alarmed g.n total 8 a q (vDown v a) δ (view g')
+    alarmed : Alarmed g.n total 8 a q (v_down v a) δ (view g')
     alarmed =
         subst (λ (u : View). Alarmed g.n total 8 a q u δ (view g')) seen
         (alarm_all g.n total a q g1 (ok_trip Shaped Lined Pictured shaped g a fit) δ
         (subst (λ (u : View). Core g.n total u δ) (sym seen) core) faulted
         (subst (λ (u : View). (c : ℕ) → near u a c ≡ true → (in_recovery (u.own c).state ≡ false) × (is_at q c ≡ false)) (sym seen) none_near)
         (subst (λ (u : View). (c d : ℕ) → work_of u c ≡ true → used (s_alarmed q c d (u.side c d)) ≡ true → work_of u d ≡ true) (sym seen)
-        (λ c d w u. meets_down c d w (strike_used q c d ((vDown v a).side c d) u)))
+        (λ c d w u. meets_down c d w (strike_used q c d ((v_down v a).side c d) u)))
         8 (omega arith))
 
     abbrev δ' : Ghost
@@ -156,8 +156,8 @@ module _ (total : Party → ℕ) (g : Group) (h : History) (γ : Ghost) (fit : F
     work_after : (c : ℕ) → work_of (view g') c ≡ work_of v c
     work_after c = alarmed.worked c ∙ works_down c
 
-    own_a : (view g').own a ≡ (vDown v a).own a
-    own_a = (alarmed.others a (inr (is_false (near (vDown v a) a a) (λ e. near_other a e refl)))).0
+    own_a : (view g').own a ≡ (v_down v a).own a
+    own_a = (alarmed.others a (inr (is_false (near (v_down v a) a a) (λ e. near_other a e refl)))).0
 
     aware_a : (aware_of (view g') δ' a ≡ true) × (alarm_of (view g') a ≡ At q)
     aware_a =
@@ -169,9 +169,9 @@ module _ (total : Party → ℕ) (g : Group) (h : History) (γ : Ghost) (fit : F
     place_of c e = elim (ℕ_discrete c a) [
       | yes f ↦ ap (alarm_of (view g')) f ∙ aware_a.1
       | no d ↦
-          let n = is_true (near (vDown v a) a c) (λ f.
+          let n = is_true (near (v_down v a) a c) (λ f.
           never (aware_recovers δ'.big ((view g').own c) e) (ap (λ (o : Own). in_recovery o.state) ((alarmed.others c (inr f)).0 ∙ own_down c d) ∙ nobody c)) in
-          (alarmed.told c (below c (sym (works_down c) ∙ (and_true {s = work_of (vDown v a) c} n).0)) n).1
+          (alarmed.told c (below c (sym (works_down c) ∙ (and_true {s = work_of (v_down v a) c} n).0)) n).1
     ]
 
     places : PlacesOf (view g') δ'
@@ -187,15 +187,15 @@ module _ (total : Party → ℕ) (g : Group) (h : History) (γ : Ghost) (fit : F
     }
 
     meets_after : MeetsOf (view g')
-    meets_after c d w u = go (near (vDown v a) a c) refl
+    meets_after c d w u = go (near (v_down v a) a c) refl
       where
-        before : work_of (vDown v a) c ≡ true
+        before : work_of (v_down v a) c ≡ true
         before = sym (alarmed.worked c) ∙ w
 
-        go : (t : Bool) → near (vDown v a) a c ≡ t → work_of (view g') d ≡ true
+        go : (t : Bool) → near (v_down v a) a c ≡ t → work_of (view g') d ≡ true
         go true f =
             let s = ap used (sym ((alarmed.told c (below c (sym (works_down c) ∙ before)) f).2 d)) ∙ u in
-            alarmed.worked d ∙ meets_down c d before (strike_used q c d ((vDown v a).side c d) s)
+            alarmed.worked d ∙ meets_down c d before (strike_used q c d ((v_down v a).side c d) s)
         go false f = alarmed.worked d ∙ meets_down c d before (ap (λ (x : ℕ → Side). used (x d)) (sym (alarmed.others c (inr f)).1) ∙ u)
 
     -- no cabinet has its cut in the step, nor comes to wait
@@ -203,28 +203,28 @@ module _ (total : Party → ℕ) (g : Group) (h : History) (γ : Ghost) (fit : F
     no_new s saves c e = elim (ℕ_discrete c a) [
       | yes f ↦ absurd (never (and_true {s = δ'.big.faulted} aware_a.0).1
           (ap (λ (j : ℕ). in_recovery (state_of g' j)) (sym f) ∙ ap in_recovery state_is ∙ (saving_works s saves).1))
-      | no d ↦ go d (near (vDown v a) a c) refl
+      | no d ↦ go d (near (v_down v a) a c) refl
     ]
       where
         state_is : state_of g' c ≡ s
         state_is = (in_state (state_of g' c) s).0 e
 
-        go : c ≢ a → (t : Bool) → near (vDown v a) a c ≡ t → is_in (state_of g c) s ≡ true
+        go : c ≢ a → (t : Bool) → near (v_down v a) a c ≡ t → is_in (state_of g c) s ≡ true
         go d true f =
-            let l = below c (sym (works_down c) ∙ (and_true {s = work_of (vDown v a) c} f).0) in
+            let l = below c (sym (works_down c) ∙ (and_true {s = work_of (v_down v a) c} f).0) in
             absurd (never (alarmed.told c l f).0 (ap in_recovery state_is ∙ (saving_works s saves).1))
         go d false f = ap (λ (x : Own). is_in x.state s) (sym ((alarmed.others c (inr f)).0 ∙ own_down c d)) ∙ e
 
     -- nobody's report stands at one that entered error
     no_reports : (c : ℕ) → is_in (state_of g' c) Error ≡ true → (d : ℕ) → ((view g').side c d).unsure ≡ false
-    no_reports c e d = go (near (vDown v a) a c) refl
+    no_reports c e d = go (near (v_down v a) a c) refl
       where
-        go : (t : Bool) → near (vDown v a) a c ≡ t → ((view g').side c d).unsure ≡ false
+        go : (t : Bool) → near (v_down v a) a c ≡ t → ((view g').side c d).unsure ≡ false
         go true f =
-            let l = below c (sym (works_down c) ∙ (and_true {s = work_of (vDown v a) c} f).0) in
+            let l = below c (sym (works_down c) ∙ (and_true {s = work_of (v_down v a) c} f).0) in
             ap (λ (s : Side). s.unsure) ((alarmed.told c l f).2 d)
         go false f = elim (ℕ_discrete c a) [
-          | yes q ↦ ap (λ (s : ℕ → Side). (s d).unsure) (alarmed.others c (inr f)).1 ∙ ap (λ (j : ℕ). ((vDown v a).side j d).unsure) q
+          | yes q ↦ ap (λ (s : ℕ → Side). (s d).unsure) (alarmed.others c (inr f)).1 ∙ ap (λ (j : ℕ). ((v_down v a).side j d).unsure) q
               ∙ ap (λ (s : ℕ → Side). (s d).unsure) (upd_same v.side a (λ j. s_alarmed (AtTripped a) a j (v.side a j)))
           | no n ↦ absurd (never (error_recovers (state_of g' c) e) (ap (λ (x : Own). in_recovery x.state) ((alarmed.others c (inr f)).0 ∙ own_down c n) ∙ nobody c))
         ]

@@ -7,7 +7,7 @@ use mathlib.Core.List.{List, [], ◌∷◌, ◌++◌}
 use lib.ListN.{length, get_or, set, length-set}
 use lib.Dec.{eqb, ltb}
 use native.Mathlib.Omega.{arith}
-use Rattle.marks.specs.Marks.{Marks, marked, either, without as withoutMarks}
+use Rattle.marks.specs.Marks.{Marks, marked, either, without as without_marks}
 use Rattle.outlet.specs.declared.Outlet.{Outlet}
 use Rattle.outlet.specs.declared.Party.{Party}
 use Rattle.outlet.specs.declared.Party.TheVariants.{Buses, Workshop}
@@ -318,7 +318,7 @@ unfolding either
 shaped_also c m h = search
 
 shaped_but : (c : Cabinet) (m : Marks) → Shaped c → Shaped (owing_but c m)
-unfolding withoutMarks
+unfolding without_marks
 shaped_but c m h = search
 
 pub shaped : Closed Shaped Lined Pictured

@@ -23,7 +23,7 @@ use Rattle.state.specs.declared.Version.{Version}
 use Rattle.state.specs.declared.Version.TheVariants.{Known, Unknown, Lost}
 use Rattle.state.specs.State.{is_in, works, in_recovery, is_unknown}
 use Rattle.settled.specs.declared.Reason.TheVariants.{Decided}
-use Rattle.settled.specs.Settled.{enters, ends as noteEnds}
+use Rattle.settled.specs.Settled.{enters, ends as note_ends}
 use Rattle.cabinet.specs.declared.Cabinet.{Cabinet}
 use Rattle.cabinet.specs.declared.Alarm.{Alarm}
 use Rattle.cabinet.specs.declared.Alarm.TheVariants.{Quiet, Fault as At}
@@ -82,7 +82,7 @@ pub data Turn (g : Group) (γ : Ghost) (g' : Group) (t : ℕ) (d e : Bool) : Typ
   hears : e ≡ false → (b : ℕ) → GoesOn (view g).own (view g').own b → g'.settled ≡ g.settled → SomeKnows (view g) γ → Turn g γ g' t d e
   decides : e ≡ false → d ≡ true → (b : ℕ) → GoesOn (view g).own (view g').own b → g'.settled ≡ enters g.settled b Decided
       → (x : Bool) → ((view g).own b).version ≡ Unknown x → Turn g γ g' t d e
-  over : e ≡ true → (j : ℕ) → works (state_of g j) ≡ true → ends g g' j ≡ true → ((j : ℕ) → newly ((view g).own j) ((view g').own j) ≡ false) → g'.settled ≡ noteEnds g.settled → Turn g γ g' t d e
+  over : e ≡ true → (j : ℕ) → works (state_of g j) ≡ true → ends g g' j ≡ true → ((j : ℕ) → newly ((view g).own j) ((view g').own j) ≡ false) → g'.settled ≡ note_ends g.settled → Turn g γ g' t d e
 
 still_turn : {g g' : Group} {γ : Ghost} {t : ℕ} {d : Bool} → Still g g' → Turn g γ g' t d false
 still_turn {g} {g'} s =
@@ -322,9 +322,9 @@ module _ (total : Party → ℕ) (g : Group) (h : History) (γ : Ghost) (w : Fit
     unfolding note_lost
     noted_lost y = noted_for (cabinet y k).phase.alarm y (cabinet y k).phase.version
 
-    over_note : (settle_over (end_recovery (note_lost g1 k) k)).settled ≡ noteEnds g.settled
+    over_note : (settle_over (end_recovery (note_lost g1 k) k)).settled ≡ note_ends g.settled
     unfolding settle_over
-    over_note = ap noteEnds ((still_end (note_lost g1 k) k).same ∙ noted_lost g1 ∙ still1.same)
+    over_note = ap note_ends ((still_end (note_lost g1 k) k).same ∙ noted_lost g1 ∙ still1.same)
 
     restored_turn : {d : Bool} → Turn g γ (end_if_all g1 k) 8 d (ends g (end_if_all g1 k) a)
     unfolding end_if_all

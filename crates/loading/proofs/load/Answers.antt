@@ -11,8 +11,7 @@ use Rattle.group.specs.Group.{answering}
 use Rattle.load.specs.Load.{rows_in, group_of, no_group, load_refusal, load_with, load}
 use Rattle.load.proofs.Lists.{chosen, other}
 use Rattle.load.proofs.Passed.{passed}
-use Rattle.loading.proofs.load.Statement.{statement}
-use Rattle.loading.proofs.load.Tie as tie
+use Rattle.loading.proofs.load.Goals as goal
 
 loaded : (f : List ℕ) {rows : Rows} {g : Group} {k : ℕ} → k ≡ load_refusal f → k ≡ 0 → rows ≡ rows_in f → g ≡ group_of f rows → answering 0 g ≡ load f
 unfolding load
@@ -25,14 +24,9 @@ unfolding load
 refused f {g} {k} e z q =
     ap (answering k) q ∙ (sym (other (eqb k 0) (answering 0 (group_of f (rows_in f))) (answering k no_group) (ne_eqb k 0 z)) ∙ ap (load_with f) e)
 
-pub load_spec : {M : Type 1} → statement M
-load_spec = tie.close (tie.spec
-    (λ c κs. search rules)
-    (λ c κs. search rules)
-    (λ c κs. (passed c.before.before.before.before.args.file.now (sym c.before.before.load-refusal.ensures ∙ c.before.if1.true)).most)
-    (λ c κs. search rules)
-    (λ c κs. search rules)
-    (λ c κs. search rules)
-    (λ c. c.answering.ensures
-    ∙ loaded _ c.before.before.before.before.load-refusal.ensures c.before.before.before.if1.true c.before.before.rows_in.ensures c.before.group_of.ensures)
-    (λ c. c.answering2.ensures ∙ refused _ c.before.before.before.load-refusal.ensures c.before.before.if1.false c.before.no_group_lem.ensures))
+pub returns-then-refusal-eq0 : goal.returns-then-refusal-eq0
+returns-then-refusal-eq0 c = c.answering.ensures
+    ∙ loaded _ c.load_refusal-refusal.ensures c.if-refusal-eq0.true c.rows_in.ensures c.group_of.ensures
+
+pub returns-else-refusal-eq0 : goal.returns-else-refusal-eq0
+returns-else-refusal-eq0 c = c.answering-else-refusal-eq0.ensures ∙ refused _ c.load_refusal-refusal.ensures c.if-refusal-eq0.false c.no_group.ensures

@@ -1,0 +1,16 @@
+-- `word_by`, by the version.
+use borrow.Author.Rules.{rules}
+use Rattle.moves.specs.Seats.{word_by}
+use Rattle.moves.proofs.word_by.Goals as goal
+
+pub returns-in-Known : goal.returns-in-Known
+unfolding word_by
+returns-in-Known c = rw (c.enters.ensures, c.reason_for.ensures, c.in-Known.is)
+
+pub returns-in-Unknown : goal.returns-in-Unknown
+unfolding word_by
+returns-in-Unknown c = rw c.in-Unknown.is
+
+pub returns-in-Lost : goal.returns-in-Lost
+unfolding word_by
+returns-in-Lost c = rw c.in-Lost.is
