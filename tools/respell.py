@@ -19,7 +19,7 @@ WORDS = {"let", "in", "use", "where", "elim", "record", "data", "pub", "abbrev",
 
 
 def files():
-    for folder, dirs, names in sorted(os.walk("crates")):
+    for folder, dirs, names in os.walk("crates"):
         dirs[:] = sorted(d for d in dirs if d not in ("out", "must-fail"))
         for n in sorted(names):
             if n.endswith((".antt", ".rt")):
