@@ -1,4 +1,4 @@
-//! Links the archive that `rt staticlib exported` writes, or the one in the folder that
+//! Links the archive that `rt lib` writes in `crates/exported`, or the one in the folder that
 //! KIRSODZA_LIBRARY names.
 
 use std::env;
@@ -16,5 +16,5 @@ fn main() {
 
 fn usual_folder() -> PathBuf {
     let package = env::var_os("CARGO_MANIFEST_DIR").expect("cargo names the package's folder");
-    Path::new(&package).join("../target/staticlib")
+    Path::new(&package).join("../crates/exported/out")
 }

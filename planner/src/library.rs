@@ -1,4 +1,4 @@
-//! The proved library, as `rt staticlib exported` builds it.
+//! The proved library, as `rt lib` builds it in `crates/exported`.
 
 use crate::evening::Evening;
 

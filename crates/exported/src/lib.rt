@@ -1,4 +1,4 @@
-// What programs in other languages may call, as `rt staticlib exported` builds it. In C a slice is two parameters, where it begins and
+// What programs in other languages may call, as `rt lib` builds it here. In C a slice is two parameters, where it begins and
 // how many octets it has. Each function answers the whole length of its text and stores as much of it as the buffer takes.
 #![tactic(auto)]
 

@@ -1,0 +1,8 @@
+-- `checkp_faulty` asks both.
+use borrow.Author.Rules.{rules}
+use Rattle.linkcheck.specs.Linkcheck.{checkp_faulty}
+use Rattle.linkcheck.proofs.checkp_faulty.Goals as goal
+
+pub returns : goal.returns
+unfolding checkp_faulty
+returns c = rw (c.and.ensures, c.compares.ensures, c.same-unequal.ensures, c.check_at.ensures)

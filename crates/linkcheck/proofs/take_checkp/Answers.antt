@@ -1,0 +1,8 @@
+-- `take_checkp` follows its definition, call by call.
+use borrow.Author.Rules.{rules}
+use Rattle.linkcheck.specs.Linkcheck.{take_checkp}
+use Rattle.linkcheck.proofs.take_checkp.Goals as goal
+
+pub returns : goal.returns
+unfolding take_checkp
+returns c = rw (c.with_cabinet.ensures, c.cutting.ensures, c.comparing-compared.ensures)
