@@ -8,7 +8,7 @@ use Rattle.failing.proofs.Turns.{Alarmed, none_yet, next, all_turned}
 use Rattle.failing.proofs.alarm_neighbours.Goals as goal
 
 pub loop-i-init : goal.loop-i-init
-loop-i-init c = none_yet _ _ _ (search rules (search rules
+loop-i-init c = none_yet _ _ _ (search rules) (search rules)
 
 pub loop-i-preserved : goal.loop-i-preserved
 loop-i-preserved c = rw add-one (next _ _ _ c.enter_error_if-s.result _ c.loop-i.invariant c.loop-i-test.true

@@ -1,6 +1,7 @@
 -- `trip_step`, by whether it is the third.
 use borrow.Author.Rules.{rules}
 use borrow.Author.Tests.{le-ltb, lt-ltb}
+use Rattle.protocol.specs.Kinds.{trip_step}
 use Rattle.failing.proofs.trip_step.Goals as goal
 
 pub returns-then-count-lt2 : goal.returns-then-count-lt2
