@@ -5,8 +5,11 @@
 #![tactic(auto)]
 
 ghost use Rattle.std.specs.Prelude.{◌+◌, ◌*◌, ◌<◌, ◌≤◌, ◌≡◌};
+ghost use Rattle.io.specs.Counts.{IsPrefixLen};
 
-use libc::STDOUT_FILENO;
+use std::fs::File;
+use std::io::{Error, Read, Result};
+use std::rt::Files;
 
 // A proved loop has to end, and nothing says that a file does.
 const CASES_MOST: u64 = 1000000;
@@ -58,10 +61,25 @@ fn sizes_in(head: [u8; 12]) -> Sizes {
     Sizes { file, list, text }
 }
 
+// Reads until the buffer is full, the input ends or a read fails, and answers how many octets it put
+// at the buffer's start.
+fn read_full(input: &mut impl Read, buf: &mut [u8]) -> usize
+    ensures { IsPrefixLen result buf.new }
+{
+    let mut done = 0;
+    while done < buf.len() {
+        match input.read(&mut buf[done..]) {
+            Ok(0) | Err(_) => break,
+            Ok(n) => done += n,
+        }
+    }
+    done
+}
+
 // Reads n octets to the start of the buffer; whether it has room for them and they were there.
-fn filled(fd: i32, buffer: &mut [u8], n: usize) -> bool {
+fn filled(input: &mut impl Read, buffer: &mut [u8], n: usize) -> bool {
     let room = agreement::within(n, buffer);
-    io::read_full(fd, &mut buffer[..room]) == n
+    read_full(input, &mut buffer[..room]) == n
 }
 
 fn agrees(kind: Kind, file: &[u8], list: &[u8], text: &[u8]) -> bool {
@@ -84,13 +102,13 @@ fn judged(kind: Kind, file: &[u8], list: &[u8], text: &[u8], s: Sizes) -> Verdic
 }
 
 // Reads and runs a case. Its records may be some more than the 10,000 that are read.
-fn sized_case(kind: Kind, fd: i32, s: Sizes) -> Verdict {
+fn sized_case(kind: Kind, input: &mut impl Read, s: Sizes) -> Verdict {
     let mut file = [0u8; 4096];
     let mut list = [0u8; 90180];
     let mut text = [0u8; 201220];
-    if filled(fd, &mut file, s.file) {
-        if filled(fd, &mut list, s.list) {
-            if filled(fd, &mut text, s.text) {
+    if filled(input, &mut file, s.file) {
+        if filled(input, &mut list, s.list) {
+            if filled(input, &mut text, s.text) {
                 return judged(kind, &file, &list, &text, s);
             }
         }
@@ -98,16 +116,16 @@ fn sized_case(kind: Kind, fd: i32, s: Sizes) -> Verdict {
     Verdict::Broken
 }
 
-fn next_case(kind: Kind, fd: i32) -> Verdict {
+fn next_case(kind: Kind, input: &mut impl Read) -> Verdict {
     let mut head = [0u8; 12];
-    let got = io::read_full(fd, &mut head);
+    let got = read_full(input, &mut head);
     if got == 0 {
         return Verdict::End;
     }
     if got < 12 {
         return Verdict::Broken;
     }
-    sized_case(kind, fd, sizes_in(head))
+    sized_case(kind, input, sizes_in(head))
 }
 
 // ---- one container
@@ -141,7 +159,7 @@ fn counted(t: Tally, number: u64, v: Verdict) -> Tally
     t
 }
 
-fn run_all(kind: Kind, fd: i32) -> Tally {
+fn run_all(kind: Kind, input: &mut impl Read) -> Tally {
     let mut t = Tally {
         agree: 0,
         differ: 0,
@@ -151,7 +169,7 @@ fn run_all(kind: Kind, fd: i32) -> Tally {
     };
     let mut number: u64 = 0;
     while number < CASES_MOST && t.open {
-        t = counted(t, number, next_case(kind, fd));
+        t = counted(t, number, next_case(kind, input));
         number += 1;
     }
     t
@@ -159,50 +177,69 @@ fn run_all(kind: Kind, fd: i32) -> Tally {
 
 // ---- the program
 
-fn print(text: &[u8]) {
-    io::write_all(STDOUT_FILENO, text);
+fn print(rt: &impl Print, text: &[u8]) -> Result<()> {
+    rt.write_all(text)
 }
 
-fn print_tally(t: Tally) {
-    print(b": ");
-    io::print_decimal(STDOUT_FILENO, t.agree);
-    print(b" agree, ");
-    io::print_decimal(STDOUT_FILENO, t.differ);
-    print(b" differ");
+fn print_tally(rt: &impl Print, t: Tally) -> Result<()> {
+    print(rt, b": ")?;
+    rt.print(t.agree)?;
+    print(rt, b" agree, ")?;
+    rt.print(t.differ)?;
+    print(rt, b" differ")?;
     if t.differ > 0 {
-        print(b", first case ");
-        io::print_decimal(STDOUT_FILENO, t.first);
+        print(rt, b", first case ")?;
+        rt.print(t.first)?;
     }
     if t.broken {
-        print(b", then a broken case");
+        print(rt, b", then a broken case")?;
     }
-    print(b"\n");
+    print(rt, b"\n")
 }
 
-fn container(kind: Kind, name: &[u8], path: &[u8]) {
-    let fd = os::open_read(path);
-    if fd < 0 {
-        os::fail(path);
-        return;
+// Writes a line to standard error: the path, a colon and the system's text for the error. std prints
+// the error's number behind that text, which is left out.
+fn fail(rt: &(impl Eprint + Alloc), path: &str, e: &Error) -> Result<()> {
+    let message = format!(in rt.alloc(); "{e}")?;
+    match message.as_str().split_once(" (os error ") {
+        Some((text, _)) => eprintln!(rt; "{path}: {text}"),
+        None => eprintln!(rt; "{path}: {message}"),
     }
-    print(name);
-    print_tally(run_all(kind, fd));
-    libc::close(fd);
 }
 
-fn main() {
-    container(Kind::Listing, b"plain", b"plain.cases");
-    container(Kind::Listing, b"damage", b"damage.cases");
-    container(Kind::Listing, b"outlets", b"outlets.cases");
-    container(Kind::Listing, b"losses", b"losses.cases");
-    container(Kind::Listing, b"trips", b"trips.cases");
-    container(Kind::Listing, b"unsure", b"unsure.cases");
-    container(Kind::Listing, b"own checks", b"own_checks.cases");
-    container(Kind::Listing, b"workshop", b"workshop.cases");
-    container(Kind::Listing, b"partners", b"partners.cases");
-    container(Kind::Listing, b"made", b"made.cases");
-    container(Kind::Evening, b"points", b"points.cases");
-    container(Kind::Evening, b"planned", b"planned.cases");
-    container(Kind::Word, b"word", b"word.cases");
-    container(Kind::Word, b"worded", b"worded.cases");
+// Runs the container and prints its tally. One that cannot be opened gets a line on standard error
+// instead, and the run goes on, even where that line cannot be written.
+fn container(
+    rt: &(impl Files + Print + Eprint + Alloc),
+    kind: Kind,
+    name: &[u8],
+    path: &str,
+) -> Result<()> {
+    match File::open(rt, path) {
+        Ok(mut file) => {
+            print(rt, name)?;
+            print_tally(rt, run_all(kind, &mut file))
+        }
+        Err(e) => {
+            let _ = fail(rt, path, &e);
+            Ok(())
+        }
+    }
+}
+
+fn main(rt: HostRuntime) -> Result<()> {
+    container(&rt, Kind::Listing, b"plain", "plain.cases")?;
+    container(&rt, Kind::Listing, b"damage", "damage.cases")?;
+    container(&rt, Kind::Listing, b"outlets", "outlets.cases")?;
+    container(&rt, Kind::Listing, b"losses", "losses.cases")?;
+    container(&rt, Kind::Listing, b"trips", "trips.cases")?;
+    container(&rt, Kind::Listing, b"unsure", "unsure.cases")?;
+    container(&rt, Kind::Listing, b"own checks", "own_checks.cases")?;
+    container(&rt, Kind::Listing, b"workshop", "workshop.cases")?;
+    container(&rt, Kind::Listing, b"partners", "partners.cases")?;
+    container(&rt, Kind::Listing, b"made", "made.cases")?;
+    container(&rt, Kind::Evening, b"points", "points.cases")?;
+    container(&rt, Kind::Evening, b"planned", "planned.cases")?;
+    container(&rt, Kind::Word, b"word", "word.cases")?;
+    container(&rt, Kind::Word, b"worded", "worded.cases")
 }
