@@ -13,6 +13,8 @@ import os
 import re
 import sys
 
+# Of two names that would become one, these are no lemmas.
+APART = {"check-hurt": "check_hurt_run", "empty-lines": "lines_empty"}
 TOKEN = re.compile(r"[^\s(){}\[\],;.\"`⟨⟩]+")
 HEAD = re.compile(r"^(\s*)((?:(?:abbrev|pub|unfoldable|opaque|record|data|ruleset|mod)\s+)*)([^\s(){}\[\],;.\":]+)(?=\s*(?:[({:]|:))")
 WORDS = {"let", "in", "use", "where", "elim", "record", "data", "pub", "abbrev", "unfoldable", "mod", "module", "λ", "_", "open"}
@@ -91,7 +93,7 @@ def together(texts, table):
             if len(olds) > 1 and not new.endswith("_lem"):
                 rank = sorted(olds, key=lambda n: (not re.search("[a-z0-9][A-Z]", n), "-" in n, n))
                 for n in rank[1:]:
-                    table[n] = new + "_lem"
+                    table[n] = APART.get(n, new + "_lem")
 
 
 def own(path, text, name):

@@ -26,7 +26,7 @@ use Rattle.runs.proofs.Closed.Workshop.{parties_found}
 use Rattle.runs.proofs.Closed.Trips.{trips_found}
 use Rattle.protocol.specs.Unsure.{decided_after_fail, decided_after_fail_finds, decided_after_trip, decided_after_trip_finds, early, early_finds}
 use Rattle.runs.proofs.Closed.Unsure.{decisions_found}
-use Rattle.protocol.specs.OwnChecks.{hurt_on_taking, hurt_on_taking_finds, check_hurt_lem, check_hurt_finds, hurt_until_checkp, hurt_until_checkp_finds, fitting_loss, fitting_loss_finds}
+use Rattle.protocol.specs.OwnChecks.{hurt_on_taking, hurt_on_taking_finds, check_hurt_run, check_hurt_finds, hurt_until_checkp, hurt_until_checkp_finds, fitting_loss, fitting_loss_finds}
 use Rattle.runs.proofs.Closed.OwnChecks.{own_checks_found}
 use Rattle.protocol.specs.Partners.{home_fails, home_fails_finds, home_fails_undone, home_fails_undone_finds, partner_fails_next, partner_fails_next_finds, store_passed_over, store_passed_over_finds, lead_goes_round, lead_goes_round_finds, return_at_both, return_at_both_finds, partner_in_error, partner_in_error_finds, third_trip_of_a_store, third_trip_of_a_store_finds}
 use Rattle.runs.proofs.Closed.Partners.{partners_found}
@@ -139,8 +139,8 @@ early_restored = demanded early early_finds decisions_found.2 refl refl refl ref
 pub hurt_on_taking_restored : Demanded hurt_on_taking
 hurt_on_taking_restored = demanded hurt_on_taking hurt_on_taking_finds own_checks_found.0 refl refl refl refl refl
 
-pub check_hurt_restored : Demanded check_hurt_lem
-check_hurt_restored = demanded check_hurt_lem check_hurt_finds own_checks_found.1 refl refl refl refl refl
+pub check_hurt_restored : Demanded check_hurt_run
+check_hurt_restored = demanded check_hurt_run check_hurt_finds own_checks_found.1 refl refl refl refl refl
 
 pub hurt_until_checkp_restored : Demanded hurt_until_checkp
 hurt_until_checkp_restored = demanded hurt_until_checkp hurt_until_checkp_finds own_checks_found.2 refl refl refl refl refl

@@ -208,7 +208,7 @@ module _ (f : List ℕ) (rows : Rows) where
       presence = presence;
       at_work = working_present;
       past = gone ok.most;
-      empty_lines_lem = outgoing_empty;
+      lines_empty = outgoing_empty;
       empty = line_empty;
       slot_zero = λ h i l. slot_here f ok.most h i l ∙ sym (ap (λ (c : Cabinet). c.image) (here ok.most i l));
       slot_one = slot_one f ok.most;

@@ -48,7 +48,7 @@ pub record Starts (f : List ℕ) (g : Group) : Type 0 where
   -- the numbers past n have no cabinet
   pub past : (i : ℕ) → g.n ≤ i → cabinet g i ≡ absent
   -- every line is empty
-  pub empty_lines_lem : (i : ℕ) → outgoing g i ≡ empty_lines
+  pub lines_empty : (i : ℕ) → outgoing g i ≡ empty_lines
   pub empty : (i j : ℕ) → line g i j ≡ empty_line
   -- "slot 0 holds the starting images", at every store; slot 1, and the slots past n, hold nothing yet
   pub slot_zero : (h i : ℕ) → i < g.n → slot g h i false ≡ (cabinet g i).image

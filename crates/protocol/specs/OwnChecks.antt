@@ -134,8 +134,8 @@ hurt_on_taking_finds = record {
 
 -- ---- so is one of which the check alone is hurt
 
-abbrev pub check_hurt_lem : Example
-check_hurt_lem = record {
+abbrev pub check_hurt_run : Example
+check_hurt_run = record {
   file = ring_two;
   -- behind the 6 amperes 2 sends 9 more, of which damage leaves the amount as it is; the 6 are taken
   before = steps (moved_on ++ send 2 3 9 ∷ damage_by 0 0 2 3 1 0x8001 ∷ deliver 2 3 ∷ []);

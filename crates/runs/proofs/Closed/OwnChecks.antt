@@ -17,13 +17,13 @@ use Rattle.protocol.specs.Evening.{operate}
 use Rattle.protocol.specs.History.{upd, logged, advance, run}
 use Rattle.protocol.specs.Marked.{Case, found as found_in}
 use Rattle.protocol.specs.Examples.{walk, found}
-use Rattle.protocol.specs.OwnChecks.{OctetsSeen, hurt_on_taking, hurt_on_taking_finds, check_hurt_lem, check_hurt_finds, hurt_until_checkp, hurt_until_checkp_finds, fitting_loss, fitting_loss_finds, RegistersAlike, TwoAndOneFitting, left, AllLeave, logs_after, HurtLogged, damage_cases, version_cases}
+use Rattle.protocol.specs.OwnChecks.{OctetsSeen, hurt_on_taking, hurt_on_taking_finds, check_hurt_run, check_hurt_finds, hurt_until_checkp, hurt_until_checkp_finds, fitting_loss, fitting_loss_finds, RegistersAlike, TwoAndOneFitting, left, AllLeave, logs_after, HurtLogged, damage_cases, version_cases}
 
 pub octets_seen : OctetsSeen
 unfolding crc_bit crc_bits crc_octet crc_from own_check shifted hurt_by
 octets_seen = (refl, refl, refl, refl, refl, refl, refl, refl, refl, refl)
 
-pub own_checks_found : (found hurt_on_taking ≡ hurt_on_taking_finds) × (found check_hurt_lem ≡ check_hurt_finds) × (found hurt_until_checkp ≡ hurt_until_checkp_finds) × (found fitting_loss ≡ fitting_loss_finds)
+pub own_checks_found : (found hurt_on_taking ≡ hurt_on_taking_finds) × (found check_hurt_run ≡ check_hurt_finds) × (found hurt_until_checkp ≡ hurt_until_checkp_finds) × (found fitting_loss ≡ fitting_loss_finds)
 unfolding crc_bit crc_bits crc_octet crc_from own_check fits shifted pattern_right hurt_by lowest covers both struck connected empty_lines line_to with_line_to put_all put_checkps home_in is_away copy_at with_copy_at slot_at piece_at put_piece cabinet with_cabinet outgoing with_outgoing line with_line rows_of of_rows with_sound some working recovering_ones forget_trips is_crashed sum version_of load broadcast join cut_if_all take_checkp resume_with commit adopt recover_with raise enter_error hear find_link_fault end_recovery note_lost receive_normal receive_checkp receive_resume receive_recover receive_fault sent send_step note_step begin_step delivered deliver_step write_piece write_step report_saved commit_if_all saved_step fetch_piece fetch_step report_restored end_if_all come_back_if_away restored_step hurt damage_step lost lose_step step operate upd logged advance walk found settle settle_over
 own_checks_found = (refl, refl, refl, refl)
 
