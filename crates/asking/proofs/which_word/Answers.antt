@@ -1,5 +1,4 @@
 -- `which_word`: the refusal of a crashed group, or what the note tells.
-use borrow.Author.Rules.{rules}
 use Rattle.protocol.specs.Word.{which_word}
 use Rattle.asking.proofs.which_word.Goals as goal
 

@@ -1,7 +1,6 @@
 -- The goals of `word` that the check leaves.
-use Rattle.std.proofs.Common.{◌-◌, ◌≤◌, length, take, add-one, take_all, take-suc, rules}
-use Rattle.buffer.specs.Written.{Written}
-use Rattle.buffer.proofs.Texts.{then, nothing}
+use Rattle.std.proofs.Common.{◌-◌, add-one, take-suc, rules}
+use Rattle.buffer.proofs.Texts.{then}
 use Rattle.buffer.proofs.word.Goals as goal
 
 pub loop-i-preserved : goal.loop-i-preserved

@@ -1,6 +1,5 @@
 -- `crc::check` meets its contract: it is `over` from the start value.
 -- Assumes nothing.
-use borrow.Author.Rules.{rules}
 use Rattle.crc.proofs.check.Goals as goal
 
 pub returns : goal.returns

@@ -1,7 +1,6 @@
 -- `crc::published_value_agrees` meets its contract: `check` gives the definition's value, and `vectors` has it computed.
 -- Assumes nothing.
 use mathlib.Core.Path.{◌∙◌}
-use borrow.Author.Rules.{rules}
 use borrow.Author.Tests.{eq-eqb}
 use Rattle.crc.proofs.Laws.{vectors}
 use Rattle.crc.proofs.published_value_agrees.Goals as goal

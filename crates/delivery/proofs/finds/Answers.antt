@@ -1,5 +1,4 @@
 -- `finds`, by whether the link is in use.
-use borrow.Author.Rules.{rules}
 use Rattle.delivery.specs.Delivery.{finding}
 use Rattle.delivery.proofs.finds.Goals as goal
 

@@ -1,5 +1,4 @@
 -- `hear`, by whether the link is in use.
-use borrow.Author.Rules.{rules}
 use Rattle.delivery.specs.Delivery.{hear}
 use Rattle.delivery.proofs.hear.Goals as goal
 

@@ -1,5 +1,4 @@
 -- `take`, by whether the link is in use.
-use borrow.Author.Rules.{rules}
 use Rattle.delivery.specs.Delivery.{take}
 use Rattle.delivery.proofs.take.Goals as goal
 

@@ -1,5 +1,4 @@
 -- `word_after`, by whether the link is in use.
-use borrow.Author.Rules.{rules}
 use Rattle.delivery.specs.Delivery.{word_after}
 use Rattle.delivery.proofs.word_after.Goals as goal
 

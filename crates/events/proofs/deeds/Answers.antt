@@ -1,5 +1,4 @@
 -- `deeds`: a mark for each of the three.
-use borrow.Author.Rules.{rules}
 use Rattle.events.specs.Deeds.{deeds}
 use Rattle.events.proofs.deeds.Goals as goal
 

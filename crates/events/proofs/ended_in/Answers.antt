@@ -1,5 +1,4 @@
 -- `ended_in`: the end where the operation is taken, and none where it is not.
-use borrow.Author.Rules.{rules}
 use borrow.Author.Tests.{eq-eqb, ne_eqb}
 use Rattle.events.specs.Fates.{ended_in}
 use Rattle.events.proofs.ended_in.Goals as goal

@@ -1,5 +1,4 @@
 -- `fate_in`: the fate where the operation is taken, and none where it is not.
-use borrow.Author.Rules.{rules}
 use borrow.Author.Tests.{eq-eqb, ne_eqb}
 use Rattle.events.specs.Fates.{fate_in}
 use Rattle.events.proofs.fate_in.Goals as goal

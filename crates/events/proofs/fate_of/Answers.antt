@@ -1,5 +1,4 @@
 -- `fate_of`: what is found at the packet, then whether it is heeded.
-use borrow.Author.Rules.{rules}
 use Rattle.events.specs.Fates.{fate_of}
 use Rattle.events.proofs.fate_of.Goals as goal
 

@@ -1,10 +1,8 @@
 -- The goals of `alarm_neighbours` that the check leaves.
 use borrow.Author.Rules.{rules}
 use Prim.Native.Nat.{◌-◌}
-use mathlib.Core.Path.{◌∙◌}
-use lib.ListN.{length-map}
 use native.Mathlib.Numerals.{add-one}
-use Rattle.failing.proofs.Turns.{Alarmed, none_yet, next, all_turned}
+use Rattle.failing.proofs.Turns.{none_yet, next}
 use Rattle.failing.proofs.alarm_neighbours.Goals as goal
 
 pub loop-i-init : goal.loop-i-init

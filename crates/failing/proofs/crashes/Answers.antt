@@ -1,5 +1,4 @@
 -- `crashes` is the three tests of its contract, the second asked of the row of cabinets.
-use borrow.Author.Rules.{rules}
 use Rattle.survey.proofs.Rows.{any_recovering}
 use Rattle.failing.proofs.crashes.Goals as goal
 

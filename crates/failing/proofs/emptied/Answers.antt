@@ -1,11 +1,9 @@
 -- The goals of `emptied` that the check leaves.
 use borrow.Author.Rules.{rules}
-use Prim.Native.Nat.{◌≤◌, ◌-◌}
-use mathlib.Core.Path.{◌≡◌, refl, ◌∙◌}
-use lib.ListN.{length, length-map, length-set}
-use native.Mathlib.Omega.{arith}
+use Prim.Native.Nat.{◌-◌}
+use mathlib.Core.Path.{◌∙◌}
+use lib.ListN.{length-set}
 use native.Mathlib.Numerals.{add-one}
-use Rattle.protocol.specs.Moves.{emptied_to}
 use Rattle.failing.proofs.Turns.{emptied_next}
 use Rattle.failing.proofs.emptied.Goals as goal
 

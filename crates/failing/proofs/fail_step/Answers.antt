@@ -1,5 +1,4 @@
 -- `fail_step`, by whether it crashes the group.
-use borrow.Author.Rules.{rules}
 use Rattle.protocol.specs.Kinds.{fail_step}
 use Rattle.failing.proofs.fail_step.Goals as goal
 

@@ -1,5 +1,4 @@
 -- `leave` changes the store and then passes the reports on.
-use borrow.Author.Rules.{rules}
 use Rattle.protocol.specs.Moves.{leave}
 use Rattle.failing.proofs.leave.Goals as goal
 

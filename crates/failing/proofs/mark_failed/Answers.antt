@@ -1,5 +1,4 @@
 -- `mark_failed` follows its definition, call by call.
-use borrow.Author.Rules.{rules}
 use Rattle.protocol.specs.Moves.{mark_failed}
 use Rattle.failing.proofs.mark_failed.Goals as goal
 

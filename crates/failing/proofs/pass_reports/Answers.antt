@@ -1,5 +1,4 @@
 -- `pass_reports` changes the partner and then the cabinet itself.
-use borrow.Author.Rules.{rules}
 use Rattle.protocol.specs.Moves.{pass_reports}
 use Rattle.failing.proofs.pass_reports.Goals as goal
 

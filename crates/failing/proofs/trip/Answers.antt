@@ -1,5 +1,4 @@
 -- `trip` follows its definition, call by call.
-use borrow.Author.Rules.{rules}
 use Rattle.protocol.specs.Moves.{trip}
 use Rattle.failing.proofs.trip.Goals as goal
 

@@ -1,5 +1,4 @@
 -- `trip_once`, by whether it crashes the group.
-use borrow.Author.Rules.{rules}
 use Rattle.protocol.specs.Kinds.{trip_once}
 use Rattle.failing.proofs.trip_once.Goals as goal
 

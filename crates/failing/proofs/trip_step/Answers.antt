@@ -1,5 +1,4 @@
 -- `trip_step`, by whether it is the third.
-use borrow.Author.Rules.{rules}
 use borrow.Author.Tests.{le-ltb, lt-ltb}
 use Rattle.protocol.specs.Kinds.{trip_step}
 use Rattle.failing.proofs.trip_step.Goals as goal

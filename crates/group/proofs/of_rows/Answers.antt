@@ -1,5 +1,4 @@
 -- `group::of_rows` meets its contract: each row is made by one `row_at`.
-use borrow.Author.Rules.{rules}
 use Rattle.group.specs.Group.{of_rows}
 use Rattle.group.proofs.of_rows.Goals as goal
 

@@ -1,5 +1,4 @@
 -- `group::rows_of` meets its contract: each row is read by one `marks_at`.
-use borrow.Author.Rules.{rules}
 use Rattle.group.specs.Group.{rows_of}
 use Rattle.group.proofs.rows_of.Goals as goal
 

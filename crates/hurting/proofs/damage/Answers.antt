@@ -1,5 +1,4 @@
 -- `damage` changes the line and the note of the receiver.
-use borrow.Author.Rules.{rules}
 use Rattle.hurting.specs.Hurting.{damage}
 use Rattle.hurting.proofs.damage.Goals as goal
 

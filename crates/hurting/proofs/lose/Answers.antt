@@ -1,5 +1,4 @@
 -- `lose` changes the line and the note of the receiver.
-use borrow.Author.Rules.{rules}
 use Rattle.hurting.specs.Hurting.{lose}
 use Rattle.hurting.proofs.lose.Goals as goal
 

@@ -1,5 +1,4 @@
 -- `detail_octets`: what each call answers, from the last octet to the first, then the bookings.
-use Rattle.std.proofs.Common.{rules}
 use Rattle.layout.specs.Layout.{detail_octets}
 use Rattle.layout.proofs.detail_octets.Goals as goal
 

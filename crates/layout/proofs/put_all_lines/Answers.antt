@@ -1,9 +1,8 @@
 -- The goals of `put_all_lines` that the check leaves.
-use Rattle.std.proofs.Common.{◌≡◌, ◌-◌, ◌≤◌, add-one, arith, rules}
+use Rattle.std.proofs.Common.{◌-◌, add-one, rules}
 use Rattle.group.specs.Group.{outgoing}
-use Rattle.buffer.specs.Written.{Written}
-use Rattle.buffer.proofs.Texts.{then, nothing}
-use Rattle.layout.specs.Layout.{lines_to, lines_from}
+use Rattle.buffer.proofs.Texts.{then}
+use Rattle.layout.specs.Layout.{lines_to}
 use Rattle.layout.proofs.put_all_lines.Goals as goal
 
 pub loop-a-preserved : goal.loop-a-preserved

@@ -1,5 +1,4 @@
 -- `put_cabinet`: the first two octets alone, or with the rest.
-use Rattle.std.proofs.Common.{rules}
 use Rattle.buffer.proofs.Texts.{then}
 use Rattle.layout.specs.Layout.{cabinet_octets}
 use Rattle.layout.proofs.put_cabinet.Goals as goal

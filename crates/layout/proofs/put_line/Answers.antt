@@ -1,9 +1,8 @@
 -- The goals of `put_line` that the check leaves.
-use Rattle.std.proofs.Common.{◌≡◌, ◌-◌, ◌≤◌, add-one, arith, rules}
+use Rattle.std.proofs.Common.{◌≡◌, ◌-◌, add-one, arith, rules}
 use Rattle.line.specs.Line.{packet_at}
-use Rattle.buffer.specs.Written.{Written}
-use Rattle.buffer.proofs.Texts.{then, nothing}
-use Rattle.layout.specs.Layout.{packet_octets, packets_to, line_octets}
+use Rattle.buffer.proofs.Texts.{then}
+use Rattle.layout.specs.Layout.{packet_octets, line_octets}
 use Rattle.layout.proofs.put_line.Goals as goal
 
 pub loop-k-preserved : goal.loop-k-preserved

@@ -1,9 +1,8 @@
 -- The goals of `put_lines` that the check leaves.
-use Rattle.std.proofs.Common.{◌≡◌, ◌-◌, ◌≤◌, add-one, arith, rules}
+use Rattle.std.proofs.Common.{◌-◌, add-one, rules}
 use Rattle.outgoing.specs.Lines.{line_to}
-use Rattle.buffer.specs.Written.{Written}
-use Rattle.buffer.proofs.Texts.{then, nothing}
-use Rattle.layout.specs.Layout.{line_octets, lines_to}
+use Rattle.buffer.proofs.Texts.{then}
+use Rattle.layout.specs.Layout.{line_octets}
 use Rattle.layout.proofs.put_lines.Goals as goal
 
 pub loop-b-preserved : goal.loop-b-preserved

@@ -1,5 +1,4 @@
 -- `put_packet`: nothing for an empty cell, or the four octets.
-use Rattle.std.proofs.Common.{rules}
 use Rattle.buffer.proofs.Texts.{nothing}
 use Rattle.layout.specs.Layout.{packet_octets}
 use Rattle.layout.proofs.put_packet.Goals as goal

@@ -1,5 +1,4 @@
 -- `checkp_faulty` asks both.
-use borrow.Author.Rules.{rules}
 use Rattle.linkcheck.specs.Linkcheck.{checkp_faulty}
 use Rattle.linkcheck.proofs.checkp_faulty.Goals as goal
 

@@ -1,5 +1,4 @@
 -- `checkp_taken`, by the state of the cabinet.
-use borrow.Author.Rules.{rules}
 use Rattle.linkcheck.specs.Linkcheck.{checkp_taken}
 use Rattle.linkcheck.proofs.checkp_taken.Goals as goal
 

@@ -2,7 +2,6 @@
 use Prim.Native.Nat.{ℕ}
 use mathlib.Core.Path.{◌≡◌, refl}
 use mathlib.Core.Bool.{cond}
-use borrow.Author.Rules.{rules}
 use Rattle.marks.specs.Reach.{struck, connected}
 use Rattle.packet.specs.Packet.{link_place}
 use Rattle.line.specs.Line.{rest}

@@ -1,5 +1,4 @@
 -- `normal_faulty` asks both.
-use borrow.Author.Rules.{rules}
 use Rattle.linkcheck.specs.Linkcheck.{normal_faulty}
 use Rattle.linkcheck.proofs.normal_faulty.Goals as goal
 

@@ -1,5 +1,4 @@
 -- `normal_taken`, by whether the packet is taken.
-use borrow.Author.Rules.{rules}
 use Rattle.linkcheck.specs.Linkcheck.{normal_taken}
 use Rattle.linkcheck.proofs.normal_taken.Goals as goal
 

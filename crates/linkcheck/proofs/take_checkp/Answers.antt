@@ -1,5 +1,4 @@
 -- `take_checkp` follows its definition, call by call.
-use borrow.Author.Rules.{rules}
 use Rattle.linkcheck.specs.Linkcheck.{take_checkp}
 use Rattle.linkcheck.proofs.take_checkp.Goals as goal
 

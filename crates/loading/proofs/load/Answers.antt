@@ -1,5 +1,4 @@
 -- `load` answers with the first refusal, or with the group; past the checks the count fits an octet.
-use borrow.Author.Rules.{rules}
 use borrow.Author.Tests.{eq-eqb, ne_eqb}
 use Prim.Native.Nat.{ℕ}
 use mathlib.Core.Path.{◌≡◌, sym, ◌∙◌, ap}
@@ -10,7 +9,6 @@ use Rattle.group.specs.declared.Group.{Group}
 use Rattle.group.specs.Group.{answering}
 use Rattle.load.specs.Load.{rows_in, group_of, no_group, load_refusal, load_with, load}
 use Rattle.load.proofs.Lists.{chosen, other}
-use Rattle.load.proofs.Passed.{passed}
 use Rattle.loading.proofs.load.Goals as goal
 
 loaded : (f : List ℕ) {rows : Rows} {g : Group} {k : ℕ} → k ≡ load_refusal f → k ≡ 0 → rows ≡ rows_in f → g ≡ group_of f rows → answering 0 g ≡ load f

@@ -1,5 +1,4 @@
 -- `both` asks each number once.
-use borrow.Author.Rules.{rules}
 use Rattle.marks.specs.Marks.{both}
 use Rattle.marks.proofs.both.Goals as goal
 

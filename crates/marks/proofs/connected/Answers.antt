@@ -1,5 +1,4 @@
 -- `connected` asks whether the reached ones cover the working ones.
-use borrow.Author.Rules.{rules}
 use Rattle.marks.specs.Reach.{connected}
 use Rattle.marks.proofs.connected.Goals as goal
 

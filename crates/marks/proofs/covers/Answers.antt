@@ -1,10 +1,10 @@
 -- The goals of `covers`.
 use borrow.Author.Rules.{rules}
-use Prim.Native.Nat.{◌≤◌, ◌-◌}
+use Prim.Native.Nat.{◌-◌}
 use mathlib.Core.Path.{◌≡◌, ◌∙◌}
 use native.Mathlib.Omega.{arith}
 use native.Mathlib.Numerals.{add-one}
-use Rattle.marks.specs.Marks.{covers, covers_to}
+use Rattle.marks.specs.Marks.{covers}
 use Rattle.marks.proofs.covers.Goals as goal
 
 pub loop-cabinet-preserved : goal.loop-cabinet-preserved

@@ -1,16 +1,11 @@
 -- `covers` goes through the marks in order: the invariant is that `all` says whether those passed are covered.
-use borrow.Author.Rules.{rules}
 use Prim.Native.Nat.{◌≤◌, ◌-◌}
-use mathlib.Core.Path.{◌≡◌, ◌∙◌}
-use native.Mathlib.Omega.{arith}
-use native.Mathlib.Numerals.{add-one}
-use Rattle.marks.specs.Marks.{covers, covers_to}
+use mathlib.Core.Path.{◌≡◌}
+use Rattle.marks.specs.Marks.{covers_to}
 use Rattle.marks.proofs.covers.Given as goal
 
 abbrev pub invariant-loop-cabinet : goal.invariant-loop-cabinet
 invariant-loop-cabinet l = (l.cabinet ≤ 8) × (l.all ≡ covers_to l.cabinet l.have l.want)
 
-
 abbrev pub decreases-loop-cabinet : goal.decreases-loop-cabinet
 decreases-loop-cabinet l = 8 - l.cabinet
-

@@ -1,5 +1,4 @@
 -- `either` asks each number once.
-use borrow.Author.Rules.{rules}
 use Rattle.marks.specs.Marks.{either}
 use Rattle.marks.proofs.either.Goals as goal
 

@@ -1,5 +1,4 @@
 -- `first` marks nothing where none works, as `set` does past the end.
-use borrow.Author.Rules.{rules}
 use lib.Seq.{set_out}
 use mathlib.Core.Bool.{true}
 use Rattle.marks.specs.Marks.{no_marks}

@@ -1,5 +1,4 @@
 -- `fresh` asks its three questions in the definition's order.
-use borrow.Author.Rules.{rules}
 use Rattle.marks.proofs.fresh.Goals as goal
 
 pub returns : goal.returns

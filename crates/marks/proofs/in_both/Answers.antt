@@ -1,5 +1,4 @@
 -- `in_both` follows its definition, call by call.
-use borrow.Author.Rules.{rules}
 use Rattle.marks.proofs.in_both.Goals as goal
 
 pub returns : goal.returns

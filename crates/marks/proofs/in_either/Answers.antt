@@ -1,5 +1,4 @@
 -- `in_either` follows its definition, call by call.
-use borrow.Author.Rules.{rules}
 use Rattle.marks.proofs.in_either.Goals as goal
 
 pub returns : goal.returns

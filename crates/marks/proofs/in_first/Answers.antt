@@ -1,5 +1,4 @@
 -- `in_first` follows its definition, call by call.
-use borrow.Author.Rules.{rules}
 use Rattle.marks.proofs.in_first.Goals as goal
 
 pub returns : goal.returns

@@ -1,9 +1,9 @@
 -- The goals of `lowest`.
 use borrow.Author.Rules.{rules}
-use Prim.Native.Nat.{◌≤◌, ◌-◌}
+use Prim.Native.Nat.{◌-◌}
 use mathlib.Core.Path.{◌≡◌, sym, ◌∙◌}
 use native.Mathlib.Omega.{arith}
-use Rattle.marks.specs.Marks.{lowest, marked, lowest_from}
+use Rattle.marks.specs.Marks.{lowest}
 use Rattle.marks.proofs.Count.{one_more}
 use Rattle.marks.proofs.lowest.Goals as goal
 
@@ -15,10 +15,10 @@ returns-then-marks-i c = sym (c.loop-i.invariant.1
 pub loop-i-preserved : goal.loop-i-preserved
 unfolding lowest
 loop-i-preserved c = (
-      search rules,
-      c.loop-i.invariant.1
-          ∙ rw (one_more c.loop-i.i c.loop-i-test.true, c.if-marks-i.false),
-    )
+  search rules,
+  c.loop-i.invariant.1
+      ∙ rw (one_more c.loop-i.i c.loop-i-test.true, c.if-marks-i.false),
+)
 
 pub returns : goal.returns
 unfolding lowest

@@ -1,5 +1,4 @@
 -- `marks::next_up` meets its contract.
-use borrow.Author.Rules.{rules}
 use Rattle.marks.specs.Marks.{next_up}
 use Rattle.marks.proofs.next_up.Goals as goal
 

@@ -1,5 +1,4 @@
 -- `marks::or_lowest` meets its contract.
-use borrow.Author.Rules.{rules}
 use borrow.Author.Tests.{le-ltb, lt-ltb}
 use Rattle.marks.proofs.or_lowest.Goals as goal
 

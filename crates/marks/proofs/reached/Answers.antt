@@ -1,5 +1,4 @@
 -- `reached` has enough fuel, since no more than eight are unseen at the start.
-use borrow.Author.Rules.{rules}
 use Rattle.marks.specs.ReachLaws.{first_unseen}
 use Rattle.marks.proofs.reached.Goals as goal
 

@@ -1,5 +1,4 @@
 -- `struck` clears two marks, one after the other.
-use borrow.Author.Rules.{rules}
 use Rattle.marks.specs.Reach.{struck}
 use Rattle.marks.proofs.struck.Goals as goal
 

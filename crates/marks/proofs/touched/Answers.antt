@@ -1,10 +1,9 @@
 -- The goals of `touched`.
 use borrow.Author.Rules.{rules}
-use Prim.Native.Nat.{◌≤◌, ◌-◌}
+use Prim.Native.Nat.{◌-◌}
 use mathlib.Core.Path.{◌≡◌, ◌∙◌}
 use native.Mathlib.Omega.{arith}
 use native.Mathlib.Numerals.{add-one}
-use Rattle.marks.specs.Reach.{touched}
 use Rattle.marks.proofs.touched.Goals as goal
 
 pub loop-i-preserved : goal.loop-i-preserved

@@ -1,5 +1,4 @@
 -- `without` asks each number once.
-use borrow.Author.Rules.{rules}
 use Rattle.marks.specs.Marks.{without}
 use Rattle.marks.proofs.without.Goals as goal
 

@@ -1,6 +1,6 @@
 -- `alarm` is the move of the group, stored back.
 use mathlib.Core.Path.{◌≡◌, sym, ◌∙◌}
-use lib.ListN.{length, length-map}
+use lib.ListN.{length}
 use borrow.Author.Rules.{rules}
 use Rattle.moves.proofs.Stored.{error_stored}
 use Rattle.moves.proofs.alarm.Goals as goal

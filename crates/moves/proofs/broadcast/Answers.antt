@@ -1,5 +1,4 @@
 -- `broadcast` follows its definition, call by call.
-use borrow.Author.Rules.{rules}
 use Rattle.moves.specs.Seats.{broadcast}
 use Rattle.moves.proofs.broadcast.Goals as goal
 

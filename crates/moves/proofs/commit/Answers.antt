@@ -1,5 +1,4 @@
 -- `commit` follows its definition, call by call.
-use borrow.Author.Rules.{rules}
 use Rattle.moves.specs.Seats.{commit}
 use Rattle.moves.proofs.commit.Goals as goal
 

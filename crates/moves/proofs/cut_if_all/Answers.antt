@@ -1,5 +1,4 @@
 -- `cut_if_all` follows its definition, call by call.
-use borrow.Author.Rules.{rules}
 use Rattle.moves.specs.Seats.{cut_if_all}
 use Rattle.moves.proofs.cut_if_all.Goals as goal
 

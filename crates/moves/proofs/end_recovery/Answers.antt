@@ -1,5 +1,4 @@
 -- `end_recovery` follows its definition, call by call.
-use borrow.Author.Rules.{rules}
 use Rattle.moves.specs.Seats.{end_recovery}
 use Rattle.moves.proofs.end_recovery.Goals as goal
 

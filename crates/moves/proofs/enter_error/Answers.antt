@@ -1,5 +1,4 @@
 -- `enter_error` follows its definition, call by call.
-use borrow.Author.Rules.{rules}
 use Rattle.moves.specs.Seats.{enter_error}
 use Rattle.moves.proofs.enter_error.Goals as goal
 

@@ -1,5 +1,4 @@
 -- `join` follows its definition, call by call.
-use borrow.Author.Rules.{rules}
 use Rattle.moves.specs.Seats.{join}
 use Rattle.moves.proofs.join.Goals as goal
 

@@ -1,5 +1,4 @@
 -- `raise` follows its definition, call by call.
-use borrow.Author.Rules.{rules}
 use Rattle.moves.specs.Seats.{raise}
 use Rattle.moves.proofs.raise.Goals as goal
 

@@ -1,5 +1,4 @@
 -- `recover_with` follows its definition, call by call.
-use borrow.Author.Rules.{rules}
 use Rattle.moves.specs.Seats.{recover_with}
 use Rattle.moves.proofs.recover_with.Goals as goal
 

@@ -1,5 +1,4 @@
 -- `resume_with` follows its definition, call by call.
-use borrow.Author.Rules.{rules}
 use Rattle.moves.specs.Seats.{resume_with}
 use Rattle.moves.proofs.resume_with.Goals as goal
 

@@ -1,5 +1,4 @@
 -- `word_by`, by the version.
-use borrow.Author.Rules.{rules}
 use Rattle.moves.specs.Seats.{word_by}
 use Rattle.moves.proofs.word_by.Goals as goal
 

@@ -1,5 +1,4 @@
 -- `packet::fits` meets its contract, by whether the packet carries a check.
-use Rattle.std.proofs.Common.{rules}
 use Rattle.packet.specs.Packet.{fits}
 use Rattle.packet.proofs.fits.Goals as goal
 

@@ -1,5 +1,4 @@
 -- `packet::hurt_by` meets its contract, by whether the packet carries a check.
-use Rattle.std.proofs.Common.{rules}
 use Rattle.packet.specs.Packet.{hurt_by}
 use Rattle.packet.proofs.hurt_by.Goals as goal
 

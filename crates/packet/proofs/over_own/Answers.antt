@@ -1,5 +1,4 @@
 -- `packet::over_own` meets its contract: none, or the two octets of the check.
-use Rattle.std.proofs.Common.{rules}
 use Rattle.crc.specs.Crc.{crc_from}
 use Rattle.packet.proofs.over_own.Goals as goal
 

@@ -1,5 +1,4 @@
 -- `packet::over_three` meets its contract: the outlet's octet and the two of the amount, one after the other.
-use Rattle.std.proofs.Common.{rules}
 use Rattle.crc.specs.Crc.{crc_from}
 use Rattle.packet.proofs.over_three.Goals as goal
 

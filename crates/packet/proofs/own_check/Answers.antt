@@ -1,5 +1,4 @@
 -- `packet::own_check` meets its contract: a register at its start, run over the three octets.
-use Rattle.std.proofs.Common.{rules}
 use Rattle.packet.specs.Packet.{own_check}
 use Rattle.packet.proofs.own_check.Goals as goal
 

@@ -1,5 +1,5 @@
 -- `packet::shifted` meets its contract, by the two tests, and then the one shift.
-use Rattle.std.proofs.Common.{rules, le-leb}
+use Rattle.std.proofs.Common.{le-leb}
 use borrow.Author.Tests.{lt-leb}
 use Rattle.packet.specs.Packet.{shifted}
 use Rattle.packet.proofs.shifted.Goals as goal

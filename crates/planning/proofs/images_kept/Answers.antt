@@ -1,5 +1,4 @@
 -- `images_kept` asks each cabinet by one `image_kept`.
-use borrow.Author.Rules.{rules}
 use Rattle.protocol.specs.Points.{images_kept}
 use Rattle.planning.proofs.images_kept.Goals as goal
 

@@ -1,5 +1,4 @@
 -- `return_to`, by whether it is refused.
-use borrow.Author.Rules.{rules}
 use borrow.Author.Tests.{eq-eqb, ne_eqb}
 use Rattle.protocol.specs.Points.{return_to}
 use Rattle.planning.proofs.return_to.Goals as goal

@@ -1,5 +1,4 @@
 -- `returned` replaces the cabinets and all slots.
-use borrow.Author.Rules.{rules}
 use Rattle.protocol.specs.Points.{returned}
 use Rattle.planning.proofs.returned.Goals as goal
 

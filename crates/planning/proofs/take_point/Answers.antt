@@ -1,5 +1,4 @@
 -- `take_point`, by whether it is refused.
-use borrow.Author.Rules.{rules}
 use borrow.Author.Tests.{eq-eqb, ne_eqb}
 use Rattle.protocol.specs.Points.{take_point}
 use Rattle.planning.proofs.take_point.Goals as goal

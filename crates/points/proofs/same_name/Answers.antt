@@ -1,11 +1,10 @@
 -- The goals of `same_name` that the check leaves.
 use borrow.Author.Rules.{rules}
 use borrow.Author.Tests.{eq-eqb, ne_eqb}
-use Prim.Native.Nat.{◌≤◌, ◌-◌}
+use Prim.Native.Nat.{◌-◌}
 use mathlib.Core.Path.{◌≡◌, sym, ◌∙◌}
 use native.Mathlib.Omega.{arith}
-use lib.ListN.{length, drop}
-use Rattle.points.specs.Points.{same_name}
+use lib.ListN.{length}
 use Rattle.points.proofs.Names.{equal_here, other_here, all_equal}
 use Rattle.points.proofs.same_name.Goals as goal
 

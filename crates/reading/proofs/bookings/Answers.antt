@@ -1,11 +1,9 @@
 -- `bookings` adds up in order: the invariant is that `total` is the sum of the entries passed, each of which has at most two bookings of two octets.
 use borrow.Author.Rules.{rules}
-use Prim.Native.Nat.{◌≤◌, ◌-◌, ◌*◌}
-use mathlib.Core.Path.{◌≡◌, ◌∙◌}
+use Prim.Native.Nat.{◌-◌}
 use native.Mathlib.Omega.{arith}
 use native.Mathlib.Numerals.{add-one}
 use Rattle.group.specs.Group.{sum}
-use Rattle.load.specs.Load.{entry_total}
 use Rattle.reading.proofs.bookings.Goals as goal
 
 pub loop-i-init : goal.loop-i-init

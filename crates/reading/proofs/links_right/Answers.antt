@@ -1,10 +1,7 @@
 -- The goals of `links_right` that the check leaves.
 use borrow.Author.Rules.{rules}
-use Prim.Native.Nat.{◌≤◌, ◌-◌}
-use mathlib.Core.Path.{◌≡◌, ◌∙◌}
-use native.Mathlib.Omega.{arith}
+use Prim.Native.Nat.{◌-◌}
 use native.Mathlib.Numerals.{add-one}
-use Rattle.load.specs.Load.{links_right}
 use Rattle.reading.proofs.links_right.Goals as goal
 
 pub loop-k-preserved : goal.loop-k-preserved

@@ -1,5 +1,4 @@
 -- `version_of` goes by the offset of the cabinet table.
-use borrow.Author.Rules.{rules}
 use borrow.Author.Tests.{eq-eqb, ne_eqb}
 use Rattle.load.specs.Load.{version_of}
 use Rattle.reading.proofs.version_of.Goals as goal

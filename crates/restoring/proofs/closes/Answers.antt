@@ -1,5 +1,4 @@
 -- `closes` is the two tests of its definition.
-use borrow.Author.Rules.{rules}
 use Rattle.restoring.specs.Restoring.{closes}
 use Rattle.restoring.proofs.closes.Goals as goal
 

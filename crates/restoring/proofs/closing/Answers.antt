@@ -1,5 +1,4 @@
 -- `closing` is the two moves of its definition.
-use borrow.Author.Rules.{rules}
 use Rattle.restoring.specs.Restoring.{closing}
 use Rattle.restoring.proofs.closing.Goals as goal
 

@@ -1,5 +1,4 @@
 -- `come_back` is the calls of its definition, the innermost first.
-use borrow.Author.Rules.{rules}
 use Rattle.protocol.specs.Moves.{come_back}
 use Rattle.restoring.proofs.come_back.Goals as goal
 

@@ -1,5 +1,4 @@
 -- `come_back_if_away`, by whether the store is away.
-use borrow.Author.Rules.{rules}
 use Rattle.protocol.specs.Kinds.{come_back_if_away}
 use Rattle.restoring.proofs.come_back_if_away.Goals as goal
 

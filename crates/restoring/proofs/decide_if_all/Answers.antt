@@ -1,5 +1,4 @@
 -- `decide_if_all`, by whether every report has come.
-use borrow.Author.Rules.{rules}
 use Rattle.restoring.specs.Restoring.{decide_if_all}
 use Rattle.restoring.proofs.decide_if_all.Goals as goal
 

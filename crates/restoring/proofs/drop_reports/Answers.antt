@@ -1,5 +1,4 @@
 -- `drop_reports` changes the partner.
-use borrow.Author.Rules.{rules}
 use Rattle.protocol.specs.Moves.{drop_reports}
 use Rattle.restoring.proofs.drop_reports.Goals as goal
 

@@ -1,6 +1,6 @@
 -- `end_if_all`, by whether the coordinator has recovered and every report has come.
 use mathlib.Core.Path.{◌≡◌, sym, ap, ◌∙◌}
-use lib.ListN.{length, length-map}
+use lib.ListN.{length}
 use borrow.Author.Rules.{rules}
 use Rattle.group.specs.Group.{cabinet, settle_over}
 use Rattle.protocol.specs.Kinds.{end_if_all}

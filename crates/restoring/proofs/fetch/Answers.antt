@@ -1,5 +1,4 @@
 -- `fetch`, by whether it is refused.
-use borrow.Author.Rules.{rules}
 use borrow.Author.Tests.{eq-eqb, ne_eqb}
 use Rattle.restoring.specs.Restoring.{fetch}
 use Rattle.restoring.proofs.fetch.Goals as goal

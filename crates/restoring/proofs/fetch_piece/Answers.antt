@@ -1,5 +1,4 @@
 -- `fetch_piece` is the calls of its definition, the innermost first.
-use borrow.Author.Rules.{rules}
 use Rattle.restoring.specs.Restoring.{fetch_piece}
 use Rattle.restoring.proofs.fetch_piece.Goals as goal
 

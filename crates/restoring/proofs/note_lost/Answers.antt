@@ -1,5 +1,4 @@
 -- `note_lost` follows its definition, call by call.
-use borrow.Author.Rules.{rules}
 use Rattle.protocol.specs.Moves.{note_lost}
 use Rattle.restoring.proofs.note_lost.Goals as goal
 

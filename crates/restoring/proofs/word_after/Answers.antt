@@ -1,5 +1,4 @@
 -- `word_after`, by whether every report has come.
-use borrow.Author.Rules.{rules}
 use Rattle.restoring.specs.Restoring.{word_after}
 use Rattle.restoring.proofs.word_after.Goals as goal
 

@@ -1,5 +1,4 @@
 -- `head_octets`: its octets in order.
-use borrow.Author.Rules.{rules}
 use Rattle.rows.specs.Rows.{head_octets}
 use Rattle.rows.proofs.head_octets.Goals as goal
 

@@ -1,15 +1,11 @@
 -- The goals of `put_cabinets` that the check leaves.
 use borrow.Author.Rules.{rules}
-use Prim.Native.Nat.{◌≤◌, ◌-◌}
-use mathlib.Core.Path.{◌≡◌}
-use native.Mathlib.Omega.{arith}
+use Prim.Native.Nat.{◌-◌}
 use native.Mathlib.Numerals.{add-one}
 use Rattle.group.specs.Group.{cabinet, home}
 use Rattle.layout.specs.Layout.{cabinet_octets}
 use Rattle.events.specs.Deeds.{deeds}
-use Rattle.buffer.specs.Written.{Written}
-use Rattle.buffer.proofs.Texts.{then, nothing}
-use Rattle.rows.specs.Rows.{cabinets_to}
+use Rattle.buffer.proofs.Texts.{then}
 use Rattle.rows.proofs.put_cabinets.Goals as goal
 
 pub loop-i-preserved : goal.loop-i-preserved

@@ -1,5 +1,4 @@
 -- `put_row`: its head, the cabinets and the lines, in order.
-use borrow.Author.Rules.{rules}
 use Rattle.buffer.proofs.Texts.{then}
 use Rattle.rows.specs.Rows.{row_octets}
 use Rattle.rows.proofs.put_row.Goals as goal

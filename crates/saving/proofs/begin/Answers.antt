@@ -1,5 +1,4 @@
 -- `begin`, by whether it is refused.
-use borrow.Author.Rules.{rules}
 use borrow.Author.Tests.{eq-eqb, ne_eqb}
 use Rattle.saving.specs.Saving.{begin}
 use Rattle.saving.proofs.begin.Goals as goal

@@ -1,5 +1,4 @@
 -- `commit_if_all`, by whether every report has come.
-use borrow.Author.Rules.{rules}
 use Rattle.saving.specs.Saving.{commit_if_all}
 use Rattle.saving.proofs.commit_if_all.Goals as goal
 

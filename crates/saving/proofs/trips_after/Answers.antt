@@ -1,5 +1,4 @@
 -- `trips_after`, by whether every report has come.
-use borrow.Author.Rules.{rules}
 use Rattle.saving.specs.Saving.{trips_after}
 use Rattle.saving.proofs.trips_after.Goals as goal
 

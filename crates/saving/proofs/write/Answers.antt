@@ -1,5 +1,4 @@
 -- `write`, by whether it is refused.
-use borrow.Author.Rules.{rules}
 use borrow.Author.Tests.{eq-eqb, ne_eqb}
 use Rattle.saving.specs.Saving.{write}
 use Rattle.saving.proofs.write.Goals as goal

@@ -1,5 +1,4 @@
 -- `note`, by whether it is refused; a value that passed the checks is an octet, so its low octet is all of it.
-use borrow.Author.Rules.{rules}
 use borrow.Author.Tests.{eq-eqb, ne_eqb, leb-true}
 use Prim.Native.Nat.{ℕ, ◌%◌}
 use mathlib.Core.Path.{◌≡◌, refl, sym, ◌∙◌}

@@ -1,5 +1,4 @@
 -- `send`, by whether it is refused.
-use borrow.Author.Rules.{rules}
 use borrow.Author.Tests.{eq-eqb, ne_eqb}
 use Rattle.sending.specs.Sending.{sent, send}
 use Rattle.sending.proofs.send.Goals as goal

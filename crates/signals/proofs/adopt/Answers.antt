@@ -1,5 +1,4 @@
 -- `adopt` follows its definition, call by call.
-use borrow.Author.Rules.{rules}
 use Rattle.signals.specs.Signals.{adopt}
 use Rattle.signals.proofs.adopt.Goals as goal
 

@@ -1,5 +1,4 @@
 -- `fault_crashes` asks both.
-use borrow.Author.Rules.{rules}
 use Rattle.signals.specs.Signals.{fault_crashes}
 use Rattle.signals.proofs.fault_crashes.Goals as goal
 

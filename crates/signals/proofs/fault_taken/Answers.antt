@@ -1,5 +1,4 @@
 -- `fault_taken`, by the state of the cabinet.
-use borrow.Author.Rules.{rules}
 use Rattle.signals.specs.Signals.{fault_taken}
 use Rattle.signals.proofs.fault_taken.Goals as goal
 

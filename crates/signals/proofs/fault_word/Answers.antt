@@ -1,5 +1,4 @@
 -- `fault_word`, by the state of the cabinet.
-use borrow.Author.Rules.{rules}
 use Rattle.signals.specs.Signals.{fault_word}
 use Rattle.signals.proofs.fault_word.Goals as goal
 

@@ -1,5 +1,4 @@
 -- `hear` follows its definition, call by call.
-use borrow.Author.Rules.{rules}
 use Rattle.signals.specs.Signals.{hear}
 use Rattle.signals.proofs.hear.Goals as goal
 

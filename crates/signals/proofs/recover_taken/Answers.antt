@@ -1,5 +1,4 @@
 -- `recover_taken`, by whether the cabinet waits in error and has heard a.
-use borrow.Author.Rules.{rules}
 use Rattle.signals.specs.Signals.{recover_taken}
 use Rattle.signals.proofs.recover_taken.Goals as goal
 

@@ -1,5 +1,4 @@
 -- `resume_taken`, by the state of the cabinet.
-use borrow.Author.Rules.{rules}
 use Rattle.signals.specs.Signals.{resume_taken}
 use Rattle.signals.proofs.resume_taken.Goals as goal
 

@@ -1,20 +1,17 @@
 -- The goals of `run` that the check leaves.
 use borrow.Author.Rules.{rules}
-use Prim.Native.Nat.{◌-◌, ◌≤◌}
+use Prim.Native.Nat.{◌-◌}
 use mathlib.Core.Path.{◌≡◌, sym, ap, ◌∙◌, subst}
 use native.Mathlib.Omega.{arith}
-use lib.ListN.{length, set, take, drop, length-map}
-use lib.Seq.{sets, length-sets}
+use lib.ListN.{set, take, drop}
 use Rattle.group.specs.declared.Outcome.{Outcome}
 use Rattle.group.specs.Group.{with_settled, answering}
-use Rattle.protocol.specs.Evening.{operate_all, answers_to}
 use Rattle.turns.specs.declared.Turn.{Turn}
 use Rattle.turns.specs.Stored.{turn_in}
 use Rattle.turns.proofs.Same.{Below}
-use Rattle.steps.specs.Steps.{operations_of}
 use Rattle.steps.proofs.Turning.{made_of, call_below}
 use Rattle.steps.proofs.Arms.{turn_read, deed_arm, call_arm, piece_arm, report_refused, report_arm}
-use Rattle.steps.proofs.Holding.{Holds, eight_with, set_eight, pointed, returned, at_first, few_octets, fewer, asked, going, at_last}
+use Rattle.steps.proofs.Holding.{eight_with, set_eight, pointed, returned, at_first, asked, going, at_last}
 use Rattle.steps.proofs.run.Goals as goal
 
 pub loop-from-init : goal.loop-from-init

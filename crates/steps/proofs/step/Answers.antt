@@ -1,5 +1,4 @@
 -- `step` is a run of one record; more than six octets are none.
-use borrow.Author.Rules.{rules}
 use mathlib.Core.Path.{◌∙◌}
 use Rattle.steps.proofs.One.{one_record, too_many}
 use Rattle.steps.proofs.step.Goals as goal

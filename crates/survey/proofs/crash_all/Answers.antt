@@ -1,5 +1,4 @@
 -- `survey::crash_all` meets its contract.
-use borrow.Author.Rules.{rules}
 use Rattle.group.specs.Group.{crash_all}
 use Rattle.survey.proofs.crash_all.Goals as goal
 

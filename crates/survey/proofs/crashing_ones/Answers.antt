@@ -1,5 +1,4 @@
 -- `survey::crashing_ones` meets its contract.
-use borrow.Author.Rules.{rules}
 use Rattle.group.specs.Group.{crash_all}
 use Rattle.survey.proofs.crashing_ones.Goals as goal
 

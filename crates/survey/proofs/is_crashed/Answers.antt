@@ -1,5 +1,4 @@
 -- `survey::is_crashed` meets its contract.
-use borrow.Author.Rules.{rules}
 use mathlib.Core.Path.{◌∙◌}
 use Rattle.survey.proofs.Rows.{any_crashed}
 use Rattle.survey.proofs.is_crashed.Goals as goal

@@ -1,5 +1,4 @@
 -- `survey::laden_ones` meets its contract.
-use borrow.Author.Rules.{rules}
 use Rattle.group.specs.Group.{laden_ones}
 use Rattle.survey.proofs.laden_ones.Goals as goal
 

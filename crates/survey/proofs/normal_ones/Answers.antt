@@ -1,5 +1,4 @@
 -- `survey::normal_ones` meets its contract.
-use borrow.Author.Rules.{rules}
 use Rattle.group.specs.Group.{normal_ones}
 use Rattle.survey.proofs.normal_ones.Goals as goal
 

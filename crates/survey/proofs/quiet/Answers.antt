@@ -1,5 +1,4 @@
 -- `survey::quiet` meets its contract.
-use borrow.Author.Rules.{rules}
 use Rattle.group.specs.Group.{quiet}
 use Rattle.survey.proofs.quiet.Goals as goal
 

@@ -1,5 +1,4 @@
 -- `survey::some` meets its contract.
-use borrow.Author.Rules.{rules}
 use Rattle.group.specs.Group.{some}
 use Rattle.survey.proofs.some.Goals as goal
 

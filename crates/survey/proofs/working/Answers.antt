@@ -1,5 +1,4 @@
 -- `survey::working` meets its contract.
-use borrow.Author.Rules.{rules}
 use Rattle.group.specs.Group.{working}
 use Rattle.survey.proofs.working.Goals as goal
 

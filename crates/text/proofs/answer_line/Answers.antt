@@ -1,5 +1,4 @@
 -- `answer_line`: its parts in order.
-use borrow.Author.Rules.{rules}
 use Rattle.buffer.proofs.Texts.{then}
 use Rattle.text.proofs.answer_line.Goals as goal
 

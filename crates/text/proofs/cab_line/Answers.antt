@@ -1,5 +1,4 @@
 -- `cab_line`: its parts in order.
-use borrow.Author.Rules.{rules}
 use Rattle.buffer.proofs.Texts.{then}
 use Rattle.text.proofs.cab_line.Goals as goal
 

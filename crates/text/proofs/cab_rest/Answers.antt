@@ -1,7 +1,6 @@
 -- `cab_rest`: the state alone, or the state with version and bookings.
-use borrow.Author.Rules.{rules}
 use Rattle.buffer.proofs.Texts.{then}
-use Rattle.text.proofs.Cabinets.{all_fields, state_only}
+use Rattle.text.proofs.Cabinets.{all_fields}
 use Rattle.text.proofs.cab_rest.Goals as goal
 
 pub returns-then-works : goal.returns-then-works

@@ -1,5 +1,4 @@
 -- `call_done`, by its cases.
-use borrow.Author.Rules.{rules}
 use Rattle.turns.specs.Turns.{call_done}
 use Rattle.turns.proofs.call_done.Goals as goal
 

@@ -1,5 +1,4 @@
 -- `deed_done`, by its cases.
-use borrow.Author.Rules.{rules}
 use Rattle.turns.specs.Turns.{deed_done}
 use Rattle.turns.proofs.deed_done.Goals as goal
 

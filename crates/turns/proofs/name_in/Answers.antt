@@ -1,5 +1,4 @@
 -- `name_in`, by the record's length.
-use borrow.Author.Rules.{rules}
 use borrow.Author.Tests.{eq-eqb, ne_eqb}
 use Rattle.turns.specs.Turns.{name_in}
 use Rattle.turns.proofs.Names.{the_eight}

@@ -1,5 +1,4 @@
 -- `order_of`, by which records they are.
-use borrow.Author.Rules.{rules}
 use Rattle.turns.specs.Turns.{order_of}
 use Rattle.turns.proofs.order_of.Goals as goal
 

@@ -1,5 +1,4 @@
 -- `piece_done`, by its cases.
-use borrow.Author.Rules.{rules}
 use Rattle.turns.specs.Turns.{piece_done}
 use Rattle.turns.proofs.piece_done.Goals as goal
 

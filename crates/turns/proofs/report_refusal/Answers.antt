@@ -1,5 +1,4 @@
 -- `report_refusal`, by its cases.
-use borrow.Author.Rules.{rules}
 use Rattle.turns.specs.Turns.{report_refusal}
 use Rattle.turns.proofs.report_refusal.Goals as goal
 

@@ -1,5 +1,4 @@
 -- `step_turn`, by its cases.
-use borrow.Author.Rules.{rules}
 use Rattle.turns.specs.Turns.{step_turn}
 use Rattle.turns.proofs.step_turn.Goals as goal
 

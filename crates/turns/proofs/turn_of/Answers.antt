@@ -1,5 +1,4 @@
 -- `turn_of`, by its cases.
-use borrow.Author.Rules.{rules}
 use Rattle.turns.specs.Turns.{turn_of}
 use Rattle.turns.proofs.turn_of.Goals as goal
 

@@ -1,5 +1,4 @@
 -- `whole_done`, by its cases.
-use borrow.Author.Rules.{rules}
 use Rattle.turns.specs.Stored.{whole_stored}
 use Rattle.turns.proofs.whole_done.Goals as goal
 

@@ -1,5 +1,4 @@
 -- `word_left`, by its cases.
-use borrow.Author.Rules.{rules}
 use Rattle.turns.specs.Turns.{word_left}
 use Rattle.turns.proofs.word_left.Goals as goal
 

@@ -2,7 +2,7 @@
 use borrow.Author.Rules.{rules}
 use mathlib.Core.Path.{◌≡◌, ◌∙◌, sym}
 use native.Mathlib.Omega.{arith}
-use lib.ListN.{length, length-map, get_or-eq_default}
+use lib.ListN.{length, get_or-eq_default}
 use Rattle.cabinet.specs.Cabinet.{absent}
 use Rattle.group.specs.Group.{cabinet}
 use Rattle.marks.proofs.Lists.{get_d_in}

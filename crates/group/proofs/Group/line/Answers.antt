@@ -1,5 +1,4 @@
 -- `group::Group::line` meets its contract.
-use borrow.Author.Rules.{rules}
 use Rattle.group.specs.Group.{line}
 use Rattle.group.proofs.Group.line.Goals as goal
 

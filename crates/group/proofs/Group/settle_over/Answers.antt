@@ -1,5 +1,4 @@
 -- `group::Group::settle_over` meets its contract.
-use borrow.Author.Rules.{rules}
 use Rattle.group.specs.Group.{settle_over}
 use Rattle.group.proofs.Group.settle_over.Goals as goal
 

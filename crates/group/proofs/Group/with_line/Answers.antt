@@ -1,5 +1,4 @@
 -- `group::Group::with_line` meets its contract.
-use borrow.Author.Rules.{rules}
 use Rattle.group.specs.Group.{with_line}
 use Rattle.group.proofs.Group.with_line.Goals as goal
 

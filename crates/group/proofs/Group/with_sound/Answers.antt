@@ -1,5 +1,4 @@
 -- `group::Group::with_sound` meets its contract.
-use borrow.Author.Rules.{rules}
 use Rattle.group.specs.Group.{with_sound}
 use Rattle.group.proofs.Group.with_sound.Goals as goal
 

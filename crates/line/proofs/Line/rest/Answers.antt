@@ -1,7 +1,7 @@
 -- `line::Line::rest` meets its contract: each cell takes what stood one further.
 use borrow.Author.Rules.{rules}
 use mathlib.Core.Path.{◌≡◌}
-use lib.ListN.{length, length-map}
+use lib.ListN.{length}
 use Rattle.line.proofs.Cells.{rest_cells_lem}
 use Rattle.line.proofs.Line.rest.Goals as goal
 

@@ -1,10 +1,8 @@
 -- The goals of `without` that the check leaves.
-use borrow.Author.Rules.{rules}
 use Prim.Native.Nat.{◌-◌}
-use mathlib.Core.Path.{◌≡◌, refl, ◌∙◌}
+use mathlib.Core.Path.{◌∙◌}
 use native.Mathlib.Omega.{arith}
-use lib.ListN.{length, length-map, length-set}
-use Rattle.line.specs.Line.{without_cells}
+use lib.ListN.{length-set}
 use Rattle.line.proofs.Cells.{loss_behind, loss_ended}
 use Rattle.line.proofs.Line.without.Goals as goal
 

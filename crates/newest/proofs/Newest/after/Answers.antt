@@ -1,5 +1,4 @@
 -- `after`: the operation's own rule where it is taken, and no change where it is not.
-use borrow.Author.Rules.{rules}
 use borrow.Author.Tests.{eq-eqb, ne_eqb}
 use Rattle.newest.specs.Newest.{newest_in}
 use Rattle.newest.proofs.Newest.after.Goals as goal

@@ -1,5 +1,4 @@
 -- `outgoing::Outgoing::empty` meets its contract.
-use borrow.Author.Rules.{rules}
 use Rattle.outgoing.specs.Lines.{empty_lines}
 use Rattle.outgoing.proofs.Outgoing.empty.Goals as goal
 

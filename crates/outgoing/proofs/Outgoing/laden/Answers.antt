@@ -1,5 +1,4 @@
 -- `laden` asks each line by one `is_laden`.
-use borrow.Author.Rules.{rules}
 use Rattle.outgoing.specs.Lines.{laden}
 use Rattle.outgoing.proofs.Outgoing.laden.Goals as goal
 

@@ -1,5 +1,4 @@
 -- `outgoing::Outgoing::put_all` meets its contract.
-use borrow.Author.Rules.{rules}
 use Rattle.outgoing.specs.Lines.{put_all}
 use Rattle.outgoing.proofs.Outgoing.put_all.Goals as goal
 

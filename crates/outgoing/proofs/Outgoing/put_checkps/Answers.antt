@@ -1,5 +1,4 @@
 -- `outgoing::Outgoing::put_checkps` meets its contract.
-use borrow.Author.Rules.{rules}
 use Rattle.outgoing.specs.Lines.{put_checkps}
 use Rattle.outgoing.proofs.Outgoing.put_checkps.Goals as goal
 

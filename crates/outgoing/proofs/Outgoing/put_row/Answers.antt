@@ -1,12 +1,11 @@
 -- The goals of `put_row` that the check leaves.
 use borrow.Author.Rules.{rules}
-use Prim.Native.Nat.{ℕ, ◌≤◌, ◌<◌, ◌-◌}
-use mathlib.Core.Path.{◌≡◌, refl, ◌∙◌, ap}
+use Prim.Native.Nat.{ℕ, ◌<◌, ◌-◌}
+use mathlib.Core.Path.{◌≡◌, ◌∙◌, ap}
 use mathlib.Core.Bool.{Bool, true, false, cond}
 use mathlib.Core.List.{List}
-use native.Mathlib.Omega.{arith}
 use native.Mathlib.Numerals.{add-one}
-use lib.ListN.{length, get_or, length-map, length-set}
+use lib.ListN.{length, get_or, length-set}
 use lib.Seq.{set-get_or}
 use Rattle.marks.specs.Marks.{marked}
 use Rattle.marks.proofs.Lists.{get_d_in}
@@ -14,7 +13,7 @@ use Rattle.packet.specs.declared.Packet.{Packet}
 use Rattle.line.specs.declared.Line.{Line}
 use Rattle.line.specs.Line.{empty_line, put}
 use Rattle.outgoing.specs.declared.Outgoing.{Outgoing}
-use Rattle.outgoing.specs.Lines.{line_to, with_line_to, put_if, put_row_to}
+use Rattle.outgoing.specs.Lines.{line_to, with_line_to, put_if}
 use Rattle.outgoing.proofs.Outgoing.put_row.Goals as goal
 
 stored : (asked : Bool) (o : Outgoing) (j : ℕ) (p : Packet) (d : Line) → j < length o.lines

@@ -2,7 +2,7 @@
 use borrow.Author.Rules.{rules}
 use mathlib.Core.Path.{◌≡◌}
 use native.Mathlib.Omega.{arith}
-use lib.ListN.{length, length-map}
+use lib.ListN.{length}
 use lib.Seq.{set_out}
 use Rattle.outgoing.specs.Lines.{with_line_to}
 use Rattle.outgoing.proofs.Outgoing.with_line_to.Goals as goal

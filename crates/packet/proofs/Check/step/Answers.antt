@@ -1,5 +1,4 @@
 -- `packet::Check::step` runs over the three octets and the packet's own check, and counts one more.
-use Rattle.packet.specs.Packet.{step_check}
 use Rattle.crc.specs.Crc.{crc_from}
 use Rattle.packet.proofs.Check.step.Goals as goal
 

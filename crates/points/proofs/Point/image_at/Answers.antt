@@ -2,7 +2,7 @@
 use borrow.Author.Rules.{rules}
 use mathlib.Core.Path.{◌≡◌, ◌∙◌, sym}
 use native.Mathlib.Omega.{arith}
-use lib.ListN.{length, length-map, get_or-eq_default}
+use lib.ListN.{length, get_or-eq_default}
 use Rattle.image.specs.Image.{blank_image}
 use Rattle.points.specs.Points.{image_at}
 use Rattle.marks.proofs.Lists.{get_d_in}

@@ -1,5 +1,4 @@
 -- `Points::none` meets its contract.
-use borrow.Author.Rules.{rules}
 use Rattle.points.specs.Points.{no_points}
 use Rattle.points.proofs.Points.none.Goals as goal
 

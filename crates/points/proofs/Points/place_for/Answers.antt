@@ -1,5 +1,4 @@
 -- `place_for`, by whether the name is used.
-use borrow.Author.Rules.{rules}
 use borrow.Author.Tests.{le-ltb, lt-ltb}
 use Rattle.points.specs.Points.{place_for}
 use Rattle.points.proofs.Points.place_for.Goals as goal

@@ -1,5 +1,4 @@
 -- `place_of` asks the places in order.
-use borrow.Author.Rules.{rules}
 use Rattle.points.specs.Points.{place_of}
 use Rattle.points.proofs.Points.place_of.Goals as goal
 

@@ -2,7 +2,7 @@
 use borrow.Author.Rules.{rules}
 use mathlib.Core.Path.{◌≡◌, ◌∙◌, sym}
 use native.Mathlib.Omega.{arith}
-use lib.ListN.{length, length-map, get_or-eq_default}
+use lib.ListN.{length, get_or-eq_default}
 use Rattle.points.specs.Points.{no_point, point_at}
 use Rattle.marks.proofs.Lists.{get_d_in}
 use Rattle.points.proofs.Points.point_at.Goals as goal

@@ -1,5 +1,4 @@
 -- `piece_to`, by whether the store is present and which one it is.
-use borrow.Author.Rules.{rules}
 use Rattle.store.specs.Share.{piece_to}
 use Rattle.store.proofs.Share.piece_to.Goals as goal
 

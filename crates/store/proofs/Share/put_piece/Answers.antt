@@ -1,5 +1,4 @@
 -- `put_piece` follows its definition, call by call.
-use borrow.Author.Rules.{rules}
 use Rattle.store.specs.Share.{put_piece_in}
 use Rattle.store.proofs.Share.put_piece.Goals as goal
 

@@ -1,5 +1,4 @@
 -- `store::Slots::blank` meets its contract.
-use borrow.Author.Rules.{rules}
 use Rattle.store.specs.Store.{blank_slots}
 use Rattle.store.proofs.Slots.blank.Goals as goal
 

@@ -1,5 +1,4 @@
 -- `comes_back_lem` follows its definition, call by call.
-use borrow.Author.Rules.{rules}
 use Rattle.store.specs.Store.{comes_back}
 use Rattle.store.proofs.Store.comes_back.Goals as goal
 

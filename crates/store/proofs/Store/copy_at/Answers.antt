@@ -1,5 +1,4 @@
 -- `copy_at`, by whether the store is the home that the file names.
-use borrow.Author.Rules.{rules}
 use borrow.Author.Tests.{eq-eqb, ne_eqb}
 use Rattle.store.specs.Store.{copy_at}
 use Rattle.store.proofs.Store.copy_at.Goals as goal

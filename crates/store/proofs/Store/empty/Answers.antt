@@ -1,5 +1,4 @@
 -- `empty` follows its definition, call by call.
-use borrow.Author.Rules.{rules}
 use Rattle.store.specs.Store.{empty_store}
 use Rattle.store.proofs.Store.empty.Goals as goal
 

@@ -1,5 +1,4 @@
 -- `home`, by whether the home that the file names is present.
-use borrow.Author.Rules.{rules}
 use Rattle.store.specs.Store.{home_in}
 use Rattle.store.proofs.Store.home.Goals as goal
 

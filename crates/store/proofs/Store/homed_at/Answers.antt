@@ -1,5 +1,4 @@
 -- `homed_at` asks each number once.
-use borrow.Author.Rules.{rules}
 use Rattle.store.specs.Store.{homed_at}
 use Rattle.store.proofs.Store.homed_at.Goals as goal
 

@@ -1,5 +1,4 @@
 -- `is_away` follows its definition, call by call.
-use borrow.Author.Rules.{rules}
 use Rattle.store.specs.Store.{is_away}
 use Rattle.store.proofs.Store.is_away.Goals as goal
 

@@ -1,5 +1,4 @@
 -- `is_last` follows its definition, call by call.
-use borrow.Author.Rules.{rules}
 use Rattle.store.specs.Store.{is_last}
 use Rattle.store.proofs.Store.is_last.Goals as goal
 

@@ -1,5 +1,4 @@
 -- `leaves` follows its definition, call by call.
-use borrow.Author.Rules.{rules}
 use Rattle.store.specs.Store.{leaves}
 use Rattle.store.proofs.Store.leaves.Goals as goal
 

@@ -1,5 +1,4 @@
 -- `share` follows its definition, call by call.
-use borrow.Author.Rules.{rules}
 use Rattle.store.specs.Share.{share}
 use Rattle.store.proofs.Store.share.Goals as goal
 

@@ -1,5 +1,4 @@
 -- `slot_at` follows its definition, call by call.
-use borrow.Author.Rules.{rules}
 use Rattle.store.specs.Store.{slot_at}
 use Rattle.store.proofs.Store.slot_at.Goals as goal
 
