@@ -46,7 +46,7 @@ TwinsAgree = Meets twins_one × Meets twins_two × AgreeIn twins_one × AgreeIn 
 
 -- ---- a home trips, comes back, and its partner fails
 
--- the run of `Partners.partner-fails-next`, in which 1 sends to 2 for the workshop before the save, and 2 to 3 after it
+-- the run of `Partners.partner_fails_next`, in which 1 sends to 2 for the workshop before the save, and 2 to 3 after it
 abbrev pub twins_away : Twins
 twins_away = record {
   file = file_with (entry_with 4 1 100 40000 4 ∷ entry_with 4 0 50 5 0 ∷ entry_with 4 0 20 7 0 ∷ entry_with 4 1 30 11 1 ∷ []) (1 ∷ 2 ∷ 2 ∷ 3 ∷ 3 ∷ 4 ∷ []);

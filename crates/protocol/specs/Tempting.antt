@@ -126,7 +126,7 @@ begin_again = last_of triangle (begin 1 ∷ []) (begin 1) 14
 
 -- ---- "20 a normal packet, and a normal packet of that line was hurt since the receiver's register restarted"
 
--- with both patterns 30 and 20 amperes would be 31 and 13,093, which have the same check value (`Closed.Tempting.same-value`)
+-- with both patterns 30 and 20 amperes would be 31 and 13,093, which have the same check value (`Closed.Tempting.same_value`)
 abbrev pub hurt_twice : Run
 hurt_twice = last_of (two_cabinets 100 50) (send 1 2 30 ∷ send 1 2 20 ∷ damage 1 2 0 1 ∷ []) (damage 1 2 1 13105) 20
 

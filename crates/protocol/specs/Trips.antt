@@ -27,7 +27,7 @@ last_trips =
 abbrev pub comes_back : Example
 comes_back = record {
   file = ring;
-  -- as in `Examples.after-save`
+  -- as in `Examples.after_save`
   before = steps (ring_saved ++ send 1 2 40 ∷ deliver 1 2 ∷ note 2 31 4 ∷ send 3 2 7 ∷ []);
   since = steps last_trips;
   last = stepping (restored 3);
@@ -254,7 +254,7 @@ trips_while_saving_finds = record {
 }
 
 -- ---- "after the highest the lowest": no run here shows it, since a store without a partner keeps the lead once it has it; so it is asked of a
--- table's marks. `Partners.lead-goes-round` is a run in which it does
+-- table's marks. `Partners.lead_goes_round` is a run in which it does
 
 abbrev pub RoundAgain : Type 0
 RoundAgain =

@@ -19,7 +19,7 @@ use Rattle.protocol.specs.Unsure.{store_between, until_wait, end_after_reports}
 -- ---- a run, and what is told on the way
 
 -- the run so far: whether every record was taken ("0 taken, 50 taken and the group crashed"), what the records made of the file, and the
--- history's account. It is `History.run` and `Word.account` in one walk (`Closed.Words.watched-is`)
+-- history's account. It is `History.run` and `Word.account` in one walk (`Closed.Words.watched_is`)
 pub record Watched : Type 0 where
   pub taken : Bool
   pub world : World
@@ -156,7 +156,7 @@ normal_then_decided = record {
 
 -- ---- 4: "it decided under the unsure rule"
 
--- the run of `Unsure.decided-after-trip`: nobody has entered while all three are in error with unknown version; 3 reports last, and 2 decides
+-- the run of `Unsure.decided_after_trip`: nobody has entered while all three are in error with unknown version; 3 reports last, and 2 decides
 abbrev pub decided : Telling
 decided = record {
   file = store_between;
