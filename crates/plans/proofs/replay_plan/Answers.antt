@@ -14,5 +14,5 @@ returns-then-o-eq0 c = let a = c.args in
     let o = c.load-o.ensures in record {
       value = accepted a.file.now xs o c.if-o-eq0.true (ap (λ (s : Site). s.group) (rw c.none-points.ensures at c.run-last.ensures.value));
       answers_after = answered a.file.now xs o a.answers.now c.if-o-eq0.true (rw c.none-points.ensures at c.run-last.ensures.answers_after);
-      ends_well = ends_well a.file.now c.shared_slice_known-1.given xs (all_octets operation_of octets_of 9 (length a.list.now) a.list.now c.shared_slice_known-2-1.given);
+      ends_well = ends_well a.file.now c.type_inv.file xs (all_octets operation_of octets_of 9 (length a.list.now) a.list.now c.type_inv.list);
     }
