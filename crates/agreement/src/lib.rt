@@ -13,19 +13,18 @@ pub fn within(n: usize, buffer: &[u8]) -> usize
     ensures prefix_len { IsPrefixLen result buffer.now }
     ensures buffer_value { take result buffer.now ≡ take n buffer.now }
 {
-    if n < buffer.len() { n } else { buffer.len() }
+    n.min(buffer.len())
 }
 
 // Whether the text stands at the buffer's start and has the length `end`.
 fn holds(buffer: &[u8], end: usize, text: &[u8]) -> bool
     ensures { Decides result (Held buffer.now end text.now) }
 {
-    if end == text.len() {
-        let stored = within(end, buffer);
-        return check::same(&buffer[..stored], text);
-    }
-    false
+    end == text.len() && &buffer[..within(end, buffer)] == text
 }
+
+// Kept: the next three have the same lines over another writer. One function over them would take the writer as a closure and the size
+// as a constant, and its contract would say of the closure what these clauses say plainly.
 
 // Whether the library writes the expected listing, octet by octet and no more.
 pub fn agrees(file: &[u8], list: &[u8], text: &[u8]) -> bool

@@ -2,29 +2,27 @@
 #![tactic(auto)]
 
 ghost use Rattle.std.specs.Prelude.{◌≡◌};
+ghost use Rattle.refusal.specs.Refusal.{numbered};
 ghost use Rattle.protocol.specs.Word.{told_of, which_word};
 
 use group::Group;
-use protocol::Told;
-use settled::Settled;
+use refusal::Refusal;
+use settled::First;
 
-// 24 where no cabinet has entered recovering yet.
-fn told_of(s: Settled) -> Told
-    ensures { result ≡ told_of s }
+fn told_of(settled: Option<First>) -> Result<First, Refusal>
+    ensures { numbered result ≡ told_of settled }
 {
-    match s {
-        Settled::Nobody => Told::Refused(24),
-        Settled::By(first) => Told::Settled(first),
+    match settled {
+        Some(first) => Ok(first),
+        None => Err(Refusal::NobodyYet),
     }
 }
 
 // A crash hides what was settled before it.
-pub fn which_word(g: Group) -> Told
-    ensures { result ≡ which_word g }
+#[tactic(auto, unfolding(protocol::specs::Word::which_word))]
+pub fn which_word(g: Group) -> Result<First, Refusal>
+    ensures { numbered result ≡ which_word g }
 {
-    if survey::is_crashed(g) {
-        return Told::Refused(10);
-    }
-    let settled = g.settled;
-    told_of(settled)
+    Refusal::AfterCrash.unless(!survey::is_crashed(g))?;
+    told_of(g.settled)
 }

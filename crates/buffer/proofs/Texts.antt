@@ -2,6 +2,8 @@
 use Rattle.std.proofs.Common.{◌≡◌, ℕ, suc, ◌+◌, ◌^◌, ◌<◌, ◌≤◌, List, [], ◌∷◌, ◌++◌, length, take, set, sym, refl, ap, ◌∙◌, add-zero, arith, length-set}
 use lib.Seq.{sets, sets-eq, take-append_seam}
 use Rattle.buffer.specs.Written.{Written, next, place_after, stored_from}
+use Rattle.buffer.specs.declared.Writer.{Writer}
+use Rattle.buffer.specs.Added.{Added}
 
 place_append : (at : ℕ) (a b : List ℕ) → place_after (place_after at a) b ≡ place_after at (a ++ b)
 place_append at [] b = refl
@@ -41,3 +43,10 @@ stored_sets at (x ∷ text) l h = rw (one_on at (length text) h) (stored_sets (s
 -- a whole text stands at the buffer's start
 pub at_start : (whole before : List ℕ) → length whole ≤ length before → take (length whole) (sets before 0 whole) ≡ whole
 at_start whole before h = rw (sets-eq whole before 0 (omega arith)) (take-append_seam whole _)
+
+-- one text after another, by the same writer
+pub and_then : {a d : List ℕ} {x y z : Writer} → Added a x y → Added d y z → Added (a ++ d) x z
+and_then v w = record {
+  written = then v.written w.written;
+  same_buffer = w.same_buffer ∙ v.same_buffer;
+}

@@ -1,2 +1,3 @@
--- What a writing function leaves in its buffer.
+-- What a writing function leaves in its buffer, and what it does with a writer that it is lent.
 pub mod Written
+pub mod Added

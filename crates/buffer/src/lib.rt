@@ -1,31 +1,51 @@
 // Octets, words and numbers, written into a buffer that the caller lends.
-// A writing function takes the place to start at and answers the place after its text. What lies
-// past the buffer's end is counted and not stored.
+// What lies past the buffer's end is counted and not stored.
 #![tactic(auto)]
 
 ghost use Rattle.std.specs.Prelude.{◌≡◌, ℕ, suc, ◌+◌, ◌^◌, ◌<◌, [], ◌∷◌};
 ghost use Rattle.protocol.specs.Listing.{digits, decimal};
 ghost use Rattle.buffer.specs.Written.{Written};
+ghost use Rattle.buffer.specs.Added.{Added};
 
-pub fn put(out: &mut [u8], at: usize, octet: u8) -> usize
-    ensures { Written (octet ∷ []) at out.old result out.new }
-{
-    if at < out.len() {
-        out[at] = octet;
-    }
-    std::num::wrapping_add_usize(at, 1)
+// A buffer, and the place in it after what was written.
+#[derive(Drop)]
+pub struct Writer<'a> {
+    pub out: &'a mut [u8],
+    pub end: usize,
 }
 
-pub fn word(out: &mut [u8], at: usize, text: &[u8]) -> usize
-    ensures { Written text.now at out.old result out.new }
-{
-    let mut end = at;
-    let mut i = 0;
-    while i < text.len() {
-        end = put(out, end, text[i]);
-        i += 1;
+impl<'a> Writer<'a> {
+    pub fn put(&mut self, octet: u8)
+        ensures { Added (octet ∷ []) self.old self.new }
+    {
+        self.end = put(self.out, self.end, octet);
     }
-    end
+
+    pub fn word(&mut self, text: &[u8])
+        ensures { Added text.now self.old self.new }
+    {
+        for octet in text {
+            self.put(*octet);
+        }
+    }
+
+    // A number in decimal: the digits before the last, then the last. It ends since n / 10 is below n.
+    fn decimal(&mut self, n: u16)
+        ensures { (f : ℕ) → n < 10 ^ suc f → Added (digits (suc f) n) self.old self.new }
+    {
+        if n >= 10 {
+            self.decimal(n / 10);
+        }
+        self.put(digit(n % 10));
+    }
+
+    // A space and a number.
+    pub fn number(&mut self, n: u16)
+        ensures { Added (32 ∷ decimal n) self.old self.new }
+    {
+        self.put(b' ');
+        self.decimal(n);
+    }
 }
 
 fn digit(n: u16) -> u8
@@ -35,21 +55,13 @@ fn digit(n: u16) -> u8
     b'0' + n as u8
 }
 
-// A number in decimal: the digits before the last, then the last. It ends since n / 10 is below n.
-fn decimal(out: &mut [u8], at: usize, n: u16) -> usize
-    ensures { (f : ℕ) → n < 10 ^ suc f → Written (digits (suc f) n) at out.old result out.new }
+// One octet at a place, and the place after it.
+// Kept: an answer of the run, or of a refused load, is one octet at a place; a Writer would be made for it alone.
+pub fn put(out: &mut [u8], at: usize, octet: u8) -> usize
+    ensures { Written (octet ∷ []) at out.old result out.new }
 {
-    if n < 10 {
-        return put(out, at, digit(n));
+    if at < out.len() {
+        out[at] = octet;
     }
-    let end = decimal(out, at, n / 10);
-    put(out, end, digit(n % 10))
-}
-
-// A space and a number.
-pub fn number(out: &mut [u8], at: usize, n: u16) -> usize
-    ensures { Written (32 ∷ decimal n) at out.old result out.new }
-{
-    let at = put(out, at, b' ');
-    decimal(out, at, n)
+    at.wrapping_add(1)
 }

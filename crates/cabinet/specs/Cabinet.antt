@@ -1,5 +1,5 @@
 -- One cabinet: what its table says, and each change that a rule of the documents makes to it alone.
-use Rattle.std.specs.Prelude.{ℕ, ◌+◌, Bool, true, false, cond, set, eqb, ltb}
+use Rattle.std.specs.Prelude.{ℕ, ◌+◌, Bool, true, false, cond, set, eqb, ltb, None, Some}
 use Rattle.marks.specs.Marks.{Marks, covers, either, without, no_marks}
 use Rattle.outlet.specs.declared.Outlet.{Outlet}
 use Rattle.packet.specs.declared.Payload.{Payload}
@@ -13,8 +13,7 @@ use Rattle.state.specs.declared.State.{State}
 use Rattle.state.specs.declared.State.TheVariants.{Failed, Normal, CheckpBegin, Checkpointing, Checkpointed, Error, Recovering, Recovered, Crashed}
 use Rattle.state.specs.declared.Version.{Version}
 use Rattle.state.specs.declared.Version.TheVariants.{Known, Lost}
-use Rattle.cabinet.specs.declared.Alarm.{Alarm}
-use Rattle.cabinet.specs.declared.Alarm.TheVariants.{Quiet, Fault}
+use Rattle.cabinet.specs.Alarm.{Alarm}
 use Rattle.cabinet.specs.declared.Phase.{Phase}
 use Rattle.cabinet.specs.declared.Noted.{Noted}
 use Rattle.image.specs.declared.Image.{Image}
@@ -77,7 +76,7 @@ nothing_noted = record { come = no_marks; pieces = 0; saved = no_marks; restored
 -- what stands at the numbers past n: a cabinet that does not work
 abbrev pub absent : Cabinet
 absent = record {
-  phase = record { state = Failed; version = Known false; alarm = Quiet };
+  phase = record { state = Failed; version = Known false; alarm = None };
   table = record { cabinets = no_marks; links = no_marks; lead = 8 };
   noted = nothing_noted;
   registers = start_registers;
@@ -148,7 +147,7 @@ saved_for c j = with_saved c (set c.noted.saved j true)
 
 -- enters normal with a version; nothing is noted any more
 abbrev pub resuming : Cabinet → Version → Cabinet
-resuming c v = with_noted (with_phase c (record { state = Normal; version = v; alarm = Quiet })) nothing_noted
+resuming c v = with_noted (with_phase c (record { state = Normal; version = v; alarm = None })) nothing_noted
 
 -- ---- failing and recovering
 
@@ -161,7 +160,7 @@ fault_noted f = record { come = no_marks; pieces = 0; saved = no_marks; restored
 abbrev pub alarmed : Cabinet → ℕ → Place → Cabinet
 alarmed c i p =
     owing_none
-    (with_noted (with_table (with_alarm (with_state c Error) (Fault p)) (faulted_at i p c.table)) (fault_noted (is_at p (coordinator c))))
+    (with_noted (with_table (with_alarm (with_state c Error) (Some p)) (faulted_at i p c.table)) (fault_noted (is_at p (coordinator c))))
 
 -- a trip "turns cabinet a's image to zeros and its version to unknown", with no old one
 abbrev pub blanked : Cabinet → Cabinet

@@ -2,11 +2,9 @@
 // Cabinets are numbered 0 to 7 here: a cabinet's number in a file or a record, less one.
 #![tactic(auto)]
 
-ghost use Rattle.std.specs.Prelude.{◌≡◌, cond};
-ghost use Rattle.marks.specs.Marks.{covers};
+ghost use Rattle.std.specs.Prelude.{◌≡◌};
 ghost use Rattle.cabinet.specs.Alarm.{is_for};
-ghost use Rattle.state.specs.State.{doubted};
-ghost use Rattle.cabinet.specs.Cabinet.{with_phase, with_table, with_noted, with_registers, with_image, with_owed, with_state, with_version, with_pieces, nothing_noted, absent, in_use, coordinator, sending, taking, hurt_from, beginning, comparing, cutting, wrote, owing, owing_also, owing_but, owing_none, saved_for, resuming, fault_noted, alarmed, blanked, hearing, recovering, fetched, restored_for, unsure_for, crashing};
+ghost use Rattle.cabinet.specs.Cabinet.{with_image, with_state, with_version, with_pieces, nothing_noted, absent, in_use, coordinator, sending, taking, hurt_from, beginning, comparing, cutting, wrote, owing, owing_also, owing_but, owing_none, saved_for, resuming, alarmed, blanked, hearing, recovering, fetched, restored_for, unsure_for, crashing};
 
 use image::Image;
 use outlet::Outlet;
@@ -15,21 +13,16 @@ use registers::Registers;
 use state::{State, Version};
 use table::Table;
 
-// The fault that a cabinet entered error for.
-#[derive(Clone, Copy)]
-pub enum Alarm {
-    Quiet,
-    Fault(Place),
-}
-
 #[derive(Clone, Copy)]
 pub struct Phase {
     pub state: State,
     pub version: Version,
-    pub alarm: Alarm,
+    // The fault that it entered error for.
+    pub alarm: Option<Place>,
 }
 
 // What is noted of one save or recovery; `former`: the fault is the coordinator as it was before; `unsure`: whose unsure reports have come.
+// Kept: rows of marks side by side, as the project keeps marks: rows of eight, by value.
 #[derive(Clone, Copy)]
 pub struct Noted {
     pub come: [bool; 8],
@@ -53,21 +46,11 @@ pub struct Cabinet {
 
 // ---- versions and faults
 
-// The version once all pieces are saved: it stays known at the coordinator.
-fn known_if(coordinates: bool, v: Version) -> Version
-    ensures { result ≡ cond coordinates v (doubted v) }
-{
-    if coordinates { v } else { state::doubted(v) }
-}
-
 // The fault that was entered error for is at this place.
-pub fn is_for(alarm: Alarm, place: Place) -> bool
+pub fn is_for(alarm: Option<Place>, place: Place) -> bool
     ensures { result ≡ is_for alarm place }
 {
-    match alarm {
-        Alarm::Quiet => false,
-        Alarm::Fault(known) => packet::same_place(known, place),
-    }
+    alarm == Some(place)
 }
 
 // ---- starting values
@@ -87,15 +70,6 @@ pub fn nothing_noted() -> Noted
     }
 }
 
-// What is noted on entering error: whether the place is the coordinator as it was before, and nothing else.
-fn fault_noted(former: bool) -> Noted
-    ensures { result ≡ fault_noted former }
-{
-    let mut noted = nothing_noted();
-    noted.former = former;
-    noted
-}
-
 impl Cabinet {
     // What stands at the numbers past n: a cabinet that does not work.
     pub fn absent() -> Cabinet
@@ -105,7 +79,7 @@ impl Cabinet {
             phase: Phase {
                 state: State::Failed,
                 version: Version::Known(false),
-                alarm: Alarm::Quiet,
+                alarm: None,
             },
             table: Table {
                 cabinets: [false; 8],
@@ -121,88 +95,46 @@ impl Cabinet {
 
     // ---- one part replaced
 
-    fn with_phase(self, phase: Phase) -> Cabinet
-        ensures { result ≡ with_phase self phase }
-    {
-        let mut c = self;
-        c.phase = phase;
-        c
-    }
-
-    fn with_table(self, table: Table) -> Cabinet
-        ensures { result ≡ with_table self table }
-    {
-        let mut c = self;
-        c.table = table;
-        c
-    }
-
-    fn with_noted(self, noted: Noted) -> Cabinet
-        ensures { result ≡ with_noted self noted }
-    {
-        let mut c = self;
-        c.noted = noted;
-        c
-    }
-
-    fn with_registers(self, registers: Registers) -> Cabinet
-        ensures { result ≡ with_registers self registers }
-    {
-        let mut c = self;
-        c.registers = registers;
-        c
-    }
-
     pub fn with_image(self, image: Image) -> Cabinet
         ensures { result ≡ with_image self image }
     {
-        let mut c = self;
-        c.image = image;
-        c
-    }
-
-    fn with_owed(self, owed: [bool; 8]) -> Cabinet
-        ensures { result ≡ with_owed self owed }
-    {
-        let mut c = self;
-        c.owed = owed;
-        c
+        Cabinet { image, ..self }
     }
 
     pub fn with_state(self, state: State) -> Cabinet
         ensures { result ≡ with_state self state }
     {
-        let phase = self.phase;
-        let version = phase.version;
-        let alarm = phase.alarm;
-        let phase = Phase {
-            state: state,
-            version: version,
-            alarm: alarm,
-        };
-        self.with_phase(phase)
+        Cabinet {
+            phase: Phase {
+                state,
+                ..self.phase
+            },
+            ..self
+        }
     }
 
     pub fn with_version(self, version: Version) -> Cabinet
         ensures { result ≡ with_version self version }
     {
-        let phase = self.phase;
-        let state = phase.state;
-        let alarm = phase.alarm;
-        let phase = Phase {
-            state: state,
-            version: version,
-            alarm: alarm,
-        };
-        self.with_phase(phase)
+        Cabinet {
+            phase: Phase {
+                version,
+                ..self.phase
+            },
+            ..self
+        }
     }
 
     fn with_pieces(self, pieces: u8) -> Cabinet
         ensures { result ≡ with_pieces self pieces }
     {
-        let mut noted = self.noted;
-        noted.pieces = pieces;
-        self.with_noted(noted)
+        Cabinet {
+            noted: Noted {
+                pieces,
+                ..self.noted
+            },
+            ..self
+        }
     }
 
     // ---- what its table says
@@ -211,16 +143,14 @@ impl Cabinet {
     pub fn in_use(self) -> [bool; 8]
         ensures { result ≡ in_use self }
     {
-        let table = self.table;
-        table.in_use()
+        self.table.in_use()
     }
 
     // The cabinet that its table names as coordinator.
     pub fn coordinator(self) -> u8
         ensures { result ≡ coordinator self }
     {
-        let table = self.table;
-        table.coordinator()
+        self.table.coordinator()
     }
 
     // ---- normal packets
@@ -229,31 +159,32 @@ impl Cabinet {
     pub fn sending(self, j: u8, outlet: Outlet, p: Payload) -> Cabinet
         ensures { result ≡ sending self j outlet p }
     {
-        let registers = self.registers;
-        let image = self.image;
-        let paid = image.charged(outlet, p.amount);
-        self.with_registers(registers.run_over_sent(j, p))
-            .with_image(paid)
+        Cabinet {
+            registers: self.registers.run_over_sent(j, p),
+            image: self.image.charged(outlet, p.amount),
+            ..self
+        }
     }
 
     // The amount of a packet from j added to the booking of the outlet that it names, and the receiver's register runs over the packet.
     pub fn taking(self, j: u8, p: Payload) -> Cabinet
         ensures { result ≡ taking self j p }
     {
-        let registers = self.registers;
-        let image = self.image;
-        let outlet = p.outlet;
-        let richer = image.credited(outlet, p.amount);
-        self.with_registers(registers.run_over_taken(j, p))
-            .with_image(richer)
+        Cabinet {
+            registers: self.registers.run_over_taken(j, p),
+            image: self.image.credited(p.outlet, p.amount),
+            ..self
+        }
     }
 
     // A normal packet of the line from j was hurt.
     pub fn hurt_from(self, j: u8) -> Cabinet
         ensures { result ≡ hurt_from self j }
     {
-        let registers = self.registers;
-        self.with_registers(registers.mark_hurt(j))
+        Cabinet {
+            registers: self.registers.mark_hurt(j),
+            ..self
+        }
     }
 
     // ---- saving
@@ -262,117 +193,119 @@ impl Cabinet {
     pub fn beginning(self) -> Cabinet
         ensures { result ≡ beginning self }
     {
-        let registers = self.registers;
-        let registers = registers.restart_sent(self.in_use());
-        self.with_state(State::CheckpBegin)
-            .with_registers(registers)
-            .with_noted(nothing_noted())
+        let c = Cabinet {
+            registers: self.registers.restart_sent(self.in_use()),
+            noted: nothing_noted(),
+            ..self
+        };
+        c.with_state(State::CheckpBegin)
     }
 
     // An equal comparison with the checkp from j: it has come, and the receiver's register restarts.
     pub fn comparing(self, j: u8) -> Cabinet
         ensures { result ≡ comparing self j }
     {
-        let registers = self.registers;
-        let registers = registers.restart_taken(j);
-        let mut noted = self.noted;
-        let come = noted.come;
-        let come = marks::set_mark(come, j, true);
-        noted.come = come;
-        self.with_registers(registers).with_noted(noted)
-    }
-
-    // The checkps of all neighbours in use have come.
-    fn all_come(self) -> bool
-        ensures { result ≡ covers self.noted.come (in_use self) }
-    {
-        let noted = self.noted;
-        let come = noted.come;
-        marks::covers(come, self.in_use())
+        Cabinet {
+            registers: self.registers.restart_taken(j),
+            noted: Noted {
+                come: marks::set_mark(self.noted.come, j, true),
+                ..self.noted
+            },
+            ..self
+        }
     }
 
     // Enters checkpointing once the checkps of all neighbours in use have come: its cut.
     pub fn cutting(self) -> Cabinet
         ensures { result ≡ cutting self }
     {
-        if self.all_come() {
+        if marks::covers(self.noted.come, self.in_use()) {
             self.with_state(State::Checkpointing)
         } else {
             self
         }
     }
 
-    // Cabinet i has written one piece more; with piece 3 it enters checkpointed.
+    // Cabinet i has written one piece more; with piece 3 it enters checkpointed, and its version stays known at the coordinator alone.
     pub fn wrote(self, i: u8) -> Cabinet
         ensures { result ≡ wrote self i }
     {
-        let noted = self.noted;
-        if noted.pieces < 3 {
-            return self.with_pieces(noted.pieces + 1);
+        if self.noted.pieces < 3 {
+            return self.with_pieces(self.noted.pieces + 1);
         }
-        let phase = self.phase;
-        let alarm = phase.alarm;
-        let version = phase.version;
-        let version = known_if(self.coordinator() == i, version);
-        let phase = Phase {
-            state: State::Checkpointed,
-            version: version,
-            alarm: alarm,
-        };
-        self.with_phase(phase).with_pieces(4)
+        let saved = self.with_state(State::Checkpointed).with_pieces(4);
+        if self.coordinator() == i {
+            saved
+        } else {
+            saved.with_version(state::doubted(self.phase.version))
+        }
     }
 
     // A home owes the saved report on j, or has made it.
     pub fn owing(self, j: u8, owes: bool) -> Cabinet
         ensures { result ≡ owing self j owes }
     {
-        let owed = self.owed;
-        self.with_owed(marks::set_mark(owed, j, owes))
+        Cabinet {
+            owed: marks::set_mark(self.owed, j, owes),
+            ..self
+        }
     }
 
     // .. and the reports of a home that it takes over from.
     pub fn owing_also(self, more: [bool; 8]) -> Cabinet
         ensures { result ≡ owing_also self more }
     {
-        let owed = self.owed;
-        self.with_owed(marks::either(owed, more))
+        Cabinet {
+            owed: marks::either(self.owed, more),
+            ..self
+        }
     }
 
     // .. and none of these any more.
     pub fn owing_but(self, dropped: [bool; 8]) -> Cabinet
         ensures { result ≡ owing_but self dropped }
     {
-        let owed = self.owed;
-        self.with_owed(marks::without(owed, dropped))
+        Cabinet {
+            owed: marks::without(self.owed, dropped),
+            ..self
+        }
     }
 
     pub fn owing_none(self) -> Cabinet
         ensures { result ≡ owing_none self }
     {
-        self.with_owed([false; 8])
+        Cabinet {
+            owed: [false; 8],
+            ..self
+        }
     }
 
     // The coordinator has the saved report on j.
     pub fn saved_for(self, j: u8) -> Cabinet
         ensures { result ≡ saved_for self j }
     {
-        let mut noted = self.noted;
-        let saved = noted.saved;
-        let saved = marks::set_mark(saved, j, true);
-        noted.saved = saved;
-        self.with_noted(noted)
+        Cabinet {
+            noted: Noted {
+                saved: marks::set_mark(self.noted.saved, j, true),
+                ..self.noted
+            },
+            ..self
+        }
     }
 
     // Enters normal with a version; nothing is noted any more.
     pub fn resuming(self, version: Version) -> Cabinet
         ensures { result ≡ resuming self version }
     {
-        let phase = Phase {
-            state: State::Normal,
-            version: version,
-            alarm: Alarm::Quiet,
-        };
-        self.with_phase(phase).with_noted(nothing_noted())
+        Cabinet {
+            phase: Phase {
+                state: State::Normal,
+                version,
+                alarm: None,
+            },
+            noted: nothing_noted(),
+            ..self
+        }
     }
 
     // ---- failing and recovering
@@ -381,19 +314,20 @@ impl Cabinet {
     pub fn alarmed(self, i: u8, place: Place) -> Cabinet
         ensures { result ≡ alarmed self i place }
     {
-        let phase = self.phase;
-        let version = phase.version;
-        let phase = Phase {
-            state: State::Error,
-            version: version,
-            alarm: Alarm::Fault(place),
+        let c = Cabinet {
+            phase: Phase {
+                state: State::Error,
+                alarm: Some(place),
+                ..self.phase
+            },
+            table: table::faulted_at(i, place, self.table),
+            noted: Noted {
+                former: table::is_at(place, self.table.lead),
+                ..nothing_noted()
+            },
+            ..self
         };
-        let table = self.table;
-        let noted = fault_noted(table::is_at(place, table.lead));
-        let table = table::faulted_at(i, place, table);
-        let c = self.with_phase(phase).with_table(table);
-        let forgetful = c.owing_none();
-        forgetful.with_noted(noted)
+        c.owing_none()
     }
 
     // A trip leaves an image of zeros and an unknown version, with no old one.
@@ -404,72 +338,73 @@ impl Cabinet {
     }
 
     // The fault packet of neighbour j has come.
+    // Kept: comparing, owing, saved_for, unsure_for and restored_for are like it at other rows of marks; each is one struct expression.
     pub fn hearing(self, j: u8) -> Cabinet
         ensures { result ≡ hearing self j }
     {
-        let mut noted = self.noted;
-        let heard = noted.heard;
-        let heard = marks::set_mark(heard, j, true);
-        noted.heard = heard;
-        self.with_noted(noted)
+        Cabinet {
+            noted: Noted {
+                heard: marks::set_mark(self.noted.heard, j, true),
+                ..self.noted
+            },
+            ..self
+        }
     }
 
     // The coordinator has the report of j that it is unsure.
     pub fn unsure_for(self, j: u8) -> Cabinet
         ensures { result ≡ unsure_for self j }
     {
-        let mut noted = self.noted;
-        let unsure = noted.unsure;
-        let unsure = marks::set_mark(unsure, j, true);
-        noted.unsure = unsure;
-        self.with_noted(noted)
+        Cabinet {
+            noted: Noted {
+                unsure: marks::set_mark(self.noted.unsure, j, true),
+                ..self.noted
+            },
+            ..self
+        }
     }
 
     // Enters recovering with a known version.
     pub fn recovering(self, bit: bool) -> Cabinet
         ensures { result ≡ recovering self bit }
     {
-        let phase = self.phase;
-        let alarm = phase.alarm;
-        let phase = Phase {
-            state: State::Recovering,
-            version: Version::Known(bit),
-            alarm: alarm,
-        };
-        self.with_phase(phase)
+        self.with_state(State::Recovering)
+            .with_version(Version::Known(bit))
     }
 
     // One piece more is fetched; with piece 3 it enters recovered, and all its registers restart.
     pub fn fetched(self, image: Image) -> Cabinet
         ensures { result ≡ fetched self image }
     {
-        let noted = self.noted;
-        if noted.pieces < 3 {
-            return self.with_pieces(noted.pieces + 1).with_image(image);
+        if self.noted.pieces < 3 {
+            return self.with_pieces(self.noted.pieces + 1).with_image(image);
         }
-        let c = self.with_state(State::Recovered).with_pieces(4);
-        let restarted = c.with_registers(registers::start_registers());
-        restarted.with_image(image)
+        let restarted = Cabinet {
+            registers: registers::start_registers(),
+            image,
+            ..self
+        };
+        restarted.with_state(State::Recovered).with_pieces(4)
     }
 
     // The coordinator has the restored report of j.
     pub fn restored_for(self, j: u8) -> Cabinet
         ensures { result ≡ restored_for self j }
     {
-        let mut noted = self.noted;
-        let restored = noted.restored;
-        let restored = marks::set_mark(restored, j, true);
-        noted.restored = restored;
-        self.with_noted(noted)
+        Cabinet {
+            noted: Noted {
+                restored: marks::set_mark(self.noted.restored, j, true),
+                ..self.noted
+            },
+            ..self
+        }
     }
 
     // A crash of the group puts every working cabinet in crashed.
     pub fn crashing(self) -> Cabinet
         ensures { result ≡ crashing self }
     {
-        let phase = self.phase;
-        let state = phase.state;
-        if state::works(state) {
+        if state::works(self.phase.state) {
             self.with_state(State::Crashed)
         } else {
             self

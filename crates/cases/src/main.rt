@@ -4,202 +4,134 @@
 // then the group file, the step records or the plan, and the expected text. Cases are numbered from 0.
 #![tactic(auto)]
 
-ghost use Rattle.std.specs.Prelude.{◌+◌, ◌*◌, ◌<◌, ◌≤◌, ◌≡◌};
-ghost use Rattle.io.specs.Counts.{IsPrefixLen};
-
+use files::read_full;
+use std::fmt::{Display, Formatter};
 use std::fs::File;
-use std::io::{Error, Read, Result};
+use std::io::Read;
 use std::rt::Files;
+use std::{fmt, io};
 
 // A proved loop has to end, and nothing says that a file does.
 const CASES_MOST: u64 = 1000000;
 
-// What the library writes of a case: the listing, the text of an evening, or the line of `word`.
-#[derive(Clone, Copy)]
-enum Kind {
-    Listing,
-    Evening,
-    Word,
-}
+// The listings, the texts of an evening, and the lines of `word`.
+const LISTINGS: [(&str, &str); 10] = [
+    ("plain", "plain.cases"),
+    ("damage", "damage.cases"),
+    ("outlets", "outlets.cases"),
+    ("losses", "losses.cases"),
+    ("trips", "trips.cases"),
+    ("unsure", "unsure.cases"),
+    ("own checks", "own_checks.cases"),
+    ("workshop", "workshop.cases"),
+    ("partners", "partners.cases"),
+    ("made", "made.cases"),
+];
 
-#[derive(Clone, Copy)]
-enum Verdict {
-    Agrees,
-    Differs,
-    Broken,
-    End,
-}
+const EVENINGS: [(&str, &str); 2] = [("points", "points.cases"), ("planned", "planned.cases")];
 
-#[derive(Clone, Copy)]
-struct Sizes {
-    file: usize,
-    list: usize,
-    text: usize,
-}
+const WORDS: [(&str, &str); 2] = [("word", "word.cases"), ("worded", "worded.cases")];
 
+// A container that ends in the midst of a case, or has one that is larger than any that is stored.
+#[derive(Clone, Copy)]
+struct Broken;
+
+// What came of a container's cases: how many agree and how many differ, the first that differs, and
+// whether a broken case ended it.
 #[derive(Clone, Copy)]
 struct Tally {
     agree: u64,
     differ: u64,
-    first: u64,
+    first: Option<u64>,
     broken: bool,
-    open: bool,
+}
+
+impl Display for Tally {
+    fn fmt<W: fmt::Write>(&self, f: &mut Formatter<W>) -> fmt::Result {
+        write!(f, "{} agree, {} differ", self.agree, self.differ)?;
+        if let Some(first) = self.first {
+            write!(f, ", first case {first}")?;
+        }
+        if self.broken {
+            write!(f, ", then a broken case")?;
+        }
+        Ok(())
+    }
 }
 
 // ---- one case
 
-fn number(a: u8, b: u8, c: u8, d: u8) -> usize
-    ensures { result ≡ ((a * 256 + b) * 256 + c) * 256 + d }
+fn number(octets: [u8; 4]) -> usize {
+    u32::from_be_bytes(octets) as usize
+}
+
+// Reads the input's next n octets to the start of the buffer, which has room for those of each case
+// that is stored.
+fn part<'b>(input: &mut impl Read, buffer: &'b mut [u8], n: usize) -> Result<&'b [u8], Broken> {
+    let octets = buffer.get_mut(..n).ok_or(Broken)?;
+    if read_full(input, octets) < n {
+        return Err(Broken);
+    }
+    Ok(octets)
+}
+
+// Reads and runs the next case: whether it agrees, and None where the container ends. Its records may
+// be some more than the 10,000 that are read.
+fn next_case<F: Fn(&[u8], &[u8], &[u8]) -> bool>(
+    agrees: &F,
+    input: &mut impl Read,
+) -> Result<Option<bool>, Broken>
+    requires { F.IsAlwaysCallable agrees.now }
 {
-    ((a as usize * 256 + b as usize) * 256 + c as usize) * 256 + d as usize
-}
-
-fn sizes_in(head: [u8; 12]) -> Sizes {
-    let file = number(head[0], head[1], head[2], head[3]);
-    let list = number(head[4], head[5], head[6], head[7]);
-    let text = number(head[8], head[9], head[10], head[11]);
-    Sizes { file, list, text }
-}
-
-// Reads until the buffer is full, the input ends or a read fails, and answers how many octets it put
-// at the buffer's start.
-fn read_full(input: &mut impl Read, buf: &mut [u8]) -> usize
-    ensures { IsPrefixLen result buf.new }
-{
-    let mut done = 0;
-    while done < buf.len() {
-        match input.read(&mut buf[done..]) {
-            Ok(0) | Err(_) => break,
-            Ok(n) => done += n,
-        }
+    let mut head = [0u8; 12];
+    match read_full(input, &mut head) {
+        0 => return Ok(None),
+        12 => {}
+        _ => return Err(Broken),
     }
-    done
-}
-
-// Reads n octets to the start of the buffer; whether it has room for them and they were there.
-fn filled(input: &mut impl Read, buffer: &mut [u8], n: usize) -> bool {
-    let room = agreement::within(n, buffer);
-    read_full(input, &mut buffer[..room]) == n
-}
-
-fn agrees(kind: Kind, file: &[u8], list: &[u8], text: &[u8]) -> bool {
-    match kind {
-        Kind::Listing => agreement::agrees(file, list, text),
-        Kind::Evening => agreement::evening_agrees(file, list, text),
-        Kind::Word => agreement::word_agrees(file, list, text),
-    }
-}
-
-fn judged(kind: Kind, file: &[u8], list: &[u8], text: &[u8], s: Sizes) -> Verdict {
-    let a = agreement::within(s.file, file);
-    let b = agreement::within(s.list, list);
-    let c = agreement::within(s.text, text);
-    if agrees(kind, &file[..a], &list[..b], &text[..c]) {
-        Verdict::Agrees
-    } else {
-        Verdict::Differs
-    }
-}
-
-// Reads and runs a case. Its records may be some more than the 10,000 that are read.
-fn sized_case(kind: Kind, input: &mut impl Read, s: Sizes) -> Verdict {
     let mut file = [0u8; 4096];
     let mut list = [0u8; 90180];
     let mut text = [0u8; 201220];
-    if filled(input, &mut file, s.file) {
-        if filled(input, &mut list, s.list) {
-            if filled(input, &mut text, s.text) {
-                return judged(kind, &file, &list, &text, s);
-            }
-        }
-    }
-    Verdict::Broken
-}
-
-fn next_case(kind: Kind, input: &mut impl Read) -> Verdict {
-    let mut head = [0u8; 12];
-    let got = read_full(input, &mut head);
-    if got == 0 {
-        return Verdict::End;
-    }
-    if got < 12 {
-        return Verdict::Broken;
-    }
-    sized_case(kind, input, sizes_in(head))
+    let [a, b, c, d, e, f, g, h, i, j, k, l] = head;
+    let file = part(input, &mut file, number([a, b, c, d]))?;
+    let list = part(input, &mut list, number([e, f, g, h]))?;
+    let text = part(input, &mut text, number([i, j, k, l]))?;
+    Ok(Some(agrees(file, list, text)))
 }
 
 // ---- one container
 
-fn first_of(differ: u64, first: u64, number: u64) -> u64 {
-    if differ == 0 { number } else { first }
-}
-
-fn counted(t: Tally, number: u64, v: Verdict) -> Tally
-    requires differ_bound { t.agree + t.differ ≤ number }
-    requires number_bound { number < 1000000 }
-    ensures { result.agree + result.differ ≤ number + 1 }
+fn run_all<F: Fn(&[u8], &[u8], &[u8]) -> bool>(agrees: &F, input: &mut impl Read) -> Tally
+    requires { F.IsAlwaysCallable agrees.now }
 {
-    let mut t = t;
-    match v {
-        Verdict::Agrees => {
-            t.agree += 1;
-        }
-        Verdict::Differs => {
-            t.first = first_of(t.differ, t.first, number);
-            t.differ += 1;
-        }
-        Verdict::Broken => {
-            t.broken = true;
-            t.open = false;
-        }
-        Verdict::End => {
-            t.open = false;
-        }
-    }
-    t
-}
-
-fn run_all(kind: Kind, input: &mut impl Read) -> Tally {
-    let mut t = Tally {
+    let mut tally = Tally {
         agree: 0,
         differ: 0,
-        first: 0,
+        first: None,
         broken: false,
-        open: true,
     };
-    let mut number: u64 = 0;
-    while number < CASES_MOST && t.open {
-        t = counted(t, number, next_case(kind, input));
-        number += 1;
+    for number in 0..CASES_MOST {
+        match next_case(agrees, input) {
+            Ok(Some(true)) => tally.agree += 1,
+            Ok(Some(false)) => {
+                tally.first = tally.first.or(Some(number));
+                tally.differ += 1;
+            }
+            Ok(None) => break,
+            Err(Broken) => {
+                tally.broken = true;
+                break;
+            }
+        }
     }
-    t
+    tally
 }
 
 // ---- the program
 
-fn print(rt: &impl Print, text: &[u8]) -> Result<()> {
-    rt.write_all(text)
-}
-
-fn print_tally(rt: &impl Print, t: Tally) -> Result<()> {
-    print(rt, b": ")?;
-    rt.print(t.agree)?;
-    print(rt, b" agree, ")?;
-    rt.print(t.differ)?;
-    print(rt, b" differ")?;
-    if t.differ > 0 {
-        print(rt, b", first case ")?;
-        rt.print(t.first)?;
-    }
-    if t.broken {
-        print(rt, b", then a broken case")?;
-    }
-    print(rt, b"\n")
-}
-
 // Writes a line to standard error: the path, a colon and the system's text for the error. std prints
 // the error's number behind that text, which is left out.
-fn fail(rt: &(impl Eprint + Alloc), path: &str, e: &Error) -> Result<()> {
+fn fail(rt: &(impl Eprint + Alloc), path: &str, e: &io::Error) -> io::Result<()> {
     let message = format!(in rt.alloc(); "{e}")?;
     match message.as_str().split_once(" (os error ") {
         Some((text, _)) => eprintln!(rt; "{path}: {text}"),
@@ -209,16 +141,18 @@ fn fail(rt: &(impl Eprint + Alloc), path: &str, e: &Error) -> Result<()> {
 
 // Runs the container and prints its tally. One that cannot be opened gets a line on standard error
 // instead, and the run goes on, even where that line cannot be written.
-fn container(
+fn container<F: Fn(&[u8], &[u8], &[u8]) -> bool>(
     rt: &(impl Files + Print + Eprint + Alloc),
-    kind: Kind,
-    name: &[u8],
+    agrees: &F,
+    name: &str,
     path: &str,
-) -> Result<()> {
+) -> io::Result<()>
+    requires { F.IsAlwaysCallable agrees.now }
+{
     match File::open(rt, path) {
         Ok(mut file) => {
-            print(rt, name)?;
-            print_tally(rt, run_all(kind, &mut file))
+            print!(rt; "{name}: ")?;
+            println!(rt; "{}", run_all(agrees, &mut file))
         }
         Err(e) => {
             let _ = fail(rt, path, &e);
@@ -227,19 +161,15 @@ fn container(
     }
 }
 
-fn main(rt: HostRuntime) -> Result<()> {
-    container(&rt, Kind::Listing, b"plain", "plain.cases")?;
-    container(&rt, Kind::Listing, b"damage", "damage.cases")?;
-    container(&rt, Kind::Listing, b"outlets", "outlets.cases")?;
-    container(&rt, Kind::Listing, b"losses", "losses.cases")?;
-    container(&rt, Kind::Listing, b"trips", "trips.cases")?;
-    container(&rt, Kind::Listing, b"unsure", "unsure.cases")?;
-    container(&rt, Kind::Listing, b"own checks", "own_checks.cases")?;
-    container(&rt, Kind::Listing, b"workshop", "workshop.cases")?;
-    container(&rt, Kind::Listing, b"partners", "partners.cases")?;
-    container(&rt, Kind::Listing, b"made", "made.cases")?;
-    container(&rt, Kind::Evening, b"points", "points.cases")?;
-    container(&rt, Kind::Evening, b"planned", "planned.cases")?;
-    container(&rt, Kind::Word, b"word", "word.cases")?;
-    container(&rt, Kind::Word, b"worded", "worded.cases")
+fn main(rt: HostRuntime) -> io::Result<()> {
+    for (name, path) in LISTINGS {
+        container(&rt, &agreement::agrees, name, path)?;
+    }
+    for (name, path) in EVENINGS {
+        container(&rt, &agreement::evening_agrees, name, path)?;
+    }
+    for (name, path) in WORDS {
+        container(&rt, &agreement::word_agrees, name, path)?;
+    }
+    Ok(())
 }

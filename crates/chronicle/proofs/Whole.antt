@@ -26,7 +26,7 @@ use Rattle.steps.specs.Steps.{operations_of}
 use Rattle.steps.proofs.Records.{at_most}
 use Rattle.replay.specs.Replay.{EndsWell}
 use Rattle.replay.proofs.Moments.{all_octets, ends_well}
-use Rattle.plans.proofs.Operations.{octets_of}
+use Rattle.replay.proofs.Operations.{octets_of}
 use Rattle.report.proofs.Whole.{within, limited, the_parts, exactly}
 use Rattle.newest.specs.declared.Sort.TheVariants.{Other}
 use Rattle.rows.specs.Rows.{row_octets}

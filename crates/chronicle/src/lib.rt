@@ -4,18 +4,20 @@
 ghost use Rattle.std.specs.Prelude.{◌≤◌, ◌<◌, ◌*◌, ◌≡◌, length};
 ghost use Rattle.std.proofs.lemmas.List.Edits.{sets};
 ghost use Rattle.load.specs.Load.{load};
-ghost use Rattle.buffer.specs.Written.{Written};
+ghost use Rattle.buffer.specs.Added.{Added};
 ghost use Rattle.replay.specs.Replay.{EndsWell};
 ghost use Rattle.protocol.specs.Evening.{operate};
 ghost use Rattle.turns.specs.Turns.{record_size, operation_in};
 ghost use Rattle.chronicle.specs.Chronicle.{version_number, first_operations, chronicle};
 ghost use Rattle.chronicle.specs.Kept.{rows_of};
 
+use buffer::Writer;
 use newest::{Newest, Sort};
 use packet::PacketVersion;
 use points::Points;
 use protocol::{Site, Turn};
 
+// Kept: no From, since `packet` knows no number of a chronicle.
 fn version_number(v: PacketVersion) -> u8
     ensures { result ≡ version_number v }
 {
@@ -30,37 +32,28 @@ fn turn(site: Site, plan: bool, octets: &[u8]) -> Turn
     ensures { 0 < length octets.now → length octets.now ≤ record_size plan → result ≡ operate site (operation_in plan octets.now) }
 {
     let mut answer = [0u8; 1];
-    let after = steps::run(site, plan, octets, &mut answer);
+    let site = steps::run(site, plan, octets, &mut answer);
     Turn {
         answer: answer[0],
-        site: after,
+        site,
     }
 }
 
 // A row for each record; records are numbered from 0 inside and from 1 in the chronicle.
-fn put_rows(out: &mut [u8], at: usize, site: Site, plan: bool, list: &[u8]) -> usize
+fn put_rows(out: &mut Writer, site: Site, plan: bool, list: &[u8])
     requires { length list.now ≤ 10000 * record_size plan }
-    ensures { Written (rows_of plan site list.now) at out.old result out.new }
+    ensures { Added (rows_of plan site list.now) out.old out.new }
 {
-    let size = turns::record_size(plan);
     let mut here = site;
     let mut newest = Newest::start();
-    let mut end = at;
-    let mut i = 0;
-    while i * size < list.len() {
-        let from = i * size;
-        let to = steps::least(from + size, list.len());
-        let sort = newest::sort_for(turns::order_of(plan, &list[from..to]));
-        let t = turn(here, plan, &list[from..to]);
-        let before = here.group;
-        let next = t.site;
-        let after = next.group;
-        newest = newest.after(t.answer, i as u16 + 1, before, after, sort);
-        end = rows::put_row(out, end, t.answer, before, after, sort, newest.number);
-        here = next;
-        i += 1;
+    for (i, record) in list.chunks(turns::record_size(plan)).enumerate() {
+        let sort = newest::sort_for(turns::order_of(plan, record));
+        let t = turn(here, plan, record);
+        let after = t.site.group;
+        newest = newest.after(t.answer, i as u16 + 1, here.group, after, sort);
+        rows::put_row(out, t.answer, here.group, after, sort, newest.number);
+        here = t.site;
     }
-    end
 }
 
 // The whole chronicle for a group file and a list of step records, or of a plan's, of which the first 10,000 count: its length, and its octets
@@ -71,16 +64,15 @@ pub fn write_chronicle(file: &[u8], plan: bool, list: &[u8], out: &mut [u8]) -> 
     ensures upper_bound { result ≤ 32700000 }
     ensures ends_well { (load file.now).answer ≡ 0 → EndsWell file.now (first_operations plan list.now) }
 {
-    let used = steps::least(list.len(), 10000 * turns::record_size(plan));
-    let o = loading::load(file);
-    if o.answer == 0 {} else {
-        return buffer::put(out, 0, o.answer);
-    }
-    let group = o.group;
+    let used = list.len().min(10000 * turns::record_size(plan));
+    let group = match loading::load(file) {
+        Ok(group) => group,
+        Err(refusal) => return buffer::put(out, 0, u8::from(refusal)),
+    };
     let points = Points::none();
-    let version = group.packets;
-    let head = [0, group.n, version_number(version)];
-    let at = buffer::word(out, 0, &head);
-    let at = rows::put_row(out, at, 0, group, group, Sort::Other, 0);
-    put_rows(out, at, Site { group, points }, plan, &list[..used])
+    let mut octets = Writer { out, end: 0 };
+    octets.word(&[0, group.n, version_number(group.packets)]);
+    rows::put_row(&mut octets, 0, group, group, Sort::Other, 0);
+    put_rows(&mut octets, Site { group, points }, plan, &list[..used]);
+    octets.end
 }

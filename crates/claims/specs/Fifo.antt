@@ -2,15 +2,14 @@
 -- free place". `line_after` is what a line without bounds would hold after a taken step: what it held, less what is taken off, and then what
 -- the rules put. It reads the cabinets before the step and after it, and the step; it knows no cells and no number of places.
 -- In a step cabinets count from 1, everywhere else here from 0.
-use Rattle.std.specs.Prelude.{ℕ, suc, ◌-◌, ◌≡◌, Bool, true, false, cond, not, ◌&&◌, ◌||◌, List, [], ◌∷◌, ◌++◌, get_or, set, take, drop, eqb}
+use Rattle.std.specs.Prelude.{ℕ, suc, ◌-◌, ◌≡◌, Bool, true, false, cond, not, ◌&&◌, ◌||◌, List, [], ◌∷◌, ◌++◌, get_or, set, take, drop, eqb, None, Some}
 use Rattle.marks.specs.Marks.{marked}
 use Rattle.packet.specs.declared.Packet.{Packet}
 use Rattle.packet.specs.declared.Packet.TheVariants.{Empty, Normal as NormalPacket, Checkp, Resume, Recover, Fault}
 use Rattle.packet.specs.Packet.{start_check, damaged, is_empty}
 use Rattle.line.specs.Line.{packet_at}
 use Rattle.state.specs.declared.State.TheVariants.{Normal, CheckpBegin, Checkpointing, Checkpointed, Error, Recovering}
-use Rattle.cabinet.specs.declared.Alarm.{Alarm}
-use Rattle.cabinet.specs.declared.Alarm.TheVariants.{Quiet, Fault as At}
+use Rattle.cabinet.specs.Alarm.{Alarm}
 use Rattle.cabinet.specs.Alarm.{is_for}
 use Rattle.packet.specs.declared.Place.TheVariants.{Tripped as AtTripped}
 use Rattle.cabinet.specs.declared.Cabinet.{Cabinet}
@@ -80,8 +79,8 @@ trips c c' b = enters_error c c' && is_for c'.phase.alarm (AtTripped b)
 -- ---- what it puts on a line in use
 
 abbrev pub fault_of : Alarm → List Packet
-fault_of Quiet = []
-fault_of (At p) = Fault p ∷ []
+fault_of None = []
+fault_of (Some p) = Fault p ∷ []
 
 -- "If the version is known, put recover with it and enter recovering"
 abbrev pub recover_of : Cabinet → List Packet

@@ -6,7 +6,7 @@ use Rattle.state.specs.State.{works}
 use Rattle.image.specs.declared.Image.{Image}
 use Rattle.image.specs.Image.{booked}
 use Rattle.points.specs.declared.Points.{Points}
-use Rattle.points.specs.Points.{point_at, image_at, place_of, place_for}
+use Rattle.points.specs.Points.{is_kept, point_at, image_at, place_of, place_for}
 use Rattle.group.specs.declared.Group.{Group}
 use Rattle.group.specs.Group.{cabinet, state_of, sum}
 use Rattle.load.specs.Load.{load, cabinet_count, feeder_total}
@@ -38,12 +38,12 @@ PointsKeepSaves =
 
 pub record Stand (n : ℕ) (total : Party → ℕ) (ps : Points) (h : History) : Type 0 where
   -- their names differ
-  pub names : (j k : ℕ) → (point_at ps j).kept ≡ true → (point_at ps k).kept ≡ true → (point_at ps j).name ≡ (point_at ps k).name → j ≡ k
+  pub names : (j k : ℕ) → is_kept ps j ≡ true → is_kept ps k ≡ true → (point_at ps j).name ≡ (point_at ps k).name → j ≡ k
   -- each has the images that the history has under its name
-  pub images : (k : ℕ) → (point_at ps k).kept ≡ true
+  pub images : (k : ℕ) → is_kept ps k ≡ true
       → (m : ℕ → Option Image) × (h.points (point_at ps k).name ≡ some m) × ((c : ℕ) → c < n → m c ≡ some (image_at (point_at ps k) c))
   -- and these add up to the feeder's total, for each party by itself
-  pub adds : (k : ℕ) → (point_at ps k).kept ≡ true → (y : Party) → sum (λ c. booked y (image_at (point_at ps k) c)) n ≡ total y
+  pub adds : (k : ℕ) → is_kept ps k ≡ true → (y : Party) → sum (λ c. booked y (image_at (point_at ps k) c)) n ≡ total y
 
 abbrev pub PointsStand : Type 0
 PointsStand =

@@ -1,8 +1,7 @@
 -- Document 02, card 8: "It must be what the history says of that cabinet at its entry into error."
-use Rattle.std.specs.Prelude.{ℕ, ◌≤◌, ◌≡◌, List}
+use Rattle.std.specs.Prelude.{ℕ, ◌≤◌, ◌≡◌, List, None}
 use Rattle.std.proofs.Math.Option.{some}
-use Rattle.settled.specs.declared.Settled.{Settled}
-use Rattle.settled.specs.declared.Settled.TheVariants.{Nobody}
+use Rattle.settled.specs.Settled.{Settled}
 use Rattle.group.specs.Group.{with_settled}
 use Rattle.load.specs.Load.{load}
 use Rattle.protocol.specs.declared.Site.{Site}
@@ -41,7 +40,7 @@ abbrev pub with_note : World → Settled → World
 with_note w s = record { group = with_settled w.group s; points = w.points; history = w.history }
 
 abbrev pub unnoted : World → World
-unnoted w = with_note w Nobody
+unnoted w = with_note w None
 
 -- its group and points
 abbrev pub site_of : World → Site

@@ -20,13 +20,9 @@ pub fn octet(register: u16, octet: u8) -> u16
 pub fn over(register: u16, octets: &[u8]) -> u16
     ensures { result ≡ crc_from register octets.now }
 {
-    let mut reg = register;
-    let mut i = 0;
-    while i < octets.len() {
-        reg = octet(reg, octets[i]);
-        i += 1;
-    }
-    reg
+    octets
+        .iter()
+        .fold(register, |so_far, next| octet(so_far, *next))
 }
 
 // The check value of a slice.

@@ -2,7 +2,8 @@
 -- own lines, is stored back.
 use Prim.Native.Nat.{ℕ}
 use mathlib.Core.Path.{◌≡◌, refl, sym, ap, ◌∙◌}
-use mathlib.Core.Bool.{Bool, true, false, cond, false≢true}
+use mathlib.Core.Bool.{Bool, true, false, cond}
+use native.Mathlib.Omega.{arith}
 use lib.ListN.{length, length-set}
 use Rattle.marks.specs.Marks.{marked}
 use Rattle.packet.specs.declared.Packet.{Packet}
@@ -19,93 +20,43 @@ use Rattle.seat.proofs.Laws.{seat_same}
 use Rattle.protocol.specs.Moves.{find_link_fault}
 use Rattle.protocol.specs.Receive.{receive}
 use Rattle.protocol.specs.Kinds.{delivered}
-use Rattle.linkcheck.specs.Linkcheck.{link_fault, normal_faulty, checkp_faulty, invalid_faulty}
+use Rattle.linkcheck.specs.Linkcheck.{link_fault}
 use Rattle.linkcheck.proofs.Stored as C
-use Rattle.signals.specs.Signals.{fault_crashes}
 use Rattle.signals.proofs.Stored as S
-use Rattle.delivery.specs.declared.Finding.{Finding}
 use Rattle.delivery.specs.declared.Finding.TheVariants.{Fine, LinkFault, Crash}
-use Rattle.delivery.specs.Delivery.{fault_if, crash_if, finding_by, finding, is_signal, taken_by, take, heard_by, hear, word_from, word_after}
-
--- ---- findings differ
-
-abbrev is_fine : Finding → Bool
-is_fine Fine = true
-is_fine LinkFault = false
-is_fine Crash = false
-
-abbrev is_crash : Finding → Bool
-is_crash Fine = false
-is_crash LinkFault = false
-is_crash Crash = true
-
-no_fault_lem : (z : Bool) → fault_if z ≡ Fine → z ≡ false
-no_fault_lem true e = absurd (false≢true (ap is_fine e))
-no_fault_lem false e = refl
-
-a_fault : (z : Bool) → fault_if z ≡ LinkFault → z ≡ true
-a_fault true e = refl
-a_fault false e = absurd (false≢true (sym (ap is_fine e)))
-
-no_crash : (z : Bool) → crash_if z ≡ Fine → z ≡ false
-no_crash true e = absurd (false≢true (ap is_fine e))
-no_crash false e = refl
-
-a_crash : (z : Bool) → crash_if z ≡ Crash → z ≡ true
-a_crash true e = refl
-a_crash false e = absurd (false≢true (ap is_crash e))
-
-not_crash : {A : Type 0} (z : Bool) → fault_if z ≡ Crash → A
-not_crash true e = absurd (false≢true (ap is_crash e))
-not_crash false e = absurd (false≢true (ap is_crash e))
-
-crash_not_fault : {A : Type 0} (z : Bool) → crash_if z ≡ LinkFault → A
-crash_not_fault true e = absurd (false≢true (sym (ap is_crash e)))
-crash_not_fault false e = absurd (false≢true (sym (ap is_fine e)))
+use Rattle.delivery.specs.Delivery.{finding_by, finding, is_signal, taken_by, take, heard_by, hear, word_from, word_after}
 
 -- ---- a packet that is received
 
 received : (before g : Group) (a b : ℕ) (p : Packet) → finding_by (cabinet g b) a p ≡ Fine → is_signal p ≡ false
     → receive before g a b p ≡ taken (with_cabinet g b (taken_by (cabinet g b) a p))
 received before g a b Empty f s = ap taken (sym (cabinet_same g b))
-received before g a b (NormalPacket p) f s = C.normal_stored before g a b p (no_fault_lem (normal_faulty (cabinet g b) a p) f)
-received before g a b (Checkp v) f s = absurd (false≢true (sym s))
-received before g a b Resume f s = absurd (false≢true (sym s))
-received before g a b (Recover v) f s = absurd (false≢true (sym s))
-received before g a b (Fault p) f s = absurd (false≢true (sym s))
+received before g a b (NormalPacket p) f s = C.normal_stored before g a b p (grind arith)
+received before g a b (Checkp v) f s = absurd (grind arith)
+received before g a b Resume f s = absurd (grind arith)
+received before g a b (Recover v) f s = absurd (grind arith)
+received before g a b (Fault p) f s = absurd (grind arith)
 received before g a b Invalid f s =
-    C.invalid_dropped before g a b (no_fault_lem (invalid_faulty (cabinet g b)) f) ∙ ap taken (sym (cabinet_same g b))
+    C.invalid_dropped before g a b (grind arith) ∙ ap taken (sym (cabinet_same g b))
 
 heard : (before g : Group) (a b : ℕ) (p : Packet) → length g.cabinets ≡ length g.outgoing → finding_by (cabinet g b) a p ≡ Fine
     → is_signal p ≡ true
     → receive before g a b p ≡ taken (with_settled (with_seat g b (heard_by (seat g b) a b p)) (word_from g.settled (cabinet g b) b p))
-heard before g a b Empty e f s = absurd (false≢true s)
-heard before g a b (NormalPacket p) e f s = absurd (false≢true s)
+heard before g a b Empty e f s = absurd (grind arith)
+heard before g a b (NormalPacket p) e f s = absurd (grind arith)
 heard before g a b (Checkp v) e f s =
-    C.checkp_stored before g a b v e (no_fault_lem (checkp_faulty (cabinet g b) a v) f) ∙ ap taken (sym (S.word_same g b _))
+    C.checkp_stored before g a b v e (grind arith) ∙ ap taken (sym (S.word_same g b _))
 heard before g a b Resume e f s = S.resume_stored g a b e ∙ ap taken (sym (S.word_same g b _))
 heard before g a b (Recover v) e f s = S.recover_stored g a b v e ∙ ap taken (sym (S.word_same g b _))
-heard before g a b (Fault p) e f s = S.fault_stored before g a b p e (no_crash (fault_crashes (cabinet g b) p) f)
-heard before g a b Invalid e f s = absurd (false≢true s)
+heard before g a b (Fault p) e f s = S.fault_stored before g a b p e (grind arith)
+heard before g a b Invalid e f s = absurd (grind arith)
 
 faulted : (before g : Group) (a b : ℕ) (p : Packet) → finding_by (cabinet g b) a p ≡ LinkFault
     → receive before g a b p ≡ find_link_fault before g a b
-faulted before g a b Empty f = absurd (false≢true (sym (ap is_fine f)))
-faulted before g a b (NormalPacket p) f = C.normal_fault before g a b p (a_fault (normal_faulty (cabinet g b) a p) f)
-faulted before g a b (Checkp v) f = C.checkp_fault before g a b v (a_fault (checkp_faulty (cabinet g b) a v) f)
-faulted before g a b Resume f = absurd (false≢true (sym (ap is_fine f)))
-faulted before g a b (Recover v) f = absurd (false≢true (sym (ap is_fine f)))
-faulted before g a b (Fault p) f = crash_not_fault (fault_crashes (cabinet g b) p) f
-faulted before g a b Invalid f = C.invalid_fault before g a b (a_fault (invalid_faulty (cabinet g b)) f)
+faulted before g a b p f = grind (arith, C.normal_fault, C.checkp_fault, C.invalid_fault)
 
 crashes : (before g : Group) (a b : ℕ) (p : Packet) → finding_by (cabinet g b) a p ≡ Crash → receive before g a b p ≡ crashed before
-crashes before g a b Empty f = absurd (false≢true (ap is_crash f))
-crashes before g a b (NormalPacket p) f = not_crash (normal_faulty (cabinet g b) a p) f
-crashes before g a b (Checkp v) f = not_crash (checkp_faulty (cabinet g b) a v) f
-crashes before g a b Resume f = absurd (false≢true (ap is_crash f))
-crashes before g a b (Recover v) f = absurd (false≢true (ap is_crash f))
-crashes before g a b (Fault p) f = S.fault_crash before g a b p (a_crash (fault_crashes (cabinet g b) p) f)
-crashes before g a b Invalid f = not_crash (invalid_faulty (cabinet g b)) f
+crashes before g a b p f = grind (arith, S.fault_crash)
 
 -- ---- the group without the packet
 
@@ -189,7 +140,7 @@ fine_hear g a b e f s =
 fault_by : (used : Bool) (g : Group) (a b : ℕ) (p : Packet) → cond used (finding_by (cabinet g b) a p) Fine ≡ LinkFault
     → cond used (receive g (popped g a b) a b p) (taken (popped g a b)) ≡ find_link_fault g (popped g a b) a b
 fault_by true g a b p f = faulted g (popped g a b) a b p (ap (λ c. finding_by c a p) (cabinet_popped g a b) ∙ f)
-fault_by false g a b p f = absurd (false≢true (sym (ap is_fine f)))
+fault_by false g a b p f = absurd (grind arith)
 
 pub fault : (g : Group) (a b : ℕ) → finding (cabinet g b) a (oldest (line g a b)) ≡ LinkFault → delivered g a b ≡ link_fault g a b
 unfolding delivered finding link_fault
@@ -198,7 +149,7 @@ fault g a b f = fault_by (marked (in_use (cabinet g b)) a) g a b (oldest (line g
 crash_by : (used : Bool) (g : Group) (a b : ℕ) (p : Packet) → cond used (finding_by (cabinet g b) a p) Fine ≡ Crash
     → cond used (receive g (popped g a b) a b p) (taken (popped g a b)) ≡ crashed g
 crash_by true g a b p f = crashes g (popped g a b) a b p (ap (λ c. finding_by c a p) (cabinet_popped g a b) ∙ f)
-crash_by false g a b p f = absurd (false≢true (ap is_crash f))
+crash_by false g a b p f = absurd (grind arith)
 
 pub crash : (g : Group) (a b : ℕ) → finding (cabinet g b) a (oldest (line g a b)) ≡ Crash → delivered g a b ≡ crashed g
 unfolding delivered finding

@@ -7,11 +7,11 @@ use Rattle.packet.specs.declared.Packet.TheVariants.{Empty, Normal as NormalPack
 use Rattle.packet.specs.Packet.{is_empty}
 use Rattle.line.specs.declared.Line.{Line}
 use Rattle.line.specs.Line.{oldest, rest}
-use Rattle.settled.specs.declared.Settled.{Settled}
+use Rattle.settled.specs.Settled.{Settled}
 use Rattle.cabinet.specs.declared.Cabinet.{Cabinet}
 use Rattle.cabinet.specs.Cabinet.{in_use}
 use Rattle.seat.specs.declared.Seat.{Seat}
-use Rattle.seat.specs.declared.Spot.{Spot}
+use Rattle.seat.specs.declared.SpotAnswer.{SpotAnswer}
 use Rattle.seat.specs.Seat.{spot}
 use Rattle.protocol.specs.Kinds.{need}
 use Rattle.linkcheck.specs.Linkcheck.{normal_faulty, normal_taken, checkp_faulty, checkp_taken, invalid_faulty}
@@ -65,7 +65,7 @@ taken_by c a (Recover v) = c
 taken_by c a (Fault p) = c
 taken_by c a Invalid = c
 
-unfoldable pub take : Cabinet → Line → ℕ → Spot
+unfoldable pub take : Cabinet → Line → ℕ → SpotAnswer
 take c l a = spot 0 (cond (marked (in_use c) a) (taken_by c a (oldest l)) c) (rest l)
 
 -- with a signal

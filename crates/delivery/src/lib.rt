@@ -2,16 +2,19 @@
 #![tactic(auto)]
 
 ghost use Rattle.std.specs.Prelude.{◌≡◌};
-ghost use Rattle.delivery.specs.Delivery.{deliver_refusal, fault_if, crash_if, finding_by, finding, is_signal, taken_by, take, heard_by, hear, word_from, word_after};
+ghost use Rattle.refusal.specs.Refusal.{answer_of};
+ghost use Rattle.seat.specs.Seat.{spot_left};
+ghost use Rattle.delivery.specs.Delivery.{deliver_refusal, finding, is_signal, take, hear, word_after};
 
 use cabinet::Cabinet;
 use line::Line;
 use packet::Packet;
+use refusal::Refusal;
 use seat::{Seat, Spot};
-use settled::Settled;
+use settled::First;
 
 // What is found at a packet: nothing, a link fault, or a second fault, at which the group crashes.
-#[derive(Clone, Copy)]
+#[derive(Clone, Copy, PartialEq, Eq)]
 pub enum Finding {
     Fine,
     LinkFault,
@@ -19,51 +22,27 @@ pub enum Finding {
 }
 
 // The packet's line is one of the file's, and holds a packet.
-pub fn deliver_refusal(linked: bool, l: Line) -> u8
-    ensures { result ≡ deliver_refusal linked l }
+pub fn may_deliver(linked: bool, l: Line) -> Result<(), Refusal>
+    ensures { answer_of result ≡ deliver_refusal linked l }
 {
-    let some = records::need(!packet::is_empty(l.oldest()), 18, 0);
-    records::need(linked, 13, some)
-}
-
-fn fault_if(found: bool) -> Finding
-    ensures { result ≡ fault_if found }
-{
-    if found {
-        Finding::LinkFault
-    } else {
-        Finding::Fine
-    }
-}
-
-fn crash_if(found: bool) -> Finding
-    ensures { result ≡ crash_if found }
-{
-    if found { Finding::Crash } else { Finding::Fine }
-}
-
-fn finding_by(c: Cabinet, a: u8, p: Packet) -> Finding
-    ensures { result ≡ finding_by c a p }
-{
-    match p {
-        Packet::Empty => Finding::Fine,
-        Packet::Normal(carried) => fault_if(linkcheck::normal_faulty(c, a, carried)),
-        Packet::Checkp(v) => fault_if(linkcheck::checkp_faulty(c, a, v)),
-        Packet::Resume => Finding::Fine,
-        Packet::Recover(_) => Finding::Fine,
-        Packet::Fault(place) => crash_if(signals::fault_crashes(c, place)),
-        Packet::Invalid => fault_if(linkcheck::invalid_faulty(c)),
-    }
+    Refusal::NotLinked.unless(linked)?;
+    Refusal::NothingThere.unless(!packet::is_empty(l.oldest()))
 }
 
 // What cabinet c finds at a packet from a: nothing over a link that is struck.
+#[tactic(auto, unfolding(crate::specs::Delivery::finding))]
 pub fn finds(c: Cabinet, a: u8, p: Packet) -> Finding
     ensures { result ≡ finding c a p }
 {
-    if marks::marked(c.in_use(), a) {
-        finding_by(c, a, p)
-    } else {
-        Finding::Fine
+    if !marks::marked(c.in_use(), a) {
+        return Finding::Fine;
+    }
+    match p {
+        Packet::Normal(carried) if linkcheck::normal_faulty(c, a, carried) => Finding::LinkFault,
+        Packet::Checkp(version) if linkcheck::checkp_faulty(c, a, version) => Finding::LinkFault,
+        Packet::Invalid if linkcheck::invalid_faulty(c) => Finding::LinkFault,
+        Packet::Fault(place) if signals::fault_crashes(c, place) => Finding::Crash,
+        _ => Finding::Fine,
     }
 }
 
@@ -71,89 +50,53 @@ pub fn finds(c: Cabinet, a: u8, p: Packet) -> Finding
 pub fn is_signal(p: Packet) -> bool
     ensures { result ≡ is_signal p }
 {
-    match p {
-        Packet::Empty => false,
-        Packet::Normal(_) => false,
-        Packet::Checkp(_) => true,
-        Packet::Resume => true,
-        Packet::Recover(_) => true,
-        Packet::Fault(_) => true,
-        Packet::Invalid => false,
-    }
-}
-
-fn taken_by(c: Cabinet, a: u8, p: Packet) -> Cabinet
-    ensures { result ≡ taken_by c a p }
-{
-    match p {
-        Packet::Empty => c,
-        Packet::Normal(carried) => linkcheck::normal_taken(c, a, carried),
-        Packet::Checkp(_) => c,
-        Packet::Resume => c,
-        Packet::Recover(_) => c,
-        Packet::Fault(_) => c,
-        Packet::Invalid => c,
-    }
+    matches!(
+        p,
+        Packet::Checkp(_) | Packet::Resume | Packet::Recover(_) | Packet::Fault(_)
+    )
 }
 
 // What cabinet c does with a packet from a that is no signal, the oldest of line l. Over a link struck at c it is dropped.
+#[tactic(auto, unfolding(crate::specs::Delivery::take))]
 pub fn take(c: Cabinet, l: Line, a: u8) -> Spot
-    ensures { result ≡ take c l a }
+    ensures { spot_left result ≡ take c l a }
 {
-    let left = l.rest();
-    if marks::marked(c.in_use(), a) {
-        seat::spotted(0, taken_by(c, a, l.oldest()), left)
-    } else {
-        seat::spotted(0, c, left)
-    }
-}
-
-fn heard_by(s: Seat, a: u8, b: u8, p: Packet) -> Seat
-    ensures { result ≡ heard_by s a b p }
-{
-    match p {
-        Packet::Empty => s,
-        Packet::Normal(_) => s,
-        Packet::Checkp(_) => linkcheck::checkp_taken(s, a),
-        Packet::Resume => signals::resume_taken(s, a, b),
-        Packet::Recover(v) => signals::recover_taken(s, a, v),
-        Packet::Fault(place) => signals::fault_taken(s, a, b, place),
-        Packet::Invalid => s,
+    let cabinet = match l.oldest() {
+        Packet::Normal(carried) if marks::marked(c.in_use(), a) => linkcheck::normal_taken(
+            c, a, carried,
+        ),
+        _ => c,
+    };
+    Spot {
+        cabinet,
+        line: l.rest(),
     }
 }
 
 // What cabinet b does with a signal from a; it is dropped as another packet is.
+#[tactic(auto, unfolding(crate::specs::Delivery::hear))]
 pub fn hear(s: Seat, a: u8, b: u8, p: Packet) -> Seat
     ensures { result ≡ hear s a b p }
 {
-    let c = s.cabinet;
-    if marks::marked(c.in_use(), a) {
-        heard_by(s, a, b, p)
-    } else {
-        s
+    if !marks::marked(s.cabinet.in_use(), a) {
+        return s;
     }
-}
-
-fn word_from(settled: Settled, c: Cabinet, b: u8, p: Packet) -> Settled
-    ensures { result ≡ word_from settled c b p }
-{
     match p {
-        Packet::Empty => settled,
-        Packet::Normal(_) => settled,
-        Packet::Checkp(_) => settled,
-        Packet::Resume => settled,
-        Packet::Recover(_) => settled,
-        Packet::Fault(_) => signals::fault_word(settled, c, b),
-        Packet::Invalid => settled,
+        Packet::Checkp(_) => linkcheck::checkp_taken(s, a),
+        Packet::Resume => signals::resume_taken(s, a, b),
+        Packet::Recover(version) => signals::recover_taken(s, a, version),
+        Packet::Fault(place) => signals::fault_taken(s, a, b, place),
+        _ => s,
     }
 }
 
 // Which word settles the recovery then; cabinet b is c before it.
-pub fn word_after(settled: Settled, c: Cabinet, a: u8, b: u8, p: Packet) -> Settled
+#[tactic(auto, unfolding(crate::specs::Delivery::word_after))]
+pub fn word_after(settled: Option<First>, c: Cabinet, a: u8, b: u8, p: Packet) -> Option<First>
     ensures { result ≡ word_after settled c a b p }
 {
-    if marks::marked(c.in_use(), a) {
-        word_from(settled, c, b, p)
+    if marks::marked(c.in_use(), a) && matches!(p, Packet::Fault(_)) {
+        signals::fault_word(settled, c, b)
     } else {
         settled
     }

@@ -1,65 +1,44 @@
 -- One line more of a plan, and how long the lines are.
-use Prim.Native.Nat.{ℕ, zero, suc, ◌+◌, ◌*◌, ◌≤◌, ◌<◌}
-use mathlib.Core.Path.{◌≡◌, refl, sym, ap, ◌∙◌}
+use Prim.Native.Nat.{ℕ, suc, ◌+◌, ◌-◌, ◌*◌, ◌≤◌, ◌<◌, min}
+use mathlib.Core.Path.{◌≡◌, refl, ap, ◌∙◌}
 use mathlib.Core.Bool.{Bool, true, false, cond}
-use mathlib.Core.List.{List, [], ◌∷◌, ◌++◌, append_assoc, append-nil}
-use native.Mathlib.Nat.{add-zero, add-suc, suc-add, mul-zero}
-use native.Mathlib.Omega.{arith}
+use mathlib.Core.List.{List, [], ◌∷◌, ◌++◌}
+use native.Mathlib.Nat.{add-zero}
+use native.Mathlib.Omega.{arith, min_cases}
 use lib.Dec.{eqb}
-use lib.ListN.{length, get_or, take, drop, length-drop, length-append}
-use lib.Seq.{drop-drop, get_or-take, get_or-drop, take_all}
-use Rattle.protocol.specs.Listing.{Text, step_word, answer_line, parts}
+use lib.ListN.{length, get_or, drop, length-append}
+use lib.Seq.{drop-drop, get_or-drop}
+use Rattle.protocol.specs.Listing.{Text, step_word, answer_line}
 use Rattle.protocol.specs.Evening.{point_word, return_word, word_of, plan_lines, plan_records}
+use Rattle.buffer.specs.declared.Writer.{Writer}
+use Rattle.buffer.specs.Added.{Added}
 use Rattle.buffer.proofs.Digits.{at_most}
-use Rattle.steps.proofs.Records.{some_part, enough, at_most as parts-at-most}
+use Rattle.steps.proofs.Records.{no_octets, no_more}
+use Rattle.report.proofs.Chunks.{Ahead, one_on, at_last, its_records}
 
 -- ---- one record more
 
-next_part : (w n i : ℕ) (l : List ℕ) → w * i < length l → i < n
-    → (take (suc i) (parts w n l) ≡ take i (parts w n l) ++ (take w (drop (w * i) l) ∷ [])) × (length (take i (parts w n l)) ≡ i)
-next_part w zero i l h k = absurd (omega arith)
-next_part w (suc n) zero l h k = rw (some_part w n l (omega arith), mul-zero w) (refl, refl)
-next_part w (suc n) (suc i) l h k =
-    let ih = next_part w n i (drop w l) (omega (arith, length-drop w l)) (omega arith) in
-    let place : w + w * i ≡ w * suc i = omega arith in
-    let later : drop (w * i) (drop w l) ≡ drop (w * suc i) l = drop-drop (w * i) w l ∙ ap (λ (m : ℕ). drop m l) place in
-    rw (some_part w n l (omega arith)) (
-      ap (λ (rs : List (List ℕ)). take w l ∷ rs) (ih.0 ∙ ap (λ (r : List ℕ). take i (parts w n (drop w l)) ++ (take w r ∷ [])) later),
-      ap suc ih.1,
-    )
+-- the lines for the octets that are left, after i records
+abbrev pub lines_from : ℕ → List ℕ → List ℕ → Text
+lines_from i l answers = plan_lines (i + 1) (plan_records (length l) l) (drop i answers)
 
-behind : (answers : List ℕ) (n : ℕ) → get_or (drop 1 answers) n 0 ≡ get_or answers (suc n) 0
-behind [] n = refl
-behind (a ∷ answers) n = refl
+pub one_more : {whole : Text} (i : ℕ) (answers : List ℕ) {l : List ℕ} (x y : List ℕ) {start now next : Writer} → l ≡ x ++ y → length x ≡ min 9 (length l) → 0 < length l
+    → Ahead whole (lines_from i l answers) start now → Added (answer_line (word_of (get_or x 0 0)) (i + 1) (get_or answers i 0)) now next
+    → Ahead whole (lines_from (i + 1) y answers) start next
+one_more i answers {l} x y e h s a w =
+    let first : get_or (drop i answers) 0 0 ≡ get_or answers i 0 = get_or-drop i answers 0 0 ∙ ap (λ (m : ℕ). get_or answers m 0) (add-zero i) in
+    let later : drop 1 (drop i answers) ≡ drop (i + 1) answers = drop-drop 1 i answers in
+    let number : i + 1 + 1 ≡ suc (i + 1) = omega arith in
+    one_on a (rw (its_records 9 y (omega arith) e h s, first, later, number)) w
 
-one_more : (k : ℕ) (rs : List (List ℕ)) (r answers : List ℕ)
-    → plan_lines k (rs ++ (r ∷ [])) answers ≡ plan_lines k rs answers ++ answer_line (word_of (get_or r 0 0)) (k + length rs) (get_or answers (length rs) 0)
-one_more k [] r answers = rw (add-zero k) (append-nil (answer_line (word_of (get_or r 0 0)) k (get_or answers 0 0)))
-one_more k (q ∷ rs) r answers =
-    let line : Text = answer_line (word_of (get_or q 0 0)) k (get_or answers 0 0) in
-    rw (add-suc k (length rs), ← suc-add k (length rs), ← behind answers (length rs))
-    (ap (λ (t : Text). line ++ t) (one_more (suc k) rs r (drop 1 answers))
-    ∙ sym (append_assoc line (plan_lines (suc k) rs (drop 1 answers)) (answer_line (word_of (get_or r 0 0)) (suc k + length rs) (get_or (drop 1 answers) (length rs) 0))))
+pub few_left : (i : ℕ) {l : List ℕ} (x y : List ℕ) → l ≡ x ++ y → length x ≡ min 9 (length l) → length l ≤ (10000 - i) * 9 → length y ≤ (10000 - (i + 1)) * 9
+few_left i {l} x y e h f =
+    let both : length l ≡ length x + length y = rw e (length-append x y) in
+    min_cases 9 (length l) _ (λ a q. omega (arith, both)) (λ a q. omega (arith, both))
 
-first_octet : (i : ℕ) (l : List ℕ) → get_or (take 9 (drop (9 * i) l)) 0 0 ≡ get_or l (i * 9) 0
-first_octet i l =
-    let place : 9 * i + 0 ≡ i * 9 = omega arith in
-    get_or-take 9 (drop (9 * i) l) 0 0 (omega arith) ∙ get_or-drop (9 * i) l 0 0 ∙ ap (λ (m : ℕ). get_or l m 0) place
-
-pub next_line : (l answers : List ℕ) (i : ℕ) → i * 9 < length l
-    → plan_lines 1 (take (suc i) (plan_records (length l) l)) answers
-    ≡ plan_lines 1 (take i (plan_records (length l) l)) answers ++ answer_line (word_of (get_or l (i * 9) 0)) (i + 1) (get_or answers i 0)
-next_line l answers i h =
-    let next = next_part 9 (length l) i l (omega arith) (omega arith) in
-    let number : 1 + i ≡ i + 1 = omega arith in
-    ap (λ (rs : List (List ℕ)). plan_lines 1 rs answers) next.0
-    ∙ one_more 1 (take i (plan_records (length l) l)) (take 9 (drop (9 * i) l)) answers
-    ∙ rw (next.1, first_octet i l, number)
-
-pub no_more : (l : List ℕ) (i : ℕ) → length l ≤ i * 9 → take i (plan_records (length l) l) ≡ plan_records (length l) l
-no_more l i h =
-    take_all i (plan_records (length l) l)
-    (omega (arith, ap length (enough 9 (length l) i l (omega arith) (omega arith)), parts-at-most 9 i l))
+pub at_end : {whole : Text} (i : ℕ) (answers l : List ℕ) {start now : Writer} → length l ≡ 0
+    → Ahead whole (lines_from i l answers) start now → Added whole start now
+at_end i answers l h a = at_last (rw (no_more l (omega arith), no_octets 9 0) at a)
 
 -- answers beyond the records are not looked at
 pub the_first : (k : ℕ) (rs : List (List ℕ)) (answers more : List ℕ) → length answers ≡ length rs → plan_lines k rs (answers ++ more) ≡ plan_lines k rs answers

@@ -6,23 +6,21 @@ ghost use Rattle.std.specs.Prelude.{◌≤◌, ◌≡◌, length};
 ghost use Rattle.std.proofs.lemmas.List.Edits.{sets};
 ghost use Rattle.load.specs.Load.{load};
 ghost use Rattle.protocol.specs.Evening.{operations, plan_records, plan_lines, evening};
-ghost use Rattle.buffer.specs.Written.{Written};
+ghost use Rattle.buffer.specs.Added.{Added};
 ghost use Rattle.replay.specs.Replay.{EndsWell};
+
+use buffer::Writer;
 
 // A line for each record of a plan, by its first octet. Records are numbered from 0 inside and from 1
 // in the text.
-fn plan_lines(out: &mut [u8], list: &[u8], answers: &[u8]) -> usize
+fn plan_lines(out: &mut Writer, list: &[u8], answers: &[u8])
     requires list_len_bound { length list.now ≤ 90000 }
     requires answers_len { length answers.now ≡ 10000 }
-    ensures { Written (plan_lines 1 (plan_records (length list.now) list.now) answers.now) 0 out.old result out.new }
+    ensures { Added (plan_lines 1 (plan_records (length list.now) list.now) answers.now) out.old out.new }
 {
-    let mut at = 0;
-    let mut i = 0;
-    while i * 9 < list.len() {
-        at = text::plan_line(out, at, list[i * 9], i as u16 + 1, answers[i]);
-        i += 1;
+    for (i, record) in list.chunks(9).enumerate() {
+        text::plan_line(out, record[0], i as u16 + 1, answers[i]);
     }
-    at
 }
 
 // The whole text for a group file and a plan, of which the first 10,000 records count: its length, and
@@ -35,13 +33,19 @@ pub fn write_evening(file: &[u8], list: &[u8], out: &mut [u8]) -> usize
     ensures upper_bound { result ≤ 201220 }
     ensures ends_well { (load file.now).answer ≡ 0 → EndsWell file.now (operations (plan_records 10000 list.now)) }
 {
-    let used = steps::least(list.len(), 90000);
+    let used = list.len().min(90000);
     let mut answers = [0u8; 10000];
-    let o = plans::replay_plan(file, &list[..used], &mut answers);
-    if o.answer == 0 {
-        let at = plan_lines(out, &list[..used], &answers);
-        report::cab_lines(out, at, o.group)
-    } else {
-        text::load_line(out, 0, o.answer)
+    let replayed = plans::replay_plan(file, &list[..used], &mut answers);
+    let mut text = Writer { out, end: 0 };
+    match replayed {
+        Ok(group) => {
+            plan_lines(&mut text, &list[..used], &answers);
+            report::cab_lines(&mut text, group);
+            text.end
+        }
+        Err(refusal) => {
+            text::load_line(&mut text, u8::from(refusal));
+            text.end
+        }
     }
 }

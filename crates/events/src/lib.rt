@@ -2,10 +2,12 @@
 // Cabinets are numbered from 0 here.
 #![tactic(auto)]
 
-ghost use Rattle.std.specs.Prelude.{◌≤◌, ◌≡◌, cond};
+ghost use Rattle.std.specs.Prelude.{◌≤◌, ◌≡◌, ◌&&◌, cond};
+ghost use Rattle.marks.specs.Marks.{marked};
+ghost use Rattle.cabinet.specs.Cabinet.{in_use};
 ghost use Rattle.claims.specs.Fifo.{enters_error, fails, trips};
 ghost use Rattle.events.specs.Fates.{heeds, is_fault, fate_of, fate_at, fate_by, fate_in, ended_by, ended_in};
-ghost use Rattle.events.specs.Deeds.{cuts, deeds};
+ghost use Rattle.events.specs.Deeds.{empties_out, empties_in, cuts, deeds};
 
 use cabinet::Cabinet;
 use delivery::Finding;
@@ -19,41 +21,42 @@ use state::State;
 fn heeds(c: Cabinet, a: u8, b: u8, p: Packet) -> bool
     ensures { result ≡ heeds c a b p }
 {
-    let phase = c.phase;
-    let s = phase.state;
-    let noted = c.noted;
-    let heard = noted.heard;
+    let s = c.phase.state;
     match p {
-        Packet::Empty => false,
+        Packet::Empty | Packet::Invalid => false,
         Packet::Normal(carried) => linkcheck::takes(c, a, carried),
         Packet::Checkp(_) => linkcheck::compares(s),
-        Packet::Resume => marks::or(
-            state::is_in(s, State::Checkpointed),
-            signals::resumes_from(c, a, b),
-        ),
-        Packet::Recover(_) => marks::and(state::is_in(s, State::Error), marks::marked(heard, a)),
-        Packet::Fault(_) => marks::or(moves::serving(s), state::in_recovery(s)),
-        Packet::Invalid => false,
+        Packet::Resume => s == State::Checkpointed || signals::resumes_from(c, a, b),
+        Packet::Recover(_) => s == State::Error && marks::marked(c.noted.heard, a),
+        Packet::Fault(_) => moves::serving(s) || state::in_recovery(s),
     }
 }
 
+// Kept: with `matches!` in its place the goals of `fate_of` have a case for each finding, and the check found no answer to them.
 fn is_fault(f: Finding) -> bool
     ensures { result ≡ is_fault f }
 {
     match f {
-        Finding::Fine => false,
         Finding::LinkFault => true,
-        Finding::Crash => false,
+        Finding::Fine | Finding::Crash => false,
     }
 }
 
+// Over a link in use the cabinet has a rule for the packet.
+fn is_taken(c: Cabinet, a: u8, b: u8, p: Packet) -> bool
+    ensures { result ≡ (marked (in_use c) a && heeds c a b p) }
+{
+    marks::marked(c.in_use(), a) && heeds(c, a, b, p)
+}
+
+// Kept, also the groups before and after one by one, as the definitions take them: the answers are numbers, since they are the octets of a chronicle's row and the definitions have them as numbers.
 fn fate_of(c: Cabinet, a: u8, b: u8, p: Packet) -> u8
     ensures { result ≡ fate_of c a b p }
 {
     if is_fault(delivery::finds(c, a, p)) {
         return 3;
     }
-    let taken = marks::and(marks::marked(c.in_use(), a), heeds(c, a, b, p));
+    let taken = is_taken(c, a, b, p);
     if taken { 1 } else { 2 }
 }
 
@@ -68,12 +71,7 @@ fn fate_by(g: Group, s: Sort) -> u8
 {
     match s {
         Sort::Delivery { a, b } => fate_at(g, a, b),
-        Sort::SavedReport { a: _ } => 0,
-        Sort::PieceFetched { a: _ } => 0,
-        Sort::RestoredReport { a: _ } => 0,
-        Sort::Loss { a: _ } => 0,
-        Sort::Returning => 0,
-        Sort::Other => 0,
+        _ => 0,
     }
 }
 
@@ -95,28 +93,16 @@ fn ended_by(before: Group, after: Group, s: Sort) -> u8
     ensures { result ≡ ended_by before after s }
 {
     match s {
-        Sort::Delivery { a: _, b: _ } => 0,
-        Sort::SavedReport { a: _ } => 0,
-        Sort::PieceFetched { a: _ } => 0,
         Sort::RestoredReport { a } => {
-            let c = before.cabinet(a);
-            mark(
-                newest::goes(
-                    before,
-                    after,
-                    c.coordinator(),
-                    State::Recovered,
-                    State::Normal,
-                ),
-                1,
-            )
+            let c = before.cabinet(a).coordinator();
+            let ends = newest::goes(before, after, c, State::Recovered, State::Normal);
+            mark(ends, 1)
         }
-        Sort::Loss { a: _ } => 0,
-        Sort::Returning => 0,
-        Sort::Other => 0,
+        _ => 0,
     }
 }
 
+// Kept, as in fate_in: a test of the answer, which the definition asks first.
 pub fn ended_in(answer: u8, before: Group, after: Group, s: Sort) -> u8
     ensures { result ≡ ended_in answer before after s }
 {
@@ -132,51 +118,42 @@ pub fn ended_in(answer: u8, before: Group, after: Group, s: Sort) -> u8
 fn enters_error(c: Cabinet, d: Cabinet) -> bool
     ensures { result ≡ enters_error c d }
 {
-    let was = c.phase;
-    let is = d.phase;
-    let s = was.state;
-    let t = is.state;
-    marks::and(moves::serving(s), state::in_recovery(t))
+    moves::serving(c.phase.state) && state::in_recovery(d.phase.state)
 }
 
 fn fails(c: Cabinet, d: Cabinet) -> bool
     ensures { result ≡ fails c d }
 {
-    let was = c.phase;
-    let is = d.phase;
-    let s = was.state;
-    let t = is.state;
-    let gone = !state::works(t);
-    marks::and(state::works(s), gone)
+    state::works(c.phase.state) && !state::works(d.phase.state)
 }
 
 fn trips(c: Cabinet, d: Cabinet, i: u8) -> bool
     ensures { result ≡ trips c d i }
 {
-    let is = d.phase;
-    let alarm = is.alarm;
-    marks::and(
-        enters_error(c, d),
-        cabinet::is_for(alarm, Place::Tripped(i)),
-    )
+    enters_error(c, d) && cabinet::is_for(d.phase.alarm, Place::Tripped(i))
 }
 
 fn cuts(c: Cabinet, d: Cabinet) -> bool
     ensures { result ≡ cuts c d }
 {
-    let was = c.phase;
-    let is = d.phase;
-    let s = was.state;
-    let t = is.state;
-    let not_yet = !state::is_in(s, State::Checkpointing);
-    marks::and(state::is_in(t, State::Checkpointing), not_yet)
+    d.phase.state == State::Checkpointing && c.phase.state != State::Checkpointing
+}
+
+// Its outgoing lines were emptied, and the lines to it.
+fn empties_out(c: Cabinet, d: Cabinet) -> bool
+    ensures { result ≡ empties_out c d }
+{
+    enters_error(c, d) || fails(c, d)
+}
+
+fn empties_in(c: Cabinet, d: Cabinet, i: u8) -> bool
+    ensures { result ≡ empties_in c d i }
+{
+    fails(c, d) || trips(c, d, i)
 }
 
 pub fn deeds(c: Cabinet, d: Cabinet, i: u8) -> u8
     ensures { result ≡ deeds c d i }
 {
-    let out = mark(marks::or(enters_error(c, d), fails(c, d)), 1);
-    let into = mark(marks::or(fails(c, d), trips(c, d, i)), 2);
-    let cut = mark(cuts(c, d), 4);
-    out + into + cut
+    mark(empties_out(c, d), 1) + mark(empties_in(c, d, i), 2) + mark(cuts(c, d), 4)
 }

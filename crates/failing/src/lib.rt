@@ -1,7 +1,7 @@
 // The steps fail and trip: a cabinet fails, or trips and restarts, and its neighbours enter error.
 #![tactic(auto)]
 
-ghost use Rattle.std.specs.Prelude.{◌≡◌, false, not, cond, ◌&&◌, ◌||◌, set};
+ghost use Rattle.std.specs.Prelude.{◌≡◌, false, not, ◌&&◌, ◌||◌, set};
 ghost use Rattle.marks.specs.Marks.{marked};
 ghost use Rattle.marks.specs.Reach.{connected};
 ghost use Rattle.state.specs.State.{works};
@@ -9,7 +9,6 @@ ghost use Rattle.cabinet.specs.Cabinet.{in_use};
 ghost use Rattle.store.specs.Store.{is_last};
 ghost use Rattle.group.specs.Group.{rows_of, some, working, recovering_ones};
 ghost use Rattle.protocol.specs.Moves.{emptied_to, pass_reports, leave, mark_failed, trip, alarm_to};
-ghost use Rattle.moves.specs.Seats.{enter_error, word_by};
 ghost use Rattle.protocol.specs.Kinds.{fail_crashes, fail_step, trip_crashes, trip_once, trip_step};
 
 use cabinet::Cabinet;
@@ -18,7 +17,6 @@ use line::Line;
 use outgoing::Outgoing;
 use packet::Place;
 use seat::Seat;
-use settled::Settled;
 use state::State;
 
 // The lines to cabinet a are emptied.
@@ -26,12 +24,8 @@ fn emptied(g: Group, a: u8) -> Group
     ensures { result ≡ emptied_to 8 g a }
 {
     let mut h = g;
-    let mut i = 0;
-    while i < 8 {
-        let o = h.outgoing[i];
-        let left = o.with_line_to(a, Line::empty());
-        h.outgoing[i] = left;
-        i += 1;
+    for i in 0..8 {
+        h.outgoing[i] = h.outgoing[i].with_line_to(a, Line::empty());
     }
     h
 }
@@ -41,8 +35,7 @@ fn pass_reports(g: Group, a: u8, p: u8) -> Group
     ensures { result ≡ pass_reports g a p }
 {
     let c = g.cabinet(a);
-    let owed = c.owed;
-    let h = g.with_cabinet(p, g.cabinet(p).owing_also(owed));
+    let h = g.with_cabinet(p, g.cabinet(p).owing_also(c.owed));
     h.with_cabinet(a, c.owing_none())
 }
 
@@ -50,8 +43,7 @@ fn pass_reports(g: Group, a: u8, p: u8) -> Group
 fn leave(g: Group, a: u8) -> Group
     ensures { result ≡ leave g a }
 {
-    let store = g.store;
-    pass_reports(g.with_store(store.leaves(a)), a, store.partner(a))
+    pass_reports(g.with_store(g.store.leaves(a)), a, g.store.partner(a))
 }
 
 fn mark_failed(g: Group, a: u8) -> Group
@@ -69,33 +61,11 @@ fn trip(g: Group, a: u8) -> Group
     emptied(moves::alarm(h, a, Place::Tripped(a)), a)
 }
 
-fn enter_error_if(asked: bool, s: Seat, i: u8, p: Place) -> Seat
-    ensures { result ≡ cond asked (enter_error s i p) s }
-{
-    if asked {
-        moves::enter_error(s, i, p)
-    } else {
-        s
-    }
-}
-
-fn word_if(asked: bool, settled: Settled, c: Cabinet, i: u8) -> Settled
-    ensures { result ≡ cond asked (word_by settled c i) settled }
-{
-    if asked {
-        moves::word_by(settled, c, i)
-    } else {
-        settled
-    }
-}
-
 // A cabinet that works and has a link to a in use.
 fn is_neighbour(c: Cabinet, a: u8) -> bool
     ensures { result ≡ works c.phase.state && marked (in_use c) a }
 {
-    let phase = c.phase;
-    let state = phase.state;
-    marks::and(state::works(state), marks::marked(c.in_use(), a))
+    state::works(c.phase.state) && marks::marked(c.in_use(), a)
 }
 
 // All neighbours of cabinet a, which failed or tripped, enter error.
@@ -104,27 +74,18 @@ fn alarm_neighbours(g: Group, a: u8, p: Place) -> Group
 {
     let mut h = g;
     let mut settled = g.settled;
-    let mut i: u8 = 0;
-    while i < 8 {
+    for i in 0..8u8 {
         let k = i as usize;
-        let c = h.cabinets[k];
-        let o = h.outgoing[k];
-        let asked = is_neighbour(c, a);
-        let s = enter_error_if(
-            asked,
-            Seat {
-                cabinet: c,
-                lines: o,
-            },
-            i,
-            p,
-        );
-        let left = s.cabinet;
-        let lines = s.lines;
-        h.cabinets[k] = left;
-        h.outgoing[k] = lines;
-        settled = word_if(asked, settled, c, i);
-        i += 1;
+        let s = Seat {
+            cabinet: h.cabinets[k],
+            lines: h.outgoing[k],
+        };
+        if is_neighbour(s.cabinet, a) {
+            let left = moves::enter_error(s, i, p);
+            h.cabinets[k] = left.cabinet;
+            h.outgoing[k] = left.lines;
+            settled = moves::word_by(settled, s.cabinet, i);
+        }
     }
     h.with_settled(settled)
 }
@@ -143,10 +104,7 @@ fn parts(g: Group, a: u8) -> bool
 fn crashes(g: Group, a: u8, cut: bool) -> bool
     ensures { result ≡ is_last g.store a || (some (recovering_ones g) || cut) }
 {
-    let store = g.store;
-    let cs = g.cabinets;
-    let recovers = survey::any_recovering(cs);
-    marks::or(store.is_last(a), marks::or(recovers, cut))
+    g.store.is_last(a) || survey::any_recovering(g.cabinets) || cut
 }
 
 // ---- 10 fail
@@ -174,8 +132,7 @@ pub fn fail_step(g: Group, a: u8) -> Outcome
 fn trip_crashes(g: Group, a: u8) -> bool
     ensures { result ≡ trip_crashes g a }
 {
-    let k = g.cabinet(a).coordinator();
-    crashes(g, a, marks::and(k == a, parts(g, a)))
+    crashes(g, a, g.cabinet(a).coordinator() == a && parts(g, a))
 }
 
 // The trip of cabinet a that is counted as its count-th since the last commit.

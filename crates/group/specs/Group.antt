@@ -15,7 +15,7 @@ use Rattle.store.specs.declared.Store.{Store}
 use Rattle.group.specs.declared.Group.{Group}
 use Rattle.group.specs.declared.Outcome.{Outcome}
 use Rattle.settled.specs.declared.Reason.{Reason}
-use Rattle.settled.specs.declared.Settled.{Settled}
+use Rattle.settled.specs.Settled.{Settled}
 use Rattle.settled.specs.Settled.{enters, ends}
 use Rattle.state.specs.State.{works, is_in, in_recovery}
 use Rattle.cabinet.specs.Cabinet.{absent, crashing}

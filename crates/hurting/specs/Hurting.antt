@@ -10,7 +10,7 @@ use Rattle.line.specs.declared.Line.{Line}
 use Rattle.line.specs.Line.{packet_at, replaced, without}
 use Rattle.cabinet.specs.declared.Cabinet.{Cabinet}
 use Rattle.cabinet.specs.Cabinet.{hurt_from}
-use Rattle.seat.specs.declared.Spot.{Spot}
+use Rattle.seat.specs.declared.SpotAnswer.{SpotAnswer}
 use Rattle.seat.specs.Seat.{spot}
 use Rattle.protocol.specs.Kinds.{need}
 
@@ -34,7 +34,7 @@ damage_refusal linked l c a p w v =
     (need (pattern_right v w) 15
     (need (not (hurt_already c a (packet_at l p))) 20 0)))
 
-unfoldable pub damage : Cabinet → Line → ℕ → ℕ → Pattern → Spot
+unfoldable pub damage : Cabinet → Line → ℕ → ℕ → Pattern → SpotAnswer
 damage c l a p w = spot 0 (hurt_if (is_normal (packet_at l p)) c a) (replaced l p (damaged (packet_at l p) w))
 
 -- ---- 12 lose
@@ -45,5 +45,5 @@ lose_refusal linked l c a p =
     need linked 13 (need (is_normal (packet_at l p)) 18 (need (not (hurt_already c a (packet_at l p))) 20 0))
 
 -- "removes the normal packet at place p from a line"
-unfoldable pub lose : Cabinet → Line → ℕ → ℕ → Spot
+unfoldable pub lose : Cabinet → Line → ℕ → ℕ → SpotAnswer
 lose c l a p = spot 0 (hurt_from c a) (without l p)

@@ -2,11 +2,14 @@
 #![tactic(auto)]
 
 ghost use Rattle.std.specs.Prelude.{◌≡◌};
+ghost use Rattle.refusal.specs.Refusal.{answer_of};
+ghost use Rattle.seat.specs.Seat.{spot_left};
 ghost use Rattle.hurting.specs.Hurting.{hurt_already, hurt_if, damage_refusal, damage, lose_refusal, lose};
 
 use cabinet::Cabinet;
 use line::Line;
 use packet::{Packet, PacketVersion, Pattern};
+use refusal::Refusal;
 use seat::Spot;
 
 // ---- what damage and loss share
@@ -15,9 +18,7 @@ use seat::Spot;
 fn hurt_already(c: Cabinet, a: u8, p: Packet) -> bool
     ensures { result ≡ hurt_already c a p }
 {
-    let registers = c.registers;
-    let hurt = registers.hurt;
-    marks::and(packet::is_normal(p), marks::marked(hurt, a))
+    packet::is_normal(p) && marks::marked(c.registers.hurt, a)
 }
 
 // The receiver's note that a normal packet of the line from a was hurt.
@@ -29,7 +30,7 @@ fn hurt_if(asked: bool, c: Cabinet, a: u8) -> Cabinet
 
 // ---- 11 damage
 
-pub fn damage_refusal(
+pub fn may_damage(
     linked: bool,
     l: Line,
     c: Cabinet,
@@ -37,40 +38,46 @@ pub fn damage_refusal(
     p: u8,
     w: Pattern,
     version: PacketVersion,
-) -> u8
-    ensures { result ≡ damage_refusal linked l c a p w version }
+) -> Result<(), Refusal>
+    ensures { answer_of result ≡ damage_refusal linked l c a p w version }
 {
     let hit = l.packet_at(p);
-    let first = records::need(!hurt_already(c, a, hit), 20, 0);
-    let right = records::need(packet::pattern_right(version, w), 15, first);
-    let some = records::need(!packet::is_empty(hit), 18, right);
-    records::need(linked, 13, some)
+    Refusal::NotLinked.unless(linked)?;
+    Refusal::NothingThere.unless(!packet::is_empty(hit))?;
+    Refusal::WrongValue.unless(packet::pattern_right(version, w))?;
+    Refusal::HurtAlready.unless(!hurt_already(c, a, hit))
 }
 
 // The packet at place p of the line l from a to cabinet c is damaged.
+#[tactic(auto, unfolding(crate::specs::Hurting::damage))]
 pub fn damage(c: Cabinet, l: Line, a: u8, p: u8, w: Pattern) -> Spot
-    ensures { result ≡ damage c l a p w }
+    ensures { spot_left result ≡ damage c l a p w }
 {
     let hit = l.packet_at(p);
-    let left = l.replaced(p, packet::damaged(hit, w));
-    seat::spotted(0, hurt_if(packet::is_normal(hit), c, a), left)
+    Spot {
+        cabinet: hurt_if(packet::is_normal(hit), c, a),
+        line: l.replaced(p, packet::damaged(hit, w)),
+    }
 }
 
 // ---- 12 lose
 
-pub fn lose_refusal(linked: bool, l: Line, c: Cabinet, a: u8, p: u8) -> u8
-    ensures { result ≡ lose_refusal linked l c a p }
+pub fn may_lose(linked: bool, l: Line, c: Cabinet, a: u8, p: u8) -> Result<(), Refusal>
+    ensures { answer_of result ≡ lose_refusal linked l c a p }
 {
     let hit = l.packet_at(p);
-    let first = records::need(!hurt_already(c, a, hit), 20, 0);
-    let normal = records::need(packet::is_normal(hit), 18, first);
-    records::need(linked, 13, normal)
+    Refusal::NotLinked.unless(linked)?;
+    Refusal::NothingThere.unless(packet::is_normal(hit))?;
+    Refusal::HurtAlready.unless(!hurt_already(c, a, hit))
 }
 
 // The normal packet at place p of the line l from a to cabinet c vanishes.
+#[tactic(auto, unfolding(crate::specs::Hurting::lose))]
 pub fn lose(c: Cabinet, l: Line, a: u8, p: u8) -> Spot
-    ensures { result ≡ lose c l a p }
+    ensures { spot_left result ≡ lose c l a p }
 {
-    let left = l.without(p);
-    seat::spotted(0, c.hurt_from(a), left)
+    Spot {
+        cabinet: c.hurt_from(a),
+        line: l.without(p),
+    }
 }

@@ -1,7 +1,7 @@
 // A cabinet's image: 32 octets, the bookings of the outlets and of the workshop first.
 #![tactic(auto)]
 
-ghost use Rattle.std.specs.Prelude.{◌≡◌, ◌+◌, ◌-◌, ◌*◌, ◌<◌, slice_index};
+ghost use Rattle.std.specs.Prelude.{◌≡◌, ◌+◌, ◌*◌, ◌<◌, slice_index};
 ghost use Rattle.image.specs.Image.{blank_image, booking_at, booking, with_booking, charged, credited, with_octet, with_piece};
 
 use outlet::Outlet;
@@ -9,18 +9,6 @@ use outlet::Outlet;
 #[derive(Clone, Copy)]
 pub struct Image {
     pub octets: [u8; 32],
-}
-
-fn wide(octet: u8) -> u16
-    ensures { (result ≡ octet) × (result < 256) }
-{
-    octet as u16
-}
-
-fn minus(x: u16, y: u16) -> u16
-    ensures { result ≡ x - y }
-{
-    if y <= x { x - y } else { 0 }
 }
 
 // The first of the two octets that hold the booking of an outlet.
@@ -46,9 +34,7 @@ impl Image {
         ensures { result ≡ booking outlet self }
     {
         let at = booking_at(outlet);
-        let high = wide(self.octets[at]);
-        let low = wide(self.octets[at + 1]);
-        high * 256 + low
+        u16::from_be_bytes([self.octets[at], self.octets[at + 1]])
     }
 
     pub fn with_booking(self, outlet: Outlet, amount: u16) -> Image
@@ -56,8 +42,7 @@ impl Image {
     {
         let mut image = self;
         let at = booking_at(outlet);
-        let high = (amount / 256) as u8;
-        let low = (amount % 256) as u8;
+        let [high, low] = amount.to_be_bytes();
         image.octets[at] = high;
         image.octets[at + 1] = low;
         image
@@ -67,7 +52,7 @@ impl Image {
     pub fn charged(self, outlet: Outlet, amount: u16) -> Image
         ensures { result ≡ charged self outlet amount }
     {
-        let left = minus(self.booking(outlet), amount);
+        let left = self.booking(outlet).saturating_sub(amount);
         self.with_booking(outlet, left)
     }
 
@@ -75,10 +60,11 @@ impl Image {
     pub fn credited(self, outlet: Outlet, amount: u16) -> Image
         ensures { result ≡ credited self outlet amount }
     {
-        let more = std::num::wrapping_add_u16(self.booking(outlet), amount);
+        let more = self.booking(outlet).wrapping_add(amount);
         self.with_booking(outlet, more)
     }
 
+    // Kept: a test and a write, as in marks::set_mark.
     pub fn with_octet(self, p: u8, octet: u8) -> Image
         ensures { result ≡ with_octet self p octet }
     {
@@ -90,15 +76,14 @@ impl Image {
     }
 
     // Octet n of piece k, from another image.
-    fn with_octet_from(self, k: u8, n: usize, from: Image) -> Image
-        requires { n < 8 }
+    // Kept: a function: with its `if` in the loop of `with_piece` the proof did not close where the branches join.
+    fn with_octet_from(self, k: u8, n: u8, from: Image) -> Image
         ensures { result ≡ with_octet self (k * 8 + n) (slice_index from.octets (k * 8 + n)) }
     {
         let mut image = self;
-        let place = (k as usize) * 8 + n;
+        let place = k as usize * 8 + n as usize;
         if place < 32 {
-            let octet = from.octets[place];
-            image.octets[place] = octet;
+            image.octets[place] = from.octets[place];
         }
         image
     }
@@ -108,10 +93,8 @@ impl Image {
         ensures { result ≡ with_piece k from self }
     {
         let mut to = self;
-        let mut n = 0;
-        while n < 8 {
+        for n in 0..8 {
             to = to.with_octet_from(k, n, from);
-            n += 1;
         }
         to
     }

@@ -1,6 +1,6 @@
 -- A packet, a line and a cabinet as octets of a chronicle; docs/CHRONICLE.md has them in tables. Cabinets are numbered from 0 inside the program
 -- and from 1 there.
-use Rattle.std.specs.Prelude.{ℕ, zero, suc, ◌+◌, ◌/◌, ◌%◌, cond, List, [], ◌∷◌, ◌++◌}
+use Rattle.std.specs.Prelude.{ℕ, zero, suc, ◌+◌, ◌/◌, ◌%◌, cond, List, [], ◌∷◌, ◌++◌, None, Some}
 use Rattle.outlet.specs.declared.Outlet.TheVariants.{A, B, W}
 use Rattle.outlet.specs.Outlet.{octet_of}
 use Rattle.packet.specs.declared.Place.{Place}
@@ -17,8 +17,7 @@ use Rattle.state.specs.declared.Version.TheVariants.{Known, Unknown, Lost}
 use Rattle.state.specs.State.{rank, works}
 use Rattle.image.specs.Image.{booking}
 use Rattle.cabinet.specs.declared.Cabinet.{Cabinet}
-use Rattle.cabinet.specs.declared.Alarm.{Alarm}
-use Rattle.cabinet.specs.declared.Alarm.TheVariants.{Quiet, Fault as At}
+use Rattle.cabinet.specs.Alarm.{Alarm}
 use Rattle.cabinet.specs.Cabinet.{coordinator}
 use Rattle.group.specs.declared.Group.{Group}
 use Rattle.group.specs.Group.{outgoing}
@@ -53,16 +52,16 @@ place_second (Tripped a) = 0
 place_second (Link a b) = numbered b
 
 abbrev pub alarm_kind : Alarm → ℕ
-alarm_kind Quiet = 0
-alarm_kind (At p) = place_kind p
+alarm_kind None = 0
+alarm_kind (Some p) = place_kind p
 
 abbrev pub alarm_first : Alarm → ℕ
-alarm_first Quiet = 0
-alarm_first (At p) = place_first p
+alarm_first None = 0
+alarm_first (Some p) = place_first p
 
 abbrev pub alarm_second : Alarm → ℕ
-alarm_second Quiet = 0
-alarm_second (At p) = place_second p
+alarm_second None = 0
+alarm_second (Some p) = place_second p
 
 -- ---- a packet: four octets, and none where a cell is empty
 

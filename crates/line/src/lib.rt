@@ -7,6 +7,7 @@ ghost use Rattle.line.specs.Line.{empty_line, oldest, rest, put, normals, packet
 use outlet::Party;
 use packet::Packet;
 
+// Kept: a struct round one packet: definitions and theorems read `.packet` of a cell.
 #[derive(Clone, Copy)]
 pub struct Cell {
     pub packet: Packet,
@@ -32,20 +33,16 @@ impl Line {
     pub fn oldest(self) -> Packet
         ensures { result ≡ oldest self }
     {
-        let c = self.cells[0];
-        c.packet
+        self.cells[0].packet
     }
 
     // The packet at a place, 0 the oldest.
     pub fn packet_at(self, place: u8) -> Packet
         ensures { result ≡ packet_at self place }
     {
-        let k = place as usize;
-        if k < 12 {
-            let c = self.cells[k];
-            c.packet
-        } else {
-            Packet::Empty
+        match self.cells.get(place as usize) {
+            Some(c) => c.packet,
+            None => Packet::Empty,
         }
     }
 
@@ -53,35 +50,14 @@ impl Line {
     pub fn rest(self) -> Line
         ensures { result ≡ rest self }
     {
-        let c1 = self.cells[1];
-        let c2 = self.cells[2];
-        let c3 = self.cells[3];
-        let c4 = self.cells[4];
-        let c5 = self.cells[5];
-        let c6 = self.cells[6];
-        let c7 = self.cells[7];
-        let c8 = self.cells[8];
-        let c9 = self.cells[9];
-        let c10 = self.cells[10];
-        let c11 = self.cells[11];
-        let last = Cell {
-            packet: Packet::Empty,
-        };
-        Line {
-            cells: [c1, c2, c3, c4, c5, c6, c7, c8, c9, c10, c11, last],
-        }
+        self.without(0)
     }
 
     // The line with a packet put at its end; a full line stays as it is.
     pub fn put(self, p: Packet) -> Line
         ensures { result ≡ put self p }
     {
-        let k = first_empty(self);
-        let mut l = self;
-        if k < 12 {
-            l.cells[k] = Cell { packet: p };
-        }
-        l
+        self.replaced(first_empty(self), p)
     }
 
     // How many normal packets of a party stand in the line.
@@ -89,24 +65,20 @@ impl Line {
         ensures { result ≡ normals party self }
     {
         let mut count: u8 = 0;
-        let mut i = 0;
-        while i < 12 {
-            let c = self.cells[i];
-            let p = c.packet;
-            count += one_if(packet::is_of(party, p));
-            i += 1;
+        for c in self.cells {
+            count += u8::from(packet::is_of(party, c.packet));
         }
         count
     }
 
     // The line with another packet at a place; past the line's end nothing changes.
+    // Kept: a test and a write, as in marks::set_mark.
     pub fn replaced(self, place: u8, p: Packet) -> Line
         ensures { result ≡ replaced self place p }
     {
-        let k = place as usize;
         let mut l = self;
-        if k < 12 {
-            l.cells[k] = Cell { packet: p };
+        if place < 12 {
+            l.cells[place as usize] = Cell { packet: p };
         }
         l
     }
@@ -116,36 +88,23 @@ impl Line {
         ensures { result ≡ without self place }
     {
         let mut l = self;
-        let mut k = place;
-        while k < 12 {
+        for k in place..12 {
             let behind = l.packet_at(k + 1);
-            let moved = l.replaced(k, behind);
-            l = moved;
-            k += 1;
+            l.cells[k as usize] = Cell { packet: behind };
         }
         l
     }
 }
 
-fn one_if(b: bool) -> u8
-    ensures value { result ≡ cond b 1 0 }
-    ensures upper_bound { result ≤ 1 }
-{
-    if b { 1 } else { 0 }
-}
-
 // The first empty cell, or 12 where the line is full.
-fn first_empty(l: Line) -> usize
+// Kept: 12 and no Option: `put` at place 12 changes nothing, as the definition `put` has it.
+fn first_empty(l: Line) -> u8
     ensures { result ≡ first_empty l.cells }
 {
-    let mut place = 0;
-    while place < 12 {
-        let c = l.cells[place];
-        let p = c.packet;
-        if packet::is_empty(p) {
+    for place in 0..12u8 {
+        if packet::is_empty(l.cells[place as usize].packet) {
             return place;
         }
-        place += 1;
     }
-    place
+    12
 }

@@ -32,32 +32,22 @@ pub fn link_fault(before: Group, a: u8, b: u8) -> Outcome
 fn takes_from(c: Cabinet, a: u8) -> bool
     ensures { result ≡ takes_from c a }
 {
-    let phase = c.phase;
-    let s = phase.state;
-    let noted = c.noted;
-    let come = noted.come;
-    let early = !marks::marked(come, a);
-    marks::or(
-        state::is_in(s, State::Normal),
-        marks::and(state::is_in(s, State::CheckpBegin), early),
-    )
+    c.phase.state == State::Normal
+        || c.phase.state == State::CheckpBegin && !marks::marked(c.noted.come, a)
 }
 
 // A packet whose own check does not fit is not taken.
 pub fn takes(c: Cabinet, a: u8, p: Payload) -> bool
     ensures { result ≡ takes c a p }
 {
-    let fit = packet::fits(p);
-    marks::and(takes_from(c, a), fit)
+    takes_from(c, a) && packet::fits(p)
 }
 
 // One that is not taken is a link fault, but for a cabinet in recovery, which drops it.
 pub fn normal_faulty(c: Cabinet, a: u8, p: Payload) -> bool
     ensures { result ≡ normal_faulty c a p }
 {
-    let phase = c.phase;
-    let s = phase.state;
-    marks::and(!takes(c, a, p), moves::serving(s))
+    !takes(c, a, p) && moves::serving(c.phase.state)
 }
 
 pub fn normal_taken(c: Cabinet, a: u8, p: Payload) -> Cabinet
@@ -72,30 +62,20 @@ pub fn normal_taken(c: Cabinet, a: u8, p: Payload) -> Cabinet
 pub fn compares(s: State) -> bool
     ensures { result ≡ compares s }
 {
-    marks::or(
-        state::is_in(s, State::Normal),
-        state::is_in(s, State::CheckpBegin),
-    )
+    s == State::Normal || s == State::CheckpBegin
 }
 
 pub fn checkp_faulty(c: Cabinet, a: u8, v: Check) -> bool
     ensures { result ≡ checkp_faulty c a v }
 {
-    let phase = c.phase;
-    let s = phase.state;
-    let registers = c.registers;
-    let taken = registers.taken;
-    let unequal = !v.same(registers::check_at(taken, a));
-    marks::and(compares(s), unequal)
+    compares(c.phase.state) && v != registers::check_at(c.registers.taken, a)
 }
 
 // An equal comparison with the checkp from a.
 fn take_checkp(s: Seat, a: u8) -> Seat
     ensures { result ≡ take_checkp s a }
 {
-    let c = s.cabinet;
-    let compared = c.comparing(a);
-    s.with_cabinet(compared.cutting())
+    s.with_cabinet(s.cabinet.comparing(a).cutting())
 }
 
 fn join_if(asked: bool, s: Seat) -> Seat
@@ -108,11 +88,8 @@ fn join_if(asked: bool, s: Seat) -> Seat
 pub fn checkp_taken(s: Seat, a: u8) -> Seat
     ensures { result ≡ checkp_taken s a }
 {
-    let c = s.cabinet;
-    let phase = c.phase;
-    let state = phase.state;
-    if compares(state) {
-        take_checkp(join_if(state::is_in(state, State::Normal), s), a)
+    if compares(s.cabinet.phase.state) {
+        take_checkp(join_if(s.cabinet.phase.state == State::Normal, s), a)
     } else {
         s
     }
@@ -123,7 +100,5 @@ pub fn checkp_taken(s: Seat, a: u8) -> Seat
 pub fn invalid_faulty(c: Cabinet) -> bool
     ensures { result ≡ invalid_faulty c }
 {
-    let phase = c.phase;
-    let s = phase.state;
-    moves::serving(s)
+    moves::serving(c.phase.state)
 }

@@ -1,6 +1,6 @@
 -- Document 01, "The group file" and the refusals of a load, with document 02, cards 2, 7, 9 and 10: a file's octets to the group, lines and store, or a
 -- number 1 to 7.
-use Rattle.std.specs.Prelude.{ℕ, zero, suc, ◌+◌, ◌-◌, ◌*◌, Bool, true, false, cond, not, ◌&&◌, ◌||◌, List, [], ◌∷◌, length, get_or, set, replicate, eqb, ltb, leb}
+use Rattle.std.specs.Prelude.{ℕ, zero, suc, ◌+◌, ◌-◌, ◌*◌, Bool, true, false, cond, not, ◌&&◌, ◌||◌, List, [], ◌∷◌, length, get_or, set, replicate, eqb, ltb, leb, None}
 use Rattle.marks.specs.Marks.{Marks, no_marks}
 use Rattle.marks.specs.Reach.{Rows, connected}
 use Rattle.outlet.specs.declared.Outlet.{Outlet}
@@ -9,10 +9,8 @@ use Rattle.outlet.specs.declared.Party.{Party}
 use Rattle.outlet.specs.declared.Party.TheVariants.{Buses, Workshop}
 use Rattle.packet.specs.declared.PacketVersion.{PacketVersion}
 use Rattle.packet.specs.declared.PacketVersion.TheVariants.{One, Two}
-use Rattle.settled.specs.declared.Settled.TheVariants.{Nobody}
 use Rattle.state.specs.declared.State.TheVariants.{Normal}
 use Rattle.state.specs.declared.Version.TheVariants.{Known}
-use Rattle.cabinet.specs.declared.Alarm.TheVariants.{Quiet}
 use Rattle.image.specs.declared.Image.{Image}
 use Rattle.cabinet.specs.declared.Cabinet.{Cabinet}
 use Rattle.store.specs.declared.Slots.{Slots}
@@ -193,7 +191,7 @@ image_of f i = with_booking (with_booking (with_booking blank_image A (booking_o
 -- "At the start every version variable is 0 .. and every cabinet is in normal."; a table names "its coordinator, at first the lowest"
 abbrev pub starting_cabinet : List ℕ → Rows → ℕ → Cabinet
 starting_cabinet f rows i = record {
-  phase = record { state = Normal; version = Known false; alarm = Quiet };
+  phase = record { state = Normal; version = Known false; alarm = None };
   table = record { cabinets = present f; links = get_or rows i no_marks; lead = 0 };
   noted = nothing_noted;
   registers = start_registers;
@@ -258,7 +256,7 @@ group_of f rows = record {
   store = store_of f;
   trips = no_trips;
   packets = version_of f;
-  settled = Nobody;
+  settled = None;
 }
 
 -- a refused file leaves no group
@@ -272,7 +270,7 @@ no_group = record {
   store = empty_store;
   trips = no_trips;
   packets = One;
-  settled = Nobody;
+  settled = None;
 }
 
 abbrev pub load_with : List ℕ → ℕ → Outcome

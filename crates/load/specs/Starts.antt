@@ -1,12 +1,11 @@
 -- What holds of the group, lines and store that a file is loaded to.
-use Rattle.std.specs.Prelude.{ℕ, ◌-◌, ◌≤◌, ◌<◌, ◌≡◌, Bool, true, false, List, length, get_or, ltb}
+use Rattle.std.specs.Prelude.{ℕ, ◌-◌, ◌≤◌, ◌<◌, ◌≡◌, Bool, true, false, List, length, get_or, ltb, None}
 use Rattle.marks.specs.Marks.{marked, no_marks}
 use Rattle.marks.specs.Reach.{mark, connected}
 use Rattle.outlet.specs.declared.Party.{Party}
 use Rattle.line.specs.Line.{empty_line}
 use Rattle.state.specs.declared.State.TheVariants.{Normal}
 use Rattle.state.specs.declared.Version.TheVariants.{Known}
-use Rattle.cabinet.specs.declared.Alarm.TheVariants.{Quiet}
 use Rattle.image.specs.Image.{blank_image, booked}
 use Rattle.registers.specs.Registers.{start_registers}
 use Rattle.cabinet.specs.Cabinet.{nothing_noted, absent}
@@ -34,7 +33,7 @@ pub record Starts (f : List ℕ) (g : Group) : Type 0 where
   pub slot_size : (h i : ℕ) (v : Bool) → length (slot g h i v).octets ≡ 32
   -- a cabinet of the file, whole and part by part
   pub starting : (i : ℕ) → i < g.n → cabinet g i ≡ starting_cabinet f (rows_in f) i
-  pub phase : (i : ℕ) → i < g.n → (cabinet g i).phase ≡ record { state = Normal; version = Known false; alarm = Quiet }
+  pub phase : (i : ℕ) → i < g.n → (cabinet g i).phase ≡ record { state = Normal; version = Known false; alarm = None }
   pub in_table : (i : ℕ) → i < g.n → (cabinet g i).table.cabinets ≡ present f
   pub leading : (i : ℕ) → i < g.n → (cabinet g i).table.lead ≡ 0
   pub own_links : (i : ℕ) → i < g.n → (cabinet g i).table.links ≡ get_or (rows_of g.links) i no_marks

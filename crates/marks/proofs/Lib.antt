@@ -1,3 +1,4 @@
 -- What several functions' proofs share.
-mod Count
 pub mod Lists
+pub mod Rows
+pub mod Searches

@@ -1,42 +1,20 @@
 // Eight marks, one for each cabinet, rows of marks, and the reach check. Cabinets are numbered 0 to 7.
 #![tactic(auto)]
 
-ghost use Rattle.std.specs.Prelude.{◌≡◌, false, ◌&&◌, ◌||◌, ℕ, ◌<◌, ◌≤◌, set};
-ghost use Rattle.marks.specs.Marks.{marked, in_both, in_either, in_first, lowest, covers, both, either, without, above, or_lowest, next_up};
-ghost use Rattle.marks.specs.Reach.{
-  mark,
-  cleared,
-  struck,
-  touched,
-  fresh,
-  next,
-  spread,
-  unseen,
-  first,
-  reached,
-  connected,
-};
+ghost use Rattle.std.specs.Prelude.{◌≡◌, ℕ, ◌≤◌, set};
+ghost use Rattle.marks.specs.Marks.{marked, lowest, covers, both, either, without, above, or_lowest, next_up};
+ghost use Rattle.marks.specs.Reach.{cleared, struck, touched, fresh, next, spread, unseen, first, reached, connected};
 
-// `and` and `or` are calls, so that they leave no branch in their callers' proofs.
-pub fn and(a: bool, b: bool) -> bool
-    ensures { result ≡ a && b }
-{
-    if a { b } else { false }
-}
-
-pub fn or(a: bool, b: bool) -> bool
-    ensures { result ≡ a || b }
-{
-    if a { true } else { b }
-}
+use std::array;
 
 // A mark by its number: past the eighth none is marked, and nothing changes.
 pub fn marked(marks: [bool; 8], j: u8) -> bool
     ensures { result ≡ marked marks j }
 {
-    if j < 8 { marks[j as usize] } else { false }
+    marks.get(j as usize).copied().unwrap_or(false)
 }
 
+// Kept, here and in `cleared`: a test and a write, as the kit has it where an `ensures` names the elements; a setter of any type would be called in as many words.
 pub fn set_mark(marks: [bool; 8], j: u8, mark: bool) -> [bool; 8]
     ensures { result ≡ set marks j mark }
 {
@@ -48,104 +26,46 @@ pub fn set_mark(marks: [bool; 8], j: u8, mark: bool) -> [bool; 8]
 }
 
 // The lowest number marked, 8 where none is.
+// Kept: 8 and no Option: the definition `lowest` says 8, and `or_lowest` and `next_up` go on with it.
 pub fn lowest(marks: [bool; 8]) -> u8
     ensures { result ≡ lowest marks }
 {
-    let mut i: u8 = 0;
-    while i < 8 {
-        if marks[i as usize] {
-            return i;
-        }
-        i += 1;
-    }
-    8
+    (0..8).find(|&i| marked(marks, i)).unwrap_or(8)
 }
 
 // Every one that is wanted is had.
 pub fn covers(have: [bool; 8], want: [bool; 8]) -> bool
     ensures { result ≡ covers have want }
 {
-    let mut all = true;
-    let mut cabinet = 0;
-    while cabinet < 8 {
-        all = and(all, or(!want[cabinet], have[cabinet]));
-        cabinet += 1;
-    }
-    all
-}
-
-// Number i is marked in both.
-fn in_both(a: [bool; 8], b: [bool; 8], i: u8) -> bool
-    ensures { result ≡ in_both a b i }
-{
-    and(marked(a, i), marked(b, i))
+    (0..8).all(|i| !marked(want, i) || marked(have, i))
 }
 
 // The marks that stand in both.
 pub fn both(a: [bool; 8], b: [bool; 8]) -> [bool; 8]
     ensures { result ≡ both a b }
 {
-    [
-        in_both(a, b, 0),
-        in_both(a, b, 1),
-        in_both(a, b, 2),
-        in_both(a, b, 3),
-        in_both(a, b, 4),
-        in_both(a, b, 5),
-        in_both(a, b, 6),
-        in_both(a, b, 7),
-    ]
-}
-
-fn in_either(a: [bool; 8], b: [bool; 8], i: u8) -> bool
-    ensures { result ≡ in_either a b i }
-{
-    or(marked(a, i), marked(b, i))
+    array::from_fn(|i| a[i] && b[i])
 }
 
 // The marks that stand in either row.
 pub fn either(a: [bool; 8], b: [bool; 8]) -> [bool; 8]
     ensures { result ≡ either a b }
 {
-    [
-        in_either(a, b, 0),
-        in_either(a, b, 1),
-        in_either(a, b, 2),
-        in_either(a, b, 3),
-        in_either(a, b, 4),
-        in_either(a, b, 5),
-        in_either(a, b, 6),
-        in_either(a, b, 7),
-    ]
-}
-
-fn in_first(a: [bool; 8], b: [bool; 8], i: u8) -> bool
-    ensures { result ≡ in_first a b i }
-{
-    and(marked(a, i), !marked(b, i))
+    array::from_fn(|i| a[i] || b[i])
 }
 
 // The marks of the first row that do not stand in the second.
 pub fn without(a: [bool; 8], b: [bool; 8]) -> [bool; 8]
     ensures { result ≡ without a b }
 {
-    [
-        in_first(a, b, 0),
-        in_first(a, b, 1),
-        in_first(a, b, 2),
-        in_first(a, b, 3),
-        in_first(a, b, 4),
-        in_first(a, b, 5),
-        in_first(a, b, 6),
-        in_first(a, b, 7),
-    ]
+    array::from_fn(|i| a[i] && !b[i])
 }
 
 // The numbers above x.
 fn above(x: u8) -> [bool; 8]
     ensures { result ≡ above x }
 {
-    [x < 0, x < 1, x < 2, x < 3, x < 4, x < 5, x < 6, x < 7]
+    array::from_fn(|i| (x as usize) < i)
 }
 
 // The number i, or where that is none the lowest marked.
@@ -181,39 +101,24 @@ pub fn struck(rows: [[bool; 8]; 8], a: u8, b: u8) -> [[bool; 8]; 8]
 }
 
 // One that is seen has a mark for j.
-fn touched(rows: [[bool; 8]; 8], seen: [bool; 8], j: usize) -> bool
-    requires { j < 8 }
+fn touched(rows: [[bool; 8]; 8], seen: [bool; 8], j: u8) -> bool
     ensures { result ≡ touched 8 rows seen j }
 {
-    let mut some = false;
-    let mut i = 0;
-    while i < 8 {
-        some = or(some, and(seen[i], rows[i][j]));
-        i += 1;
-    }
-    some
+    (0..8).any(|i| seen[i] && marked(rows[i], j))
 }
 
 // j works, is not yet seen, and a seen one has a mark for it.
-fn fresh(rows: [[bool; 8]; 8], working: [bool; 8], seen: [bool; 8], j: usize) -> bool
-    requires { j < 8 }
+fn fresh(rows: [[bool; 8]; 8], working: [bool; 8], seen: [bool; 8], j: u8) -> bool
     ensures { result ≡ fresh rows working seen j }
 {
-    and(working[j], and(!seen[j], touched(rows, seen, j)))
+    marked(working, j) && !marked(seen, j) && touched(rows, seen, j)
 }
 
 // The lowest fresh one, 8 where none is.
-fn next(rows: [[bool; 8]; 8], working: [bool; 8], seen: [bool; 8]) -> usize
+fn next(rows: [[bool; 8]; 8], working: [bool; 8], seen: [bool; 8]) -> u8
     ensures { result ≡ next rows working seen }
 {
-    let mut j = 0;
-    while j < 8 {
-        if fresh(rows, working, seen, j) {
-            return j;
-        }
-        j += 1;
-    }
-    8
+    (0..8).find(|&j| fresh(rows, working, seen, j)).unwrap_or(8)
 }
 
 // The seen ones with all that are reached from them. It ends since one fewer is unseen at each call.
@@ -222,23 +127,17 @@ fn grow(rows: [[bool; 8]; 8], working: [bool; 8], seen: [bool; 8]) -> [bool; 8]
 {
     let found = next(rows, working, seen);
     if found < 8 {
-        let mut more = seen;
-        more[found] = true;
-        return grow(rows, working, more);
+        grow(rows, working, set_mark(seen, found, true))
+    } else {
+        seen
     }
-    seen
 }
 
 // Just the lowest working one, or none where none works.
 fn first(working: [bool; 8]) -> [bool; 8]
     ensures { result ≡ first working }
 {
-    let lowest_one = lowest(working);
-    let mut marks = [false; 8];
-    if lowest_one < 8 {
-        marks[lowest_one as usize] = true;
-    }
-    marks
+    set_mark([false; 8], lowest(working), true)
 }
 
 // Those reached from the lowest working one.

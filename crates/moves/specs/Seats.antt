@@ -8,7 +8,7 @@ use Rattle.state.specs.declared.Version.{Version}
 use Rattle.state.specs.declared.Version.TheVariants.{Known, Unknown, Lost}
 use Rattle.state.specs.State.{flipped}
 use Rattle.settled.specs.declared.Reason.{Reason}
-use Rattle.settled.specs.declared.Settled.{Settled}
+use Rattle.settled.specs.Settled.{Settled}
 use Rattle.settled.specs.Settled.{enters}
 use Rattle.cabinet.specs.declared.Cabinet.{Cabinet}
 use Rattle.cabinet.specs.Cabinet.{in_use, beginning, cutting, resuming, recovering, alarmed}

@@ -11,24 +11,21 @@ use group::Group;
 use outgoing::Outgoing;
 use packet::{Packet, Place};
 use seat::Seat;
-use settled::{Reason, Settled};
+use settled::{First, Reason};
 use state::{State, Version};
 
 // In normal or in one of the three saving states.
 pub fn serving(s: State) -> bool
     ensures { result ≡ serving s }
 {
-    let begun = marks::or(state::is_in(s, State::CheckpBegin), state::in_saving(s));
-    marks::or(state::is_in(s, State::Normal), begun)
+    s == State::Normal || s == State::CheckpBegin || state::in_saving(s)
 }
 
 // A packet on all lines in use.
 fn broadcast(s: Seat, p: Packet) -> Seat
     ensures { result ≡ broadcast s p }
 {
-    let c = s.cabinet;
-    let o = s.lines;
-    s.with_lines(o.put_all(c.in_use(), p))
+    s.with_lines(s.lines.put_all(s.cabinet.in_use(), p))
 }
 
 // ---- saving
@@ -37,37 +34,31 @@ fn broadcast(s: Seat, p: Packet) -> Seat
 pub fn join(s: Seat) -> Seat
     ensures { result ≡ join s }
 {
-    let c = s.cabinet;
-    let o = s.lines;
-    let registers = c.registers;
-    let sent = registers.sent;
-    let begun = s.with_cabinet(c.beginning());
-    begun.with_lines(o.put_checkps(c.in_use(), sent))
+    let begun = s.with_cabinet(s.cabinet.beginning());
+    begun.with_lines(
+        s.lines
+            .put_checkps(s.cabinet.in_use(), s.cabinet.registers.sent),
+    )
 }
 
 pub fn cut_if_all(s: Seat) -> Seat
     ensures { result ≡ cut_if_all s }
 {
-    let c = s.cabinet;
-    s.with_cabinet(c.cutting())
+    s.with_cabinet(s.cabinet.cutting())
 }
 
 // It enters normal with a version and puts resume on all lines in use.
 fn resume_with(s: Seat, v: Version) -> Seat
     ensures { result ≡ resume_with s v }
 {
-    let c = s.cabinet;
-    broadcast(s.with_cabinet(c.resuming(v)), Packet::Resume)
+    broadcast(s.with_cabinet(s.cabinet.resuming(v)), Packet::Resume)
 }
 
 // The coordinator commits.
 pub fn commit(s: Seat) -> Seat
     ensures { result ≡ commit s }
 {
-    let c = s.cabinet;
-    let phase = c.phase;
-    let v = phase.version;
-    resume_with(s, state::flipped(v))
+    resume_with(s, state::flipped(s.cabinet.phase.version))
 }
 
 // ---- recovering
@@ -76,8 +67,7 @@ pub fn commit(s: Seat) -> Seat
 pub fn recover_with(s: Seat, v: bool) -> Seat
     ensures { result ≡ recover_with s v }
 {
-    let c = s.cabinet;
-    broadcast(s.with_cabinet(c.recovering(v)), Packet::Recover(v))
+    broadcast(s.with_cabinet(s.cabinet.recovering(v)), Packet::Recover(v))
 }
 
 fn recover_if_known(s: Seat, v: Version) -> Seat
@@ -85,8 +75,7 @@ fn recover_if_known(s: Seat, v: Version) -> Seat
 {
     match v {
         Version::Known(bit) => recover_with(s, bit),
-        Version::Unknown(_) => s,
-        Version::Lost => s,
+        Version::Unknown(_) | Version::Lost => s,
     }
 }
 
@@ -94,39 +83,30 @@ fn recover_if_known(s: Seat, v: Version) -> Seat
 fn raise(s: Seat, i: u8, p: Place) -> Seat
     ensures { result ≡ raise s i p }
 {
-    let c = s.cabinet;
-    let struck = s.with_cabinet(c.alarmed(i, p));
+    let struck = s.with_cabinet(s.cabinet.alarmed(i, p));
     broadcast(struck.with_lines(Outgoing::empty()), Packet::Fault(p))
 }
 
 pub fn enter_error(s: Seat, i: u8, p: Place) -> Seat
     ensures { result ≡ enter_error s i p }
 {
-    let c = s.cabinet;
-    let phase = c.phase;
-    let v = phase.version;
-    recover_if_known(raise(s, i, p), v)
+    recover_if_known(raise(s, i, p), s.cabinet.phase.version)
 }
 
 // Why cabinet i could go on, as it is before it enters error.
 fn reason_for(c: Cabinet, i: u8) -> Reason
     ensures { result ≡ reason_for c i }
 {
-    let phase = c.phase;
-    let state = phase.state;
-    settled::reason_of(c.coordinator() == i, state)
+    settled::reason_of(c.coordinator() == i, c.phase.state)
 }
 
 // Which word settles the recovery, once cabinet i, which is c before it, enters error: its own may where it knows its version.
-pub fn word_by(settled: Settled, c: Cabinet, i: u8) -> Settled
+pub fn word_by(settled: Option<First>, c: Cabinet, i: u8) -> Option<First>
     ensures { result ≡ word_by settled c i }
 {
-    let phase = c.phase;
-    let version = phase.version;
-    match version {
-        Version::Known(_) => settled.enters(i, reason_for(c, i)),
-        Version::Unknown(_) => settled,
-        Version::Lost => settled,
+    match c.phase.version {
+        Version::Known(_) => settled::enters(settled, i, reason_for(c, i)),
+        Version::Unknown(_) | Version::Lost => settled,
     }
 }
 
@@ -135,16 +115,11 @@ pub fn alarm(g: Group, i: u8, p: Place) -> Group
     ensures { result ≡ group_enters_error g i p }
 {
     let s = seat::taken_out(g, i);
-    let c = s.cabinet;
-    let before = g.settled;
-    seat::stored(g, i, enter_error(s, i, p)).with_settled(word_by(before, c, i))
+    seat::stored(g, i, enter_error(s, i, p)).with_settled(word_by(g.settled, s.cabinet, i))
 }
 
 pub fn end_recovery(s: Seat) -> Seat
     ensures { result ≡ end_recovery s }
 {
-    let c = s.cabinet;
-    let phase = c.phase;
-    let v = phase.version;
-    resume_with(s, v)
+    resume_with(s, s.cabinet.phase.version)
 }

@@ -27,6 +27,7 @@ pub enum Sort {
 
 // The save that the rule gives: the number of the operation that made it, that of the save before, its coordinator, and whether a
 // cabinet took its resume or was restored from it.
+// Kept: 8 and no Option for no coordinator: the definition `passed` compares it with the number of a cabinet.
 #[derive(Clone, Copy)]
 pub struct Newest {
     pub number: u16,
@@ -41,19 +42,10 @@ fn sort_of(s: Step) -> Sort
     ensures { result ≡ sort_of s }
 {
     match s {
-        Step::Send {
-            a: _,
-            b: _,
-            p: _,
-            q: _,
-        } => Sort::Other,
-        Step::Note { a: _, p: _, q: _ } => Sort::Other,
-        Step::Begin { a: _ } => Sort::Other,
         Step::Deliver { a, b } => Sort::Delivery {
             a: records::before(a),
             b: records::before(b),
         },
-        Step::Write { a: _ } => Sort::Other,
         Step::Saved { a } => Sort::SavedReport {
             a: records::before(a),
         },
@@ -63,20 +55,10 @@ fn sort_of(s: Step) -> Sort
         Step::Restored { a } => Sort::RestoredReport {
             a: records::before(a),
         },
-        Step::Fail { a } => Sort::Loss {
+        Step::Fail { a } | Step::Trip { a } => Sort::Loss {
             a: records::before(a),
         },
-        Step::Damage {
-            a: _,
-            b: _,
-            p: _,
-            w: _,
-        } => Sort::Other,
-        Step::Lose { a: _, b: _, p: _ } => Sort::Other,
-        Step::Trip { a } => Sort::Loss {
-            a: records::before(a),
-        },
-        Step::Unsure { a: _ } => Sort::Other,
+        _ => Sort::Other,
     }
 }
 
@@ -84,8 +66,7 @@ fn sort_in(d: Decoded) -> Sort
     ensures { result ≡ sort_in d }
 {
     match d {
-        Decoded::Malformed => Sort::Other,
-        Decoded::Unused => Sort::Other,
+        Decoded::Malformed | Decoded::Unused => Sort::Other,
         Decoded::Taken(s) => sort_of(s),
     }
 }
@@ -106,10 +87,7 @@ pub fn sort_for(o: Order) -> Sort
 pub fn goes(before: Group, after: Group, i: u8, s: State, t: State) -> bool
     ensures { result ≡ goes before after i s t }
 {
-    marks::and(
-        state::is_in(before.state_of(i), s),
-        state::is_in(after.state_of(i), t),
-    )
+    before.state_of(i) == s && after.state_of(i) == t
 }
 
 impl Newest {
@@ -130,8 +108,8 @@ impl Newest {
         Newest {
             number: k,
             before: self.number,
-            by: by,
-            known: known,
+            by,
+            known,
         }
     }
 
@@ -150,10 +128,8 @@ impl Newest {
     {
         if told {
             Newest {
-                number: self.number,
-                before: self.before,
-                by: self.by,
                 known: true,
+                ..self
             }
         } else {
             self
@@ -163,9 +139,7 @@ impl Newest {
     fn passed(self, a: u8) -> Newest
         ensures { result ≡ passed self a }
     {
-        let alone = !self.known;
-        let own = self.by == a;
-        if marks::and(own, alone) {
+        if self.by == a && !self.known {
             Newest {
                 number: self.before,
                 before: self.before,
@@ -181,12 +155,8 @@ impl Newest {
     fn reported(self, k: u16, before: Group, after: Group, a: u8) -> Newest
         ensures { result ≡ newest_by self k before after (SavedReport a) }
     {
-        let home = before.cabinet(before.home(a));
-        let c = home.coordinator();
-        let commits = marks::and(
-            state::in_saving(before.state_of(c)),
-            state::is_in(after.state_of(c), State::Normal),
-        );
+        let c = before.cabinet(before.home(a)).coordinator();
+        let commits = state::in_saving(before.state_of(c)) && after.state_of(c) == State::Normal;
         self.made_if(commits, k, c)
     }
 
@@ -194,7 +164,7 @@ impl Newest {
         ensures { result ≡ newest_by self k before after s }
     {
         match s {
-            Sort::Delivery { a: _, b } => self.known_if(goes(
+            Sort::Delivery { b, .. } => self.known_if(goes(
                 before,
                 after,
                 b,
@@ -209,14 +179,14 @@ impl Newest {
                 State::Recovering,
                 State::Recovered,
             )),
-            Sort::RestoredReport { a: _ } => self,
             Sort::Loss { a } => self.passed(a),
             Sort::Returning => self.made(k, 8, true),
-            Sort::Other => self,
+            Sort::RestoredReport { .. } | Sort::Other => self,
         }
     }
 
     // After operation k.
+    // Kept: the answer is asked first, and the groups before and after go one by one, as the definition `newest_in` has both.
     pub fn after(self, answer: u8, k: u16, before: Group, after: Group, s: Sort) -> Newest
         ensures { result ≡ newest_in answer self k before after s }
     {

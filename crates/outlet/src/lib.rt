@@ -2,10 +2,10 @@
 #![tactic(auto)]
 
 ghost use Rattle.std.specs.Prelude.{◌≡◌};
-ghost use Rattle.outlet.specs.Outlet.{octet_of, ends_of, party_of, same_party};
+ghost use Rattle.outlet.specs.Outlet.{octet_of, ends_of, party_of};
 
 // What a cabinet books for: its outlets A and B, and the workshop.
-#[derive(Clone, Copy)]
+#[derive(Clone, Copy, PartialEq, Eq)]
 pub enum Outlet {
     A,
     B,
@@ -13,27 +13,29 @@ pub enum Outlet {
 }
 
 // Who sends over the lines.
-#[derive(Clone, Copy)]
+#[derive(Clone, Copy, PartialEq, Eq)]
 pub enum Party {
     Buses,
     Workshop,
 }
 
 // The outlets at the two ends of a send.
-#[derive(Clone, Copy)]
+#[derive(Clone, Copy, PartialEq, Eq)]
 pub struct Ends {
     pub from: Outlet,
     pub to: Outlet,
 }
 
 // The first octet of a packet for this outlet.
-pub fn octet_of(outlet: Outlet) -> u8
-    ensures { result ≡ octet_of outlet }
-{
-    match outlet {
-        Outlet::A => 0x00,
-        Outlet::B => 0x01,
-        Outlet::W => 0x02,
+impl From<Outlet> for u8 {
+    ghost from_gives = { λ outlet n. n ≡ octet_of outlet };
+
+    fn from(outlet: Outlet) -> u8 {
+        match outlet {
+            Outlet::A => 0x00,
+            Outlet::B => 0x01,
+            Outlet::W => 0x02,
+        }
     }
 }
 
@@ -41,34 +43,14 @@ pub fn octet_of(outlet: Outlet) -> u8
 pub fn ends_of(p: u8) -> Ends
     ensures { result ≡ ends_of p }
 {
-    if p == 0 {
-        return Ends {
-            from: Outlet::A,
-            to: Outlet::A,
-        };
-    }
-    if p == 1 {
-        return Ends {
-            from: Outlet::A,
-            to: Outlet::B,
-        };
-    }
-    if p == 2 {
-        return Ends {
-            from: Outlet::B,
-            to: Outlet::A,
-        };
-    }
-    if p == 3 {
-        return Ends {
-            from: Outlet::B,
-            to: Outlet::B,
-        };
-    }
-    Ends {
-        from: Outlet::W,
-        to: Outlet::W,
-    }
+    let (from, to) = match p {
+        0 => (Outlet::A, Outlet::A),
+        1 => (Outlet::A, Outlet::B),
+        2 => (Outlet::B, Outlet::A),
+        3 => (Outlet::B, Outlet::B),
+        _ => (Outlet::W, Outlet::W),
+    };
+    Ends { from, to }
 }
 
 // Whose outlet it is.
@@ -76,23 +58,7 @@ pub fn party_of(outlet: Outlet) -> Party
     ensures { result ≡ party_of outlet }
 {
     match outlet {
-        Outlet::A => Party::Buses,
-        Outlet::B => Party::Buses,
+        Outlet::A | Outlet::B => Party::Buses,
         Outlet::W => Party::Workshop,
-    }
-}
-
-pub fn same_party(one: Party, other: Party) -> bool
-    ensures { result ≡ same_party one other }
-{
-    match one {
-        Party::Buses => match other {
-            Party::Buses => true,
-            Party::Workshop => false,
-        },
-        Party::Workshop => match other {
-            Party::Buses => false,
-            Party::Workshop => true,
-        },
     }
 }

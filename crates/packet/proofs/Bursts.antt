@@ -1,4 +1,5 @@
 -- What a packet's own check sees, and what damage does to a normal packet, proved for every packet and every pattern.
+use Rattle.std.specs.Prelude.{None, Some}
 use Rattle.std.proofs.Common.{◌≡◌, ℕ, ◌+◌, ◌*◌, ◌/◌, ◌%◌, ◌^◌, ◌<◌, Bool, true, cond, ◌&&◌, ltb, [], ◌∷◌, ◌++◌, replicate, sym, refl, ap, ◌∙◌, arith, ltb-true, eq-eqb, ne_eqb, eqb-true}
 use mathlib.Core.Bool.{and-eq-true_iff}
 use lib.Bits.{bit_xor, xor_lt, xor_comm, xor_zero_l}
@@ -8,8 +9,7 @@ use Rattle.crc.proofs.Laws.{checked_zero, zero_alike, burst_seen}
 use Rattle.outlet.specs.Outlet.{octet_of}
 use Rattle.packet.specs.declared.PacketVersion.{PacketVersion}
 use Rattle.packet.specs.declared.PacketVersion.TheVariants.{One, Two}
-use Rattle.packet.specs.declared.OwnCheck.{OwnCheck}
-use Rattle.packet.specs.declared.OwnCheck.TheVariants.{Unchecked, Checked}
+use Rattle.packet.specs.Packet.{OwnCheck}
 use Rattle.packet.specs.declared.Pattern.{Pattern}
 use Rattle.packet.specs.declared.Payload.{Payload}
 use Rattle.packet.specs.Packet.{first_three, own_check, own_octets, octets_of, fits_with, fits, in_reach, shifted, may_shift, pattern_right, hurt_as, hurt_by}
@@ -23,16 +23,16 @@ put_fits Two o m = eq-eqb (own_check o m) (own_check o m) refl
 -- ---- for each kind of own check
 
 outlet_as : (k : OwnCheck) (p : Payload) (w : Pattern) → p.outlet ≡ (hurt_as k p w).outlet
-outlet_as Unchecked p w = refl
-outlet_as (Checked c) p w = refl
+outlet_as None p w = refl
+outlet_as (Some c) p w = refl
 
 pub outlet_kept : OutletKept
 unfolding hurt_by
 outlet_kept p w = outlet_as p.own p w
 
 amount_as : (k : OwnCheck) (p : Payload) (w : Pattern) → p.amount < 65536 → w.mask < 65536 → (hurt_as k p w).amount < 65536
-amount_as Unchecked p w below short = xor_lt 16 p.amount w.mask below short
-amount_as (Checked c) p w below short = xor_lt 16 p.amount (shifted w / 65536 % 65536) below (omega arith)
+amount_as None p w below short = xor_lt 16 p.amount w.mask below short
+amount_as (Some c) p w below short = xor_lt 16 p.amount (shifted w / 65536 % 65536) below (omega arith)
 
 pub bounded : Bounded
 unfolding hurt_by
@@ -66,23 +66,23 @@ xor_changes a x some same = omega (arith, xor_cancel 0 x a (xor_zero_l a ∙ sam
 pub amounts_change : AmountsChange
 unfolding hurt_by
 amounts_change p none v w right =
-    let alike : hurt_by p w ≡ hurt_as Unchecked p w = ap (λ (k : OwnCheck). hurt_as k p w) none in (
+    let alike : hurt_by p w ≡ hurt_as None p w = ap (λ (k : OwnCheck). hurt_as k p w) none in (
       ap (λ (x : Payload). x.own) alike,
       λ same. xor_changes p.amount w.mask (taken v w right).changes (same ∙ ap (λ (x : Payload). x.amount) alike),
     )
 
 -- a packet that fits carries the check of its first three octets
-carries : (p : Payload) (c : ℕ) → p.own ≡ Checked c → fits p ≡ true → c ≡ own_check p.outlet p.amount
+carries : (p : Payload) (c : ℕ) → p.own ≡ Some c → fits p ≡ true → c ≡ own_check p.outlet p.amount
 unfolding fits
 carries p c own fit = eqb-true c _ (sym (ap (λ (k : OwnCheck). fits_with k (own_check p.outlet p.amount)) own) ∙ fit)
 
 -- what it leaves in a register: as much as five octets of 0
-leaves : (p : Payload) (c r : ℕ) → p.own ≡ Checked c → fits p ≡ true → crc_from r (octets_of p) ≡ crc_from (bit_xor start r) (replicate 5 0)
+leaves : (p : Payload) (c r : ℕ) → p.own ≡ Some c → fits p ≡ true → crc_from r (octets_of p) ≡ crc_from (bit_xor start r) (replicate 5 0)
 unfolding own_check
 leaves p c r own fit =
     let three = first_three p.outlet p.amount in
     let whole : octets_of p ≡ three ++ crc three / 256 ∷ crc three % 256 ∷ []
-    = ap (λ (k : OwnCheck). three ++ own_octets k) (own ∙ ap (λ (x : ℕ). Checked x) (carries p c own fit)) in
+    = ap (λ (k : OwnCheck). three ++ own_octets k) (own ∙ ap (λ (x : ℕ). Some x) (carries p c own fit)) in
     ap (crc_from r) whole ∙ zero_alike (three ++ crc three / 256 ∷ crc three % 256 ∷ []) r (checked_zero three)
 
 pub fitting_alike : FittingAlike

@@ -1,13 +1,11 @@
 -- Document 01, "Packets and the link check", with document 02, cards 2, 3, 5 and 7: what packets carry, the check registers, fault places, damage.
-use Rattle.std.specs.Prelude.{ℕ, ◌+◌, ◌*◌, ◌/◌, ◌%◌, ◌^◌, Bool, true, false, cond, ◌&&◌, List, [], ◌∷◌, ◌++◌, ◌==◌, bit_xor, nat_le, nat_lt}
+use Rattle.std.specs.Prelude.{ℕ, ◌+◌, ◌*◌, ◌/◌, ◌%◌, ◌^◌, Bool, true, false, cond, ◌&&◌, List, [], ◌∷◌, ◌++◌, ◌==◌, bit_xor, nat_le, nat_lt, Option, None, Some}
 use Rattle.outlet.specs.declared.Outlet.{Outlet}
 use Rattle.outlet.specs.declared.Party.{Party}
 use Rattle.outlet.specs.Outlet.{octet_of, party_of, same_party}
 use Rattle.crc.specs.Crc.{start, crc_from, crc}
 use Rattle.packet.specs.declared.PacketVersion.{PacketVersion}
 use Rattle.packet.specs.declared.PacketVersion.TheVariants.{One, Two}
-use Rattle.packet.specs.declared.OwnCheck.{OwnCheck}
-use Rattle.packet.specs.declared.OwnCheck.TheVariants.{Unchecked, Checked}
 use Rattle.packet.specs.declared.Pattern.{Pattern}
 use Rattle.packet.specs.declared.Payload.{Payload}
 use Rattle.packet.specs.declared.Check.{Check}
@@ -15,6 +13,10 @@ use Rattle.packet.specs.declared.Place.{Place}
 use Rattle.packet.specs.declared.Place.TheVariants.{Failed, Tripped, Link}
 use Rattle.packet.specs.declared.Packet.{Packet}
 use Rattle.packet.specs.declared.Packet.TheVariants.{Empty, Normal, Checkp, Resume, Recover, Fault, Invalid}
+
+-- the check that a normal packet carries of itself, if any
+abbrev pub OwnCheck : Type 0
+OwnCheck = Option ℕ
 
 -- ---- what a normal packet carries
 
@@ -28,23 +30,23 @@ own_check o m = crc (first_three o m)
 
 -- a packet as it is put: "Groups of packet version 2 send normal packets with two more octets"
 abbrev pub own_in : PacketVersion → Outlet → ℕ → OwnCheck
-own_in One o m = Unchecked
-own_in Two o m = Checked (own_check o m)
+own_in One o m = None
+own_in Two o m = Some (own_check o m)
 
 abbrev pub packed : PacketVersion → Outlet → ℕ → Payload
 packed v o m = record { outlet = o; amount = m; own = own_in v o m }
 
 abbrev pub own_octets : OwnCheck → List ℕ
-own_octets Unchecked = []
-own_octets (Checked c) = c / 256 ∷ c % 256 ∷ []
+own_octets None = []
+own_octets (Some c) = c / 256 ∷ c % 256 ∷ []
 
 abbrev pub octets_of : Payload → List ℕ
 octets_of p = first_three p.outlet p.amount ++ own_octets p.own
 
 -- "The receiver compares on taking it": a packet that carries no check of its own has nothing to compare
 abbrev pub fits_with : OwnCheck → ℕ → Bool
-fits_with Unchecked x = true
-fits_with (Checked c) x = c == x
+fits_with None x = true
+fits_with (Some c) x = c == x
 
 unfoldable pub fits : Payload → Bool
 fits p = fits_with p.own (own_check p.outlet p.amount)
@@ -131,11 +133,11 @@ pattern_right v w = nat_lt 0 w.mask && (in_reach w && (nat_lt (shifted w) (2 ^ 3
 -- "Damage may hit all five octets but the first": amount and check are one number of four octets, on which the shifted pattern is XORed.
 -- Where a packet carries no check, the "pattern q XORed on a normal amount". The outlet is left as it is
 abbrev pub hurt_as : OwnCheck → Payload → Pattern → Payload
-hurt_as Unchecked p w = record { outlet = p.outlet; amount = bit_xor p.amount w.mask; own = Unchecked }
-hurt_as (Checked c) p w = record {
+hurt_as None p w = record { outlet = p.outlet; amount = bit_xor p.amount w.mask; own = None }
+hurt_as (Some c) p w = record {
   outlet = p.outlet;
   amount = bit_xor p.amount (shifted w / 65536 % 65536);
-  own = Checked (bit_xor c (shifted w % 65536));
+  own = Some (bit_xor c (shifted w % 65536));
 }
 
 unfoldable pub hurt_by : Payload → Pattern → Payload

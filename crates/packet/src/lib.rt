@@ -2,24 +2,17 @@
 // Cabinets are numbered 0 to 7 here: a cabinet's number in a file or a record, less one.
 #![tactic(auto)]
 
-ghost use Rattle.std.specs.Prelude.{◌≡◌, ◌*◌, ◌^◌, ◌<◌, ◌&&◌, ◌==◌};
+ghost use Rattle.std.specs.Prelude.{◌≡◌, ◌*◌, ◌^◌, ◌<◌};
 ghost use Rattle.crc.specs.Crc.{crc_from};
-ghost use Rattle.packet.specs.Packet.{first_three, own_check, own_in, packed, own_octets, fits, start_check, step_check, same_check, link_place, same_place, is_empty, is_normal, is_of, in_reach, shifted, may_shift, pattern_right, hurt_by, damaged};
+ghost use Rattle.packet.specs.Packet.{first_three, own_check, own_in, packed, own_octets, fits, start_check, step_check, link_place, is_empty, is_normal, is_of, in_reach, shifted, may_shift, pattern_right, hurt_by, damaged};
 
 use outlet::{Outlet, Party};
 
 // The packet version of a group: in version 2 each normal packet carries a check of its own.
-#[derive(Clone, Copy)]
+#[derive(Clone, Copy, PartialEq, Eq)]
 pub enum PacketVersion {
     One,
     Two,
-}
-
-// The check that a normal packet carries of itself, if any.
-#[derive(Clone, Copy)]
-pub enum OwnCheck {
-    Unchecked,
-    Checked(u16),
 }
 
 // What a normal packet carries: the receiving outlet, the amount that changes hands, and its own check.
@@ -27,7 +20,7 @@ pub enum OwnCheck {
 pub struct Payload {
     pub outlet: Outlet,
     pub amount: u16,
-    pub own: OwnCheck,
+    pub own: Option<u16>,
 }
 
 // What damage hits a packet with: a pattern, shifted up by so many bits and then by so many octets.
@@ -39,14 +32,14 @@ pub struct Pattern {
 }
 
 // What a check register and a checkp packet hold.
-#[derive(Clone, Copy)]
+#[derive(Clone, Copy, PartialEq, Eq)]
 pub struct Check {
     pub crc: u16,
     pub count: u16,
 }
 
 // Where a fault is: a cabinet that failed, one that tripped, or a link named lower number first.
-#[derive(Clone, Copy)]
+#[derive(Clone, Copy, PartialEq, Eq)]
 pub enum Place {
     Failed(u8),
     Tripped(u8),
@@ -54,6 +47,7 @@ pub enum Place {
 }
 
 // What stands in one place of a line: nothing, or a packet.
+// Kept: Empty is one of the packets and no Option: it is the project's enum, by which definitions and theorems read lines.
 #[derive(Clone, Copy)]
 pub enum Packet {
     Empty,
@@ -71,21 +65,19 @@ pub enum Packet {
 fn over_three(register: u16, outlet: Outlet, amount: u16) -> u16
     ensures { result ≡ crc_from register (first_three outlet amount) }
 {
-    let high = (amount / 256) as u8;
-    let low = (amount % 256) as u8;
-    let first = crc::octet(register, outlet::octet_of(outlet));
+    let [high, low] = amount.to_be_bytes();
+    let first = crc::octet(register, u8::from(outlet));
     crc::octet(crc::octet(first, high), low)
 }
 
 // .. and after those of the packet's own check, if it carries one.
-fn over_own(register: u16, own: OwnCheck) -> u16
+fn over_own(register: u16, own: Option<u16>) -> u16
     ensures { result ≡ crc_from register (own_octets own) }
 {
     match own {
-        OwnCheck::Unchecked => register,
-        OwnCheck::Checked(c) => {
-            let high = (c / 256) as u8;
-            let low = (c % 256) as u8;
+        None => register,
+        Some(c) => {
+            let [high, low] = c.to_be_bytes();
             crc::octet(crc::octet(register, high), low)
         }
     }
@@ -99,12 +91,12 @@ fn own_check(outlet: Outlet, amount: u16) -> u16
 }
 
 // What a packet carries as its own check in a group of that packet version.
-fn own_in(version: PacketVersion, outlet: Outlet, amount: u16) -> OwnCheck
+fn own_in(version: PacketVersion, outlet: Outlet, amount: u16) -> Option<u16>
     ensures { result ≡ own_in version outlet amount }
 {
     match version {
-        PacketVersion::One => OwnCheck::Unchecked,
-        PacketVersion::Two => OwnCheck::Checked(own_check(outlet, amount)),
+        PacketVersion::One => None,
+        PacketVersion::Two => Some(own_check(outlet, amount)),
     }
 }
 
@@ -113,8 +105,8 @@ pub fn packed(version: PacketVersion, outlet: Outlet, amount: u16) -> Payload
     ensures { result ≡ packed version outlet amount }
 {
     Payload {
-        outlet: outlet,
-        amount: amount,
+        outlet,
+        amount,
         own: own_in(version, outlet, amount),
     }
 }
@@ -123,12 +115,9 @@ pub fn packed(version: PacketVersion, outlet: Outlet, amount: u16) -> Payload
 pub fn fits(p: Payload) -> bool
     ensures { result ≡ fits p }
 {
-    let outlet = p.outlet;
-    let own = p.own;
-    let right = own_check(outlet, p.amount);
-    match own {
-        OwnCheck::Unchecked => true,
-        OwnCheck::Checked(c) => c == right,
+    match p.own {
+        None => true,
+        Some(c) => c == own_check(p.outlet, p.amount),
     }
 }
 
@@ -148,20 +137,10 @@ impl Check {
     pub fn step(self, p: Payload) -> Check
         ensures { result ≡ step_check self p }
     {
-        let outlet = p.outlet;
-        let own = p.own;
         Check {
-            crc: over_own(over_three(self.crc, outlet, p.amount), own),
-            count: std::num::wrapping_add_u16(self.count, 1),
+            crc: over_own(over_three(self.crc, p.outlet, p.amount), p.own),
+            count: self.count.wrapping_add(1),
         }
-    }
-
-    pub fn same(self, other: Check) -> bool
-        ensures { result ≡ same_check self other }
-    {
-        let crcs = self.crc == other.crc;
-        let counts = self.count == other.count;
-        crcs && counts
     }
 }
 
@@ -177,62 +156,16 @@ pub fn link_place(a: u8, b: u8) -> Place
     }
 }
 
-pub fn same_place(p: Place, q: Place) -> bool
-    ensures { result ≡ same_place p q }
-{
-    match p {
-        Place::Failed(a) => match q {
-            Place::Failed(b) => a == b,
-            Place::Tripped(_) => false,
-            Place::Link(_, _) => false,
-        },
-        Place::Tripped(a) => match q {
-            Place::Failed(_) => false,
-            Place::Tripped(b) => a == b,
-            Place::Link(_, _) => false,
-        },
-        Place::Link(a, b) => match q {
-            Place::Failed(_) => false,
-            Place::Tripped(_) => false,
-            Place::Link(c, d) => both_equal(a, c, b, d),
-        },
-    }
-}
-
-fn both_equal(a: u8, b: u8, c: u8, d: u8) -> bool
-    ensures { result ≡ (a == b && c == d) }
-{
-    let first = a == b;
-    let second = c == d;
-    first && second
-}
-
 pub fn is_empty(p: Packet) -> bool
     ensures { result ≡ is_empty p }
 {
-    match p {
-        Packet::Empty => true,
-        Packet::Normal(_) => false,
-        Packet::Checkp(_) => false,
-        Packet::Resume => false,
-        Packet::Recover(_) => false,
-        Packet::Fault(_) => false,
-        Packet::Invalid => false,
-    }
+    matches!(p, Packet::Empty)
 }
 
 pub fn is_normal(p: Packet) -> bool
     ensures { result ≡ is_normal p }
 {
-    match p {
-        Packet::Empty => false,
-        Packet::Normal(_) => true,
-        Packet::Checkp(_) => false,
-        Packet::Resume => false,
-        Packet::Recover(_) => false,
-        Packet::Fault(_) => false,
-        Packet::Invalid => false,
-    }
+    matches!(p, Packet::Normal(_))
 }
 
 // A normal packet of a party.
@@ -240,16 +173,8 @@ pub fn is_of(party: Party, p: Packet) -> bool
     ensures { result ≡ is_of party p }
 {
     match p {
-        Packet::Empty => false,
-        Packet::Normal(carried) => {
-            let to = carried.outlet;
-            outlet::same_party(outlet::party_of(to), party)
-        }
-        Packet::Checkp(_) => false,
-        Packet::Resume => false,
-        Packet::Recover(_) => false,
-        Packet::Fault(_) => false,
-        Packet::Invalid => false,
+        Packet::Normal(carried) => outlet::party_of(carried.outlet) == party,
+        _ => false,
     }
 }
 
@@ -258,11 +183,10 @@ pub fn is_of(party: Party, p: Packet) -> bool
 fn in_reach(w: Pattern) -> bool
     ensures { result ≡ in_reach w }
 {
-    let bits = w.bits <= 7;
-    let octets = w.octets <= 2;
-    bits && octets
+    w.bits <= 7 && w.octets <= 2
 }
 
+// Kept: the shift written out in `shifted` did not prove.
 fn moved_up(mask: u16, places: u8) -> u64
     requires { places < 24 }
     ensures { result ≡ mask * 2 ^ places }
@@ -274,12 +198,11 @@ fn moved_up(mask: u16, places: u8) -> u64
 fn shifted(w: Pattern) -> u64
     ensures { result ≡ shifted w }
 {
-    if w.bits <= 7 {
-        if w.octets <= 2 {
-            return moved_up(w.mask, w.bits + 8 * w.octets);
-        }
+    if in_reach(w) {
+        moved_up(w.mask, w.bits + 8 * w.octets)
+    } else {
+        0
     }
-    0
 }
 
 // A shift that is not 0 is for version 2 alone.
@@ -287,7 +210,7 @@ fn may_shift(version: PacketVersion, w: Pattern) -> bool
     ensures { result ≡ may_shift version w }
 {
     match version {
-        PacketVersion::One => both_equal(w.bits, 0, w.octets, 0),
+        PacketVersion::One => w.bits == 0 && w.octets == 0,
         PacketVersion::Two => true,
     }
 }
@@ -296,32 +219,26 @@ fn may_shift(version: PacketVersion, w: Pattern) -> bool
 pub fn pattern_right(version: PacketVersion, w: Pattern) -> bool
     ensures { result ≡ pattern_right version w }
 {
-    let changes = 0 < w.mask;
-    let reach = in_reach(w);
-    let inside = shifted(w) < 0x1_0000_0000;
-    let allowed = may_shift(version, w);
-    changes && (reach && (inside && allowed))
+    0 < w.mask && in_reach(w) && shifted(w) < 0x1_0000_0000 && may_shift(version, w)
 }
 
 // What damage leaves of a normal packet: the shifted pattern XORed on amount and check, or the pattern on an amount alone.
 fn hurt_by(p: Payload, w: Pattern) -> Payload
     ensures { result ≡ hurt_by p w }
 {
-    let outlet = p.outlet;
-    let own = p.own;
     let number = shifted(w);
+    // Kept: by / and %, as the definition `hurt_as` has them.
     let high = (number / 65536 % 65536) as u16;
     let low = (number % 65536) as u16;
-    match own {
-        OwnCheck::Unchecked => Payload {
-            outlet: outlet,
+    match p.own {
+        None => Payload {
             amount: p.amount ^ w.mask,
-            own: OwnCheck::Unchecked,
+            ..p
         },
-        OwnCheck::Checked(c) => Payload {
-            outlet: outlet,
+        Some(c) => Payload {
             amount: p.amount ^ high,
-            own: OwnCheck::Checked(c ^ low),
+            own: Some(c ^ low),
+            ..p
         },
     }
 }
@@ -333,10 +250,6 @@ pub fn damaged(p: Packet, w: Pattern) -> Packet
     match p {
         Packet::Empty => Packet::Empty,
         Packet::Normal(carried) => Packet::Normal(hurt_by(carried, w)),
-        Packet::Checkp(_) => Packet::Invalid,
-        Packet::Resume => Packet::Invalid,
-        Packet::Recover(_) => Packet::Invalid,
-        Packet::Fault(_) => Packet::Invalid,
-        Packet::Invalid => Packet::Invalid,
+        _ => Packet::Invalid,
     }
 }

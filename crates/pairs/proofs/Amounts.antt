@@ -1,4 +1,5 @@
 -- Sends and damage, of a covered group: the amount of a workshop send, and what damage makes of a workshop packet, are covered.
+use Rattle.std.specs.Prelude.{None, Some}
 use Prim.Native.Nat.{ℕ, ◌<◌}
 use mathlib.Core.Path.{◌≡◌, refl, sym, ap, ◌∙◌}
 use mathlib.Core.Bool.{Bool, true, false, not, ◌&&◌}
@@ -15,8 +16,7 @@ use Rattle.outlet.specs.declared.Party.TheVariants.{Buses, Workshop}
 use Rattle.outlet.specs.Outlet.{ends_of, party_of}
 use Rattle.packet.specs.declared.PacketVersion.{PacketVersion}
 use Rattle.packet.specs.declared.PacketVersion.TheVariants.{One, Two}
-use Rattle.packet.specs.declared.OwnCheck.{OwnCheck}
-use Rattle.packet.specs.declared.OwnCheck.TheVariants.{Unchecked, Checked}
+use Rattle.packet.specs.Packet.{OwnCheck}
 use Rattle.packet.specs.declared.Pattern.{Pattern}
 use Rattle.packet.specs.declared.Payload.{Payload}
 use Rattle.packet.specs.declared.Packet.{Packet}
@@ -52,7 +52,7 @@ unfolding cover_payload
 put_covered_as v A q = refl
 put_covered_as v B q = refl
 put_covered_as One W q = refl
-put_covered_as Two W q = ap (λ t. record { outlet = W; amount = 0; own = cover_own t (Checked (own_check W q)) }) (put_fits Two W q)
+put_covered_as Two W q = ap (λ t. record { outlet = W; amount = 0; own = cover_own t (Some (own_check W q)) }) (put_fits Two W q)
 
 -- a send by a covered group
 abbrev pub sent_bus : Group → ℕ → ℕ → ℕ → ℕ → Group
@@ -135,7 +135,7 @@ damaged_bus Invalid w = Invalid
 
 -- a packet that carries a check does not fit once it is hurt
 abbrev pub Unfits : Payload → Pattern → Type 0
-Unfits p w = (c : ℕ) → p.own ≡ Checked c → fits (hurt_by p w) ≡ false
+Unfits p w = (c : ℕ) → p.own ≡ Some c → fits (hurt_by p w) ≡ false
 
 own_is : (p : Payload) (w : Pattern) → (hurt_by p w).own ≡ (hurt_as p.own p w).own
 unfolding hurt_by
@@ -148,8 +148,8 @@ payload_hurt p w seen = go (party_of p.outlet) refl
     kept = sym (outlet_kept p w)
 
     own_same : (k : OwnCheck) → p.own ≡ k → cover_own (fits (hurt_by p w)) (hurt_as p.own p w).own ≡ cover_own false (cover_own (fits p) p.own)
-    own_same Unchecked e = rw e
-    own_same (Checked c) e = rw (seen c e, e)
+    own_same None e = rw e
+    own_same (Some c) e = rw (seen c e, e)
 
     go : (y : Party) → party_of p.outlet ≡ y → cover_payload (hurt_by p w) ≡ hurt_of (party_of (cover_payload p).outlet) (cover_payload p) w
     go Buses e =

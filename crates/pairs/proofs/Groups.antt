@@ -1,4 +1,5 @@
 -- What covers a group goes through every component of it, and through every move.
+use Rattle.std.specs.Prelude.{None, Some}
 use Prim.Native.Nat.{ℕ, zero, suc}
 use mathlib.Core.Path.{◌≡◌, refl, sym, ap, ◌∙◌}
 use mathlib.Core.Bool.{Bool, true, false, cond, ◌&&◌}
@@ -22,8 +23,7 @@ use Rattle.state.specs.State.{flipped, adopted, works, is_in, in_recovery}
 use Rattle.settled.specs.declared.Reason.{Reason}
 use Rattle.store.specs.declared.Store.{Store}
 use Rattle.store.specs.Store.{partner, home_in, homed_at, slot_at, leaves, comes_back}
-use Rattle.cabinet.specs.declared.Alarm.{Alarm}
-use Rattle.cabinet.specs.declared.Alarm.TheVariants.{Quiet, Fault as At}
+use Rattle.cabinet.specs.Alarm.{Alarm}
 use Rattle.cabinet.specs.declared.Cabinet.{Cabinet}
 use Rattle.cabinet.specs.Cabinet.{absent, in_use, with_state, with_version, beginning, comparing, cutting, resuming, alarmed, blanked, hearing, recovering, crashing, owing_also, owing_but, owing_none}
 use Rattle.group.specs.declared.Group.{Group}
@@ -279,10 +279,10 @@ unfolding end_recovery
 end_covered i g = reading (λ c. c.phase.version) (λ v x. resume_with x i v) (λ v. resume_covered i v) (λ c. refl) i g
 
 note_for_covered : (a : Alarm) (v : Version) → Commutes (λ g. note_for a g v)
-note_for_covered Quiet v g = is refl
-note_for_covered (At (AtFailed x)) v g = at_cabinet (λ c. with_version c v) (λ c. refl) x g
-note_for_covered (At (AtTripped x)) v g = is refl
-note_for_covered (At (AtLink x y)) v g = is refl
+note_for_covered None v g = is refl
+note_for_covered (Some (AtFailed x)) v g = at_cabinet (λ c. with_version c v) (λ c. refl) x g
+note_for_covered (Some (AtTripped x)) v g = is refl
+note_for_covered (Some (AtLink x y)) v g = is refl
 
 pub lost_covered : (k : ℕ) → Commutes (λ g. note_lost g k)
 unfolding note_lost

@@ -1,4 +1,5 @@
 -- What covers an image, a packet, a line, registers and a cabinet goes through every change of one.
+use Rattle.std.specs.Prelude.{None, Some}
 use Prim.Native.Nat.{ℕ, zero, suc, ◌+◌, ◌-◌, ◌*◌, ◌/◌, ◌%◌, ◌≤◌}
 use mathlib.Core.Path.{◌≡◌, refl, sym, ap, ◌∙◌}
 use mathlib.Core.Bool.{Bool, true, false, cond, ◌||◌}
@@ -13,8 +14,7 @@ use Rattle.outlet.specs.declared.Outlet.TheVariants.{A, B, W}
 use Rattle.outlet.specs.declared.Party.{Party}
 use Rattle.outlet.specs.declared.Party.TheVariants.{Buses, Workshop}
 use Rattle.outlet.specs.Outlet.{party_of, same_party}
-use Rattle.packet.specs.declared.OwnCheck.{OwnCheck}
-use Rattle.packet.specs.declared.OwnCheck.TheVariants.{Unchecked, Checked}
+use Rattle.packet.specs.Packet.{OwnCheck}
 use Rattle.packet.specs.declared.Payload.{Payload}
 use Rattle.packet.specs.declared.Check.{Check}
 use Rattle.packet.specs.declared.Packet.{Packet}
@@ -166,8 +166,8 @@ fits_covered p = go p.outlet p.own refl refl
     go : (o : Outlet) (c : OwnCheck) → p.outlet ≡ o → p.own ≡ c → fits (cover_of (party_of p.outlet) p) ≡ fits p
     go A c e f = rw e
     go B c e f = rw e
-    go W Unchecked e f = rw (e, f)
-    go W (Checked c) e f = rw (e, f) (chosen (eqb c (own_check W p.amount)))
+    go W None e f = rw (e, f)
+    go W (Some c) e f = rw (e, f) (chosen (eqb c (own_check W p.amount)))
 
 pub empty_covered : (p : Packet) → is_empty (cover_packet p) ≡ is_empty p
 empty_covered Empty = refl

@@ -1,7 +1,8 @@
 -- Points and returns, of covered points and a covered group.
 use Prim.Native.Nat.{ℕ}
-use mathlib.Core.Path.{◌≡◌, sym, ap, ◌∙◌}
-use mathlib.Core.Bool.{Bool, true, cond, not, ◌&&◌}
+use mathlib.Core.Path.{◌≡◌, refl, sym, ap, ◌∙◌}
+use Rattle.std.specs.Prelude.{Option, Some, None, is_some, unwrap_or, option_map}
+use mathlib.Core.Bool.{Bool, cond, not}
 use mathlib.Core.List.{List, map}
 use lib.ListN.{get_or-map}
 use lib.Dec.{eqb}
@@ -12,7 +13,7 @@ use Rattle.cabinet.specs.declared.Cabinet.{Cabinet}
 use Rattle.cabinet.specs.Cabinet.{with_image}
 use Rattle.points.specs.declared.Point.{Point}
 use Rattle.points.specs.declared.Points.{Points}
-use Rattle.points.specs.Points.{no_point, point_at, with_point, image_at, same_name, is_named, is_free, first_place, place_of, place_for}
+use Rattle.points.specs.Points.{no_point, held_at, is_kept, point_at, with_point, image_at, is_named, is_free, first_place, place_of, place_for}
 use Rattle.store.specs.declared.Slots.{Slots}
 use Rattle.store.specs.Store.{of_each, set_slots}
 use Rattle.group.specs.declared.Group.{Group}
@@ -29,7 +30,19 @@ use Rattle.pairs.proofs.Steps.{Gives, took, refused}
 
 pub point_at_lem : (ps : Points) (k : ℕ) → point_at (cover_points ps) k ≡ cover_point (point_at ps k)
 unfolding point_at cover_points cover_image cover_from
-point_at_lem ps k = get_or-map cover_point ps.places k no_point
+point_at_lem ps k = ap (λ o. unwrap_or o no_point) (get_or-map (option_map cover_point) ps.places k None) ∙ held_or (held_at ps k)
+  where
+    held_or : (o : Option Point) → unwrap_or (option_map cover_point o) no_point ≡ cover_point (unwrap_or o no_point)
+    held_or None = refl
+    held_or (Some p) = refl
+
+kept_at : (ps : Points) (k : ℕ) → is_kept (cover_points ps) k ≡ is_kept ps k
+unfolding cover_points
+kept_at ps k = ap is_some (get_or-map (option_map cover_point) ps.places k None) ∙ held_still (held_at ps k)
+  where
+    held_still : (o : Option Point) → is_some (option_map cover_point o) ≡ is_some o
+    held_still None = refl
+    held_still (Some p) = refl
 
 pub image_at_lem : (p : Point) (i : ℕ) → image_at (cover_point p) i ≡ cover_image (image_at p i)
 unfolding image_at cover_image cover_from
@@ -37,13 +50,13 @@ image_at_lem p i = get_or-map cover_image p.images i blank_image
 
 point_put : (ps : Points) (k : ℕ) (p : Point) → cover_points (with_point ps k p) ≡ with_point (cover_points ps) k (cover_point p)
 unfolding with_point cover_points
-point_put ps k p = ap (λ (l : List Point). record { places = l }) (map_set cover_point ps.places k p)
+point_put ps k p = ap (λ (l : List (Option Point)). record { places = l }) (map_set (option_map cover_point) ps.places k (Some p))
 
 named_same : (ps : Points) (name : List ℕ) (k : ℕ) → is_named (cover_points ps) name k ≡ is_named ps name k
-named_same ps name k = ap (λ (p : Point). p.kept && same_name p.name name) (point_at_lem ps k)
+named_same ps name k = rw (kept_at ps k, point_at_lem ps k)
 
 free_same : (ps : Points) (k : ℕ) → is_free (cover_points ps) k ≡ is_free ps k
-free_same ps k = ap (λ (p : Point). not p.kept) (point_at_lem ps k)
+free_same ps k = ap not (kept_at ps k)
 
 first_same : (f g : ℕ → Bool) → ((k : ℕ) → f k ≡ g k) → first_place f ≡ first_place g
 first_same f g same = rw (same 0, same 1, same 2, same 3)
@@ -79,7 +92,7 @@ point_covered ps g name =
     choose cover_noted (eqb (point_refusal ps g name) 0) _ _
     ∙ ap (λ (q : Points). cond (eqb (point_refusal ps g name) 0) (noting 0 q) (noting (point_refusal ps g name) (cover_points ps)))
     (point_put ps (place_for ps name) (point_of g name)
-    ∙ ap (λ (m : List Image). with_point (cover_points ps) (place_for ps name) (record { kept = true; name = name; images = m })) (images_same g)
+    ∙ ap (λ (m : List Image). with_point (cover_points ps) (place_for ps name) (record { name = name; images = m })) (images_same g)
     ∙ ap (λ k. with_point (cover_points ps) k (point_of (cover g) name)) (sym (place_for_same ps name)))
     ∙ ap (λ k. cond (eqb k 0) (noting 0 (with_point (cover_points ps) (place_for (cover_points ps) name) (point_of (cover g) name))) (noting k (cover_points ps)))
     (point_refusal_lem ps g name)

@@ -1,5 +1,6 @@
 -- Two runs that differ in the amounts of workshop sends: what one step makes of two groups that are the same once covered, and every list by
 -- induction. Of each run by itself it is used that a comparison tells whether the line was hurt, and that packets of a line not hurt fit.
+use Rattle.std.specs.Prelude.{Err}
 use Prim.Native.Nat.{ℕ, zero, suc, ◌+◌, ◌-◌, ◌*◌, ◌<◌}
 use mathlib.Core.Path.{◌≡◌, refl, sym, ap, ◌∙◌, subst}
 use mathlib.Core.Logic.{⊎_elim}
@@ -34,7 +35,6 @@ use Rattle.group.specs.Group.{cabinet, state_of, slot, with_outgoing, line, with
 use Rattle.load.specs.Load.{load}
 use Rattle.protocol.specs.declared.Site.{Site}
 use Rattle.protocol.specs.declared.Noted.{Noted}
-use Rattle.protocol.specs.declared.Told.TheVariants.{Refused}
 use Rattle.protocol.specs.declared.Step.{Step}
 use Rattle.protocol.specs.declared.Step.TheVariants.{Send, Note, Begin, Deliver, Write, Saved, Fetch, Restored, Fail, Damage, Lose, Trip, Unsure}
 use Rattle.protocol.specs.declared.Decoded.{Decoded}
@@ -412,7 +412,7 @@ point_buses p q e k i = seen p ∙ ap (λ (x : Points). buses_of (image_at (poin
 
 word_same : (g : Group) → which_word g ≡ which_word (cover g)
 unfolding which_word cover
-word_same g = ap (λ t. cond t (Refused 10) (told_of g.settled)) (sym (crashed_covered g))
+word_same g = ap (λ t. cond t (Err 10) (told_of g.settled)) (sym (crashed_covered g))
 
 agree : (s t : Site) → Same s t → Agree s t
 agree s t e =

@@ -1,13 +1,12 @@
 -- Document 02, card 9: what may differ between two runs that differ in the amounts of workshop sends, and no more. Here it is covered up, each
 -- part by one value, whatever stood there; two groups are the same but for it where they are equal once it is covered.
-use Rattle.std.specs.Prelude.{ℕ, suc, ◌+◌, Bool, cond, ◌||◌, List, [], ◌∷◌, map, eqb}
+use Rattle.std.specs.Prelude.{ℕ, suc, ◌+◌, Bool, cond, ◌||◌, List, [], ◌∷◌, map, option_map, eqb, None, Some}
 use Rattle.crc.specs.Crc.{start}
 use Rattle.outlet.specs.declared.Outlet.TheVariants.{W}
 use Rattle.outlet.specs.declared.Party.{Party}
 use Rattle.outlet.specs.declared.Party.TheVariants.{Buses, Workshop}
 use Rattle.outlet.specs.Outlet.{party_of}
-use Rattle.packet.specs.declared.OwnCheck.{OwnCheck}
-use Rattle.packet.specs.declared.OwnCheck.TheVariants.{Unchecked, Checked}
+use Rattle.packet.specs.Packet.{OwnCheck}
 use Rattle.packet.specs.declared.Payload.{Payload}
 use Rattle.packet.specs.declared.Check.{Check}
 use Rattle.packet.specs.declared.Packet.{Packet}
@@ -46,8 +45,8 @@ cover_image m = record { octets = cover_from 0 m.octets }
 -- ---- workshop packets: the amount, and the packet's own check, but for whether it fits
 
 abbrev pub cover_own : Bool → OwnCheck → OwnCheck
-cover_own fit Unchecked = Unchecked
-cover_own fit (Checked c) = Checked (cond fit (own_check W 0) (own_check W 0 + 1))
+cover_own fit None = None
+cover_own fit (Some c) = Some (cond fit (own_check W 0) (own_check W 0 + 1))
 
 abbrev pub cover_of : Party → Payload → Payload
 cover_of Buses p = p
@@ -99,10 +98,10 @@ cover g =
     with_store (with_lines (with_cabinets g (map cover_cabinet g.cabinets)) (map cover_outgoing g.outgoing)) (cover_store g.store)
 
 abbrev pub cover_point : Point → Point
-cover_point p = record { kept = p.kept; name = p.name; images = map cover_image p.images }
+cover_point p = record { name = p.name; images = map cover_image p.images }
 
 unfoldable pub cover_points : Points → Points
-cover_points ps = record { places = map cover_point ps.places }
+cover_points ps = record { places = map (option_map cover_point) ps.places }
 
 abbrev pub cover_site : Site → Site
 cover_site s = record { group = cover s.group; points = cover_points s.points }

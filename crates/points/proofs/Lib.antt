@@ -1,2 +1,3 @@
 -- The laws that the proofs of this crate share.
+mod Places
 mod Names

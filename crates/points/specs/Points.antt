@@ -1,5 +1,5 @@
 -- Document 02, card 1: "Up to four points, each named with eight octets". Four places, each empty or with a point; any eight octets are a name.
-use Rattle.std.specs.Prelude.{ℕ, Bool, true, false, cond, not, ◌&&◌, List, [], ◌∷◌, get_or, set, replicate, eqb, ltb}
+use Rattle.std.specs.Prelude.{ℕ, Bool, true, false, cond, not, ◌&&◌, List, [], ◌∷◌, get_or, set, replicate, eqb, ltb, Option, Some, None, is_some, unwrap_or}
 use Rattle.image.specs.declared.Image.{Image}
 use Rattle.image.specs.Image.{blank_image}
 use Rattle.points.specs.declared.Point.{Point}
@@ -7,18 +7,26 @@ use Rattle.points.specs.declared.Points.{Points}
 
 -- ---- places
 
--- a place without a point
+-- what is read of a place without a point
 abbrev pub no_point : Point
-no_point = record { kept = false; name = replicate 8 0; images = replicate 8 blank_image }
+no_point = record { name = replicate 8 0; images = replicate 8 blank_image }
 
 unfoldable pub no_points : Points
-no_points = record { places = replicate 4 no_point }
+no_points = record { places = replicate 4 None }
+
+-- the point at place i, if one stands there
+abbrev pub held_at : Points → ℕ → Option Point
+held_at ps i = get_or ps.places i None
+
+-- place i has a point
+abbrev pub is_kept : Points → ℕ → Bool
+is_kept ps i = is_some (held_at ps i)
 
 unfoldable pub point_at : Points → ℕ → Point
-point_at ps i = get_or ps.places i no_point
+point_at ps i = unwrap_or (held_at ps i) no_point
 
 unfoldable pub with_point : Points → ℕ → Point → Points
-with_point ps i p = record { places = set ps.places i p }
+with_point ps i p = record { places = set ps.places i (Some p) }
 
 -- the image that a point has of cabinet i
 unfoldable pub image_at : Point → ℕ → Image
@@ -34,10 +42,10 @@ same_name (x ∷ xs) (y ∷ ys) = eqb x y && same_name xs ys
 
 -- the point at place i has this name
 abbrev pub is_named : Points → List ℕ → ℕ → Bool
-is_named ps name i = (point_at ps i).kept && same_name (point_at ps i).name name
+is_named ps name i = is_kept ps i && same_name (point_at ps i).name name
 
 abbrev pub is_free : Points → ℕ → Bool
-is_free ps i = not (point_at ps i).kept
+is_free ps i = not (is_kept ps i)
 
 -- the first of the four places that passes a test, 4 where none does
 abbrev pub first_place : (ℕ → Bool) → ℕ

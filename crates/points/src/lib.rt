@@ -1,64 +1,33 @@
 // Points to come back to: up to four, each with a name of eight octets and one image for each cabinet.
 #![tactic(auto)]
 
-ghost use Rattle.std.specs.Prelude.{◌≡◌, cond};
-ghost use Rattle.points.specs.Points.{no_point, no_points, point_at, with_point, image_at, same_name, is_named, is_free, first_place, place_of, place_for};
+ghost use Rattle.std.specs.Prelude.{◌≡◌};
+ghost use Rattle.points.specs.Points.{no_point, no_points, held_at, point_at, with_point, image_at, is_named, is_free, first_place, place_of, place_for};
 
 use image::Image;
 
-// A place for a point: whether it holds one, the point's name, and its images.
+// A point: its name, and its images.
 #[derive(Clone, Copy)]
 pub struct Point {
-    pub kept: bool,
     pub name: [u8; 8],
     pub images: [Image; 8],
 }
 
-// The four places.
+// The four places, each free or with a point.
 #[derive(Clone, Copy)]
 pub struct Points {
-    pub places: [Point; 4],
-}
-
-fn same_name(a: [u8; 8], b: [u8; 8]) -> bool
-    ensures { result ≡ same_name a b }
-{
-    let mut i = 0;
-    while i < 8 {
-        if a[i] == b[i] {} else {
-            return false;
-        }
-        i += 1;
-    }
-    true
-}
-
-// The first of four that holds, 4 where none does.
-fn first_of(a: bool, b: bool, c: bool, d: bool) -> u8
-    ensures { result ≡ cond a 0 (cond b 1 (cond c 2 (cond d 3 4))) }
-{
-    if a {
-        return 0;
-    }
-    if b {
-        return 1;
-    }
-    if c {
-        return 2;
-    }
-    if d { 3 } else { 4 }
+    pub places: [Option<Point>; 4],
 }
 
 impl Point {
-    // A place without a point.
+    // What is read where there is none.
+    // Kept: point_at gives it where no point stands, and the theorems of claims read it there.
     fn none() -> Point
         ensures { result ≡ no_point }
     {
-        let image = Image::blank();
         Point {
-            kept: false,
             name: [0; 8],
-            images: [image; 8],
+            images: [Image::blank(); 8],
         }
     }
 
@@ -66,12 +35,10 @@ impl Point {
     pub fn image_at(self, i: u8) -> Image
         ensures { result ≡ image_at self i }
     {
-        let k = i as usize;
-        if k < 8 {
-            self.images[k]
-        } else {
-            Image::blank()
-        }
+        self.images
+            .get(i as usize)
+            .copied()
+            .unwrap_or(Image::blank())
     }
 }
 
@@ -79,24 +46,29 @@ impl Points {
     pub fn none() -> Points
         ensures { result ≡ no_points }
     {
-        let point = Point::none();
-        Points { places: [point; 4] }
+        Points { places: [None; 4] }
+    }
+
+    // The point at place i, if one stands there.
+    fn held_at(self, i: u8) -> Option<Point>
+        ensures { result ≡ held_at self i }
+    {
+        self.places.get(i as usize).copied().unwrap_or(None)
     }
 
     pub fn point_at(self, i: u8) -> Point
         ensures { result ≡ point_at self i }
     {
-        let k = i as usize;
-        if k < 4 { self.places[k] } else { Point::none() }
+        self.held_at(i).unwrap_or(Point::none())
     }
 
+    // Kept: a test and a write, as in marks::set_mark.
     pub fn with_point(self, i: u8, p: Point) -> Points
         ensures { result ≡ with_point self i p }
     {
-        let k = i as usize;
         let mut points = self;
-        if k < 4 {
-            points.places[k] = p;
+        if i < 4 {
+            points.places[i as usize] = Some(p);
         }
         points
     }
@@ -105,39 +77,41 @@ impl Points {
     fn is_named(self, name: [u8; 8], i: u8) -> bool
         ensures { result ≡ is_named self name i }
     {
-        let point = self.point_at(i);
-        let own = point.name;
-        marks::and(point.kept, same_name(own, name))
+        match self.held_at(i) {
+            Some(point) => point.name == name,
+            None => false,
+        }
     }
 
     fn is_free(self, i: u8) -> bool
         ensures { result ≡ is_free self i }
     {
-        let point = self.point_at(i);
-        !point.kept
+        self.held_at(i).is_none()
     }
 
     // Where the point of this name is, 4 where there is none.
+    // Kept: 4 and no Option, here and in `place_for`: the definitions say 4, and the checks 21 and 23 compare with it.
     pub fn place_of(self, name: [u8; 8]) -> u8
         ensures { result ≡ place_of self name }
     {
-        first_of(
-            self.is_named(name, 0),
-            self.is_named(name, 1),
-            self.is_named(name, 2),
-            self.is_named(name, 3),
-        )
+        for i in 0..4u8 {
+            if self.is_named(name, i) {
+                return i;
+            }
+        }
+        4
     }
 
+    // Kept: like place_of but for the test; a closure for it would be no shorter than the loop.
     fn free_place(self) -> u8
         ensures { result ≡ first_place (is_free self) }
     {
-        first_of(
-            self.is_free(0),
-            self.is_free(1),
-            self.is_free(2),
-            self.is_free(3),
-        )
+        for i in 0..4u8 {
+            if self.is_free(i) {
+                return i;
+            }
+        }
+        4
     }
 
     // Where a point of this name goes, 4 where every place has another: a name used again keeps its place.
@@ -145,7 +119,6 @@ impl Points {
         ensures { result ≡ place_for self name }
     {
         let old = self.place_of(name);
-        let free = self.free_place();
-        if old < 4 { old } else { free }
+        if old < 4 { old } else { self.free_place() }
     }
 }

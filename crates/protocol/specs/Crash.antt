@@ -1,7 +1,7 @@
 -- Document 01, "The group crashes when, and only when": the cases of that sentence, each in the paper's own terms, with those that
 -- document 02 adds.
 -- In a step cabinets count from 1, everywhere else here from 0.
-use Rattle.std.specs.Prelude.{ℕ, ◌-◌, ◌<◌, ◌≤◌, ◌≡◌, true, false, ◌⊎◌, get_or, set}
+use Rattle.std.specs.Prelude.{ℕ, ◌-◌, ◌<◌, ◌≤◌, ◌≡◌, true, false, ◌⊎◌, get_or, set, Some}
 use Rattle.marks.specs.Marks.{Marks, marked, lowest}
 use Rattle.marks.specs.Reach.{Rows, struck}
 use Rattle.marks.specs.ReachLaws.{Path}
@@ -15,7 +15,6 @@ use Rattle.packet.specs.Packet.{start_check, fits}
 use Rattle.line.specs.Line.{oldest}
 use Rattle.state.specs.declared.State.{State}
 use Rattle.state.specs.declared.State.TheVariants.{Normal, CheckpBegin, Checkpointing, Checkpointed, Error, Recovering, Recovered}
-use Rattle.cabinet.specs.declared.Alarm.TheVariants.{Fault as For}
 use Rattle.store.specs.Store.{is_store, is_present, partner}
 use Rattle.cabinet.specs.declared.Cabinet.{Cabinet}
 use Rattle.group.specs.declared.Group.{Group}
@@ -64,7 +63,7 @@ sound_links g = rows_of g.sound
 
 -- "two fault places meet": "A fault for the same place is noted; for another place it crashes the group."
 pub data PlacesMeet (c : Cabinet) : Packet → Type 0 where
-  other_place : {p : Place} → Recovers c.phase.state → (c.phase.alarm ≡ For p → ⊥) → PlacesMeet c (Fault p)
+  other_place : {p : Place} → Recovers c.phase.state → (c.phase.alarm ≡ Some p → ⊥) → PlacesMeet c (Fault p)
 
 -- "the finding of a link fault"
 pub data LinkFault (c : Cabinet) (a : ℕ) : Packet → Type 0 where

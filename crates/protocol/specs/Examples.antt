@@ -2,15 +2,14 @@
 -- with what is found in it. The first restores a committed save, the second the save before one that is passed over, the third
 -- follows a link fault that the check finds, the fourth is a second recovery, of a save made after the first one, and the fifth
 -- restores a save that was restored once before its coordinator failed. None restores the start.
-use Rattle.std.specs.Prelude.{ℕ, zero, suc, Bool, true, false, cond, ◌&&◌, List, [], ◌∷◌, ◌++◌, length, replicate, eqb}
+use Rattle.std.specs.Prelude.{ℕ, zero, suc, Bool, true, false, cond, ◌&&◌, List, [], ◌∷◌, ◌++◌, length, replicate, eqb, Some}
 use Rattle.std.proofs.Math.Option.{Option, none, some}
 use Rattle.outlet.specs.declared.Outlet.TheVariants.{A, B}
 use Rattle.packet.specs.declared.PacketVersion.TheVariants.{One}
 use Rattle.packet.specs.declared.Payload.{Payload}
 use Rattle.packet.specs.Packet.{packed}
 use Rattle.packet.specs.declared.Place.TheVariants.{Failed as AtFailed, Link as AtLink}
-use Rattle.cabinet.specs.declared.Alarm.{Alarm}
-use Rattle.cabinet.specs.declared.Alarm.TheVariants.{Fault}
+use Rattle.cabinet.specs.Alarm.{Alarm}
 use Rattle.image.specs.declared.Image.{Image}
 use Rattle.state.specs.State.{works}
 use Rattle.group.specs.declared.Group.{Group}
@@ -224,7 +223,7 @@ after_save_finds = record {
   loaded = 0;
   taken = true;
   ended = true;
-  place = Fault (AtFailed 2);
+  place = Some (AtFailed 2);
   committed = 1;
   left = 1;
   begun = true;
@@ -279,7 +278,7 @@ passed_over_finds = record {
   loaded = 0;
   taken = true;
   ended = true;
-  place = Fault (AtFailed 0);
+  place = Some (AtFailed 0);
   committed = 2;
   left = 1;
   begun = true;
@@ -317,7 +316,7 @@ link_fault_finds = record {
   loaded = 0;
   taken = true;
   ended = true;
-  place = Fault (AtLink 1 2);
+  place = Some (AtLink 1 2);
   committed = 1;
   left = 1;
   begun = true;
@@ -382,7 +381,7 @@ second_recovery_finds = record {
   loaded = 0;
   taken = true;
   ended = true;
-  place = Fault (AtFailed 3);
+  place = Some (AtFailed 3);
   committed = 2;
   left = 2;
   begun = true;
@@ -427,7 +426,7 @@ restored_before_finds = record {
   loaded = 0;
   taken = true;
   ended = true;
-  place = Fault (AtFailed 0);
+  place = Some (AtFailed 0);
   committed = 1;
   left = 1;
   begun = false;

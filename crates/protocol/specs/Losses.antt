@@ -1,5 +1,5 @@
 -- Closed runs of document 02, card 3: a recovery after a loss that the CRC alone would not see, and cases of what is answered and noted.
-use Rattle.std.specs.Prelude.{ℕ, ◌≡◌, Bool, true, false, List, [], ◌∷◌, ◌++◌, length, get_or, replicate}
+use Rattle.std.specs.Prelude.{ℕ, ◌≡◌, Bool, true, false, List, [], ◌∷◌, ◌++◌, length, get_or, replicate, Some}
 use Rattle.std.proofs.Math.Option.{none, some}
 use Rattle.outlet.specs.declared.Party.TheVariants.{Buses, Workshop}
 use Rattle.crc.specs.Crc.{crc}
@@ -7,7 +7,6 @@ use Rattle.packet.specs.declared.Place.TheVariants.{Link as AtLink}
 use Rattle.packet.specs.declared.Check.{Check}
 use Rattle.packet.specs.declared.Packet.{Packet}
 use Rattle.packet.specs.declared.Packet.TheVariants.{Checkp}
-use Rattle.cabinet.specs.declared.Alarm.TheVariants.{Fault}
 use Rattle.packet.specs.Packet.{octets_of, start_check}
 use Rattle.line.specs.Line.{oldest, packet_at}
 use Rattle.group.specs.declared.Group.{Group}
@@ -60,7 +59,7 @@ silent_loss_finds = record {
   loaded = 0;
   taken = true;
   ended = true;
-  place = Fault (AtLink 0 1);
+  place = Some (AtLink 0 1);
   committed = 1;
   left = 1;
   begun = true;

@@ -1,5 +1,5 @@
 -- The moves that the rules of the documents are made of, each once.
-use Rattle.std.specs.Prelude.{ℕ, zero, suc, Bool, true, false, cond, ◌&&◌, set, eqb}
+use Rattle.std.specs.Prelude.{ℕ, zero, suc, Bool, true, false, cond, ◌&&◌, set, eqb, None, Some}
 use Rattle.marks.specs.Marks.{marked}
 use Rattle.marks.specs.Reach.{struck, connected}
 use Rattle.packet.specs.declared.Place.{Place}
@@ -15,8 +15,7 @@ use Rattle.settled.specs.declared.Reason.{Reason}
 use Rattle.settled.specs.Settled.{reason_of}
 use Rattle.store.specs.Store.{partner, homed_at, leaves, comes_back}
 use Rattle.cabinet.specs.declared.Cabinet.{Cabinet}
-use Rattle.cabinet.specs.declared.Alarm.{Alarm}
-use Rattle.cabinet.specs.declared.Alarm.TheVariants.{Quiet, Fault as At}
+use Rattle.cabinet.specs.Alarm.{Alarm}
 use Rattle.group.specs.declared.Group.{Group}
 use Rattle.group.specs.declared.Outcome.{Outcome}
 use Rattle.state.specs.State.{flipped, adopted, works}
@@ -149,8 +148,8 @@ note_at (AtTripped x) g v = g
 note_at (AtLink x y) g v = g
 
 abbrev pub note_for : Alarm → Group → Version → Group
-note_for Quiet g v = g
-note_for (At p) g v = note_at p g v
+note_for None g v = g
+note_for (Some p) g v = note_at p g v
 
 unfoldable pub note_lost : Group → ℕ → Group
 note_lost g k = note_for (cabinet g k).phase.alarm g (cabinet g k).phase.version

@@ -1,9 +1,8 @@
 -- Closed runs of document 02, card 2: a recovery that brings back both outlets' bookings, a return that does, and cases of what is loaded,
 -- answered and printed.
-use Rattle.std.specs.Prelude.{ℕ, true, List, [], ◌∷◌, ◌++◌, replicate}
+use Rattle.std.specs.Prelude.{ℕ, true, List, [], ◌∷◌, ◌++◌, replicate, Some}
 use Rattle.std.proofs.Math.Option.{none, some}
 use Rattle.packet.specs.declared.Place.TheVariants.{Failed as AtFailed}
-use Rattle.cabinet.specs.declared.Alarm.TheVariants.{Fault}
 use Rattle.image.specs.declared.Image.{Image}
 use Rattle.packet.specs.Packet.{octets_of}
 use Rattle.group.specs.declared.Group.{Group}
@@ -59,7 +58,7 @@ both_outlets_finds = record {
   loaded = 0;
   taken = true;
   ended = true;
-  place = Fault (AtFailed 2);
+  place = Some (AtFailed 2);
   committed = 1;
   left = 1;
   begun = true;

@@ -1,12 +1,11 @@
 -- Closed runs of document 02, card 7: four recoveries, three of them in groups of packet version 2, with what they find; what a hurt packet leaves
 -- where it is taken or dropped; and cases of what is loaded and answered in either version. Check values that stand here as numbers were
 -- computed by another program.
-use Rattle.std.specs.Prelude.{ℕ, ◌+◌, ◌*◌, ◌/◌, ◌≡◌, Bool, true, List, [], ◌∷◌, ◌++◌, map, length, get_or, set, take}
+use Rattle.std.specs.Prelude.{ℕ, ◌+◌, ◌*◌, ◌/◌, ◌≡◌, Bool, true, List, [], ◌∷◌, ◌++◌, map, length, get_or, set, take, Some}
 use Rattle.std.proofs.Math.Option.{none, some}
 use Rattle.outlet.specs.declared.Outlet.TheVariants.{A, B}
 use Rattle.outlet.specs.declared.Party.TheVariants.{Buses}
 use Rattle.packet.specs.declared.PacketVersion.TheVariants.{One, Two}
-use Rattle.packet.specs.declared.OwnCheck.TheVariants.{Checked}
 use Rattle.packet.specs.declared.Pattern.{Pattern}
 use Rattle.packet.specs.declared.Payload.{Payload}
 use Rattle.packet.specs.declared.Check.{Check}
@@ -14,7 +13,6 @@ use Rattle.packet.specs.declared.Place.TheVariants.{Link as AtLink}
 use Rattle.packet.specs.declared.Packet.TheVariants.{Checkp}
 use Rattle.packet.specs.Packet.{own_check, packed, octets_of, start_check, step_check, hurt_by}
 use Rattle.line.specs.Line.{oldest}
-use Rattle.cabinet.specs.declared.Alarm.TheVariants.{Fault}
 use Rattle.group.specs.declared.Group.{Group}
 use Rattle.group.specs.declared.Outcome.{Outcome}
 use Rattle.group.specs.Group.{cabinet, line}
@@ -65,7 +63,7 @@ damage_by octets bits a b p q = damage a (b + 16 * octets) (p + 32 * bits) q
 
 -- a packet of version 2 for outlet A with this check
 abbrev pub checked_a : ℕ → ℕ → Payload
-checked_a q c = record { outlet = A; amount = q; own = Checked c }
+checked_a q c = record { outlet = A; amount = q; own = Some c }
 
 abbrev pub pattern : ℕ → ℕ → ℕ → Pattern
 pattern octets bits q = record { mask = q; bits = bits; octets = octets }
@@ -120,7 +118,7 @@ hurt_on_taking_finds = record {
   loaded = 0;
   taken = true;
   ended = true;
-  place = Fault (AtLink 1 2);
+  place = Some (AtLink 1 2);
   committed = 1;
   left = 1;
   begun = true;
@@ -149,7 +147,7 @@ check_hurt_finds = record {
   loaded = 0;
   taken = true;
   ended = true;
-  place = Fault (AtLink 1 2);
+  place = Some (AtLink 1 2);
   committed = 1;
   left = 1;
   begun = true;
@@ -179,7 +177,7 @@ hurt_until_checkp_finds = record {
   loaded = 0;
   taken = true;
   ended = true;
-  place = Fault (AtLink 1 2);
+  place = Some (AtLink 1 2);
   committed = 1;
   left = 1;
   begun = true;
@@ -214,7 +212,7 @@ fitting_loss_finds = record {
   loaded = 0;
   taken = true;
   ended = true;
-  place = Fault (AtLink 0 1);
+  place = Some (AtLink 0 1);
   committed = 1;
   left = 1;
   begun = true;

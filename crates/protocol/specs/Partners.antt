@@ -1,10 +1,9 @@
 -- Closed runs of document 02, card 10: eight recoveries in which a store or its partner was lost, runs with every answer, what is held and owed at
 -- the end of some, and cases of what is loaded, answered and printed.
-use Rattle.std.specs.Prelude.{ℕ, ◌/◌, ◌≡◌, true, false, List, [], ◌∷◌, ◌++◌, length, replicate, set}
+use Rattle.std.specs.Prelude.{ℕ, ◌/◌, ◌≡◌, true, false, List, [], ◌∷◌, ◌++◌, length, replicate, set, Some}
 use Rattle.std.proofs.Math.Option.{none, some}
 use Rattle.marks.specs.Marks.{Marks, no_marks}
 use Rattle.packet.specs.declared.Place.TheVariants.{Failed as AtFailed, Tripped as AtTripped}
-use Rattle.cabinet.specs.declared.Alarm.TheVariants.{Fault}
 use Rattle.image.specs.declared.Image.{Image}
 use Rattle.image.specs.Image.{blank_image}
 use Rattle.points.specs.Points.{no_points, point_at, image_at}
@@ -82,7 +81,7 @@ home_fails_finds = record {
   loaded = 0;
   taken = true;
   ended = true;
-  place = Fault (AtFailed 2);
+  place = Some (AtFailed 2);
   committed = 0;
   left = 1;
   begun = true;
@@ -112,7 +111,7 @@ home_fails_undone_finds = record {
   loaded = 0;
   taken = true;
   ended = true;
-  place = Fault (AtFailed 2);
+  place = Some (AtFailed 2);
   committed = 1;
   left = 1;
   begun = true;
@@ -163,7 +162,7 @@ partner_fails_next_finds = record {
   loaded = 0;
   taken = true;
   ended = true;
-  place = Fault (AtFailed 0);
+  place = Some (AtFailed 0);
   committed = 1;
   left = 1;
   begun = false;
@@ -197,7 +196,7 @@ store_passed_over_finds = record {
   loaded = 0;
   taken = true;
   ended = true;
-  place = Fault (AtFailed 0);
+  place = Some (AtFailed 0);
   committed = 2;
   left = 1;
   begun = true;
@@ -243,7 +242,7 @@ lead_goes_round_finds = record {
   loaded = 0;
   taken = true;
   ended = true;
-  place = Fault (AtTripped 1);
+  place = Some (AtTripped 1);
   committed = 1;
   left = 1;
   begun = true;
@@ -280,7 +279,7 @@ return_at_both_finds = record {
   loaded = 0;
   taken = true;
   ended = true;
-  place = Fault (AtFailed 0);
+  place = Some (AtFailed 0);
   committed = 2;
   left = 2;
   begun = true;
@@ -319,7 +318,7 @@ partner_in_error_finds = record {
   loaded = 0;
   taken = true;
   ended = true;
-  place = Fault (AtTripped 0);
+  place = Some (AtTripped 0);
   committed = 1;
   left = 1;
   begun = false;
@@ -351,7 +350,7 @@ third_trip_of_a_store_finds = record {
   loaded = 0;
   taken = true;
   ended = true;
-  place = Fault (AtFailed 0);
+  place = Some (AtFailed 0);
   committed = 1;
   left = 1;
   begun = false;

@@ -28,7 +28,7 @@ images_kept g =
     image_kept g 0 ∷ image_kept g 1 ∷ image_kept g 2 ∷ image_kept g 3 ∷ image_kept g 4 ∷ image_kept g 5 ∷ image_kept g 6 ∷ image_kept g 7 ∷ []
 
 abbrev pub point_of : Group → List ℕ → Point
-point_of g name = record { kept = true; name = name; images = images_kept g }
+point_of g name = record { name = name; images = images_kept g }
 
 -- "22 group not quiet, 23 four names taken already and this is a fifth; after 10"
 abbrev pub point_refusal : Points → Group → List ℕ → ℕ

@@ -1,8 +1,7 @@
 -- Closed runs of document 02, card 1: recoveries after a return, what points keep, what a return leaves in the store, and what is answered.
-use Rattle.std.specs.Prelude.{ℕ, true, false, List, [], ◌∷◌, ◌++◌, map, replicate}
+use Rattle.std.specs.Prelude.{ℕ, true, false, List, [], ◌∷◌, ◌++◌, map, replicate, Some}
 use Rattle.std.proofs.Math.Option.{none, some}
 use Rattle.packet.specs.declared.Place.TheVariants.{Failed as AtFailed}
-use Rattle.cabinet.specs.declared.Alarm.TheVariants.{Fault}
 use Rattle.image.specs.declared.Image.{Image}
 use Rattle.points.specs.declared.Points.{Points}
 use Rattle.points.specs.Points.{no_points, point_at, image_at, place_of}
@@ -79,7 +78,7 @@ return_first_finds = record {
   loaded = 0;
   taken = true;
   ended = true;
-  place = Fault (AtFailed 0);
+  place = Some (AtFailed 0);
   committed = 3;
   left = 3;
   begun = true;
@@ -119,7 +118,7 @@ return_stays_finds = record {
   loaded = 0;
   taken = true;
   ended = true;
-  place = Fault (AtFailed 0);
+  place = Some (AtFailed 0);
   committed = 4;
   left = 3;
   begun = true;
@@ -212,7 +211,7 @@ return_between_finds = record {
   loaded = 0;
   taken = true;
   ended = true;
-  place = Fault (AtFailed 1);
+  place = Some (AtFailed 1);
   committed = 8;
   left = 8;
   begun = true;

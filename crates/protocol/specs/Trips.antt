@@ -1,10 +1,9 @@
 -- Closed runs of document 02, card 5: six recoveries in which a cabinet has tripped (another, of a save whose resume was taken, is
 -- `Unsure.early`), and cases of what is answered and printed.
-use Rattle.std.specs.Prelude.{ℕ, ◌≡◌, true, false, List, [], ◌∷◌, ◌++◌, length, replicate}
+use Rattle.std.specs.Prelude.{ℕ, ◌≡◌, true, false, List, [], ◌∷◌, ◌++◌, length, replicate, Some}
 use Rattle.std.proofs.Math.Option.{none, some}
 use Rattle.marks.specs.Marks.{next_up}
 use Rattle.packet.specs.declared.Place.TheVariants.{Failed as AtFailed, Tripped as AtTripped}
-use Rattle.cabinet.specs.declared.Alarm.TheVariants.{Fault}
 use Rattle.protocol.specs.History.{stepping, steps}
 use Rattle.protocol.specs.Listing.{ascii}
 use Rattle.protocol.specs.Marked.{file_of, record_of, send, begin, deliver, restored, fail, ListingOf, Case}
@@ -39,7 +38,7 @@ comes_back_finds = record {
   loaded = 0;
   taken = true;
   ended = true;
-  place = Fault (AtTripped 2);
+  place = Some (AtTripped 2);
   committed = 1;
   left = 1;
   begun = true;
@@ -82,7 +81,7 @@ trip_passed_over_finds = record {
   loaded = 0;
   taken = true;
   ended = true;
-  place = Fault (AtTripped 0);
+  place = Some (AtTripped 0);
   committed = 2;
   left = 1;
   begun = true;
@@ -119,7 +118,7 @@ third_trip_fails_finds = record {
   loaded = 0;
   taken = true;
   ended = true;
-  place = Fault (AtFailed 2);
+  place = Some (AtFailed 2);
   committed = 1;
   left = 1;
   begun = false;
@@ -171,7 +170,7 @@ lead_moves_on_finds = record {
   loaded = 0;
   taken = true;
   ended = true;
-  place = Fault (AtTripped 1);
+  place = Some (AtTripped 1);
   committed = 1;
   left = 1;
   begun = true;
@@ -206,7 +205,7 @@ middle_trips_finds = record {
   loaded = 0;
   taken = true;
   ended = true;
-  place = Fault (AtTripped 1);
+  place = Some (AtTripped 1);
   committed = 1;
   left = 1;
   begun = true;
@@ -241,7 +240,7 @@ trips_while_saving_finds = record {
   loaded = 0;
   taken = true;
   ended = true;
-  place = Fault (AtTripped 2);
+  place = Some (AtTripped 2);
   committed = 0;
   left = 1;
   begun = true;

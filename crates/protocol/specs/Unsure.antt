@@ -1,6 +1,6 @@
 -- Closed runs of document 02, card 6: three recoveries in which cabinets report unsure, runs with the answer to each record, and a state from
 -- which the wait of document 01 and reports in its place come to the same images.
-use Rattle.std.specs.Prelude.{ℕ, ◌≡◌, Bool, true, false, ◌&&◌, List, [], ◌∷◌, ◌++◌, map, eqb}
+use Rattle.std.specs.Prelude.{ℕ, ◌≡◌, Bool, true, false, ◌&&◌, List, [], ◌∷◌, ◌++◌, map, eqb, Some}
 use Rattle.std.proofs.Math.Option.{none, some}
 use Rattle.marks.specs.Marks.{no_marks}
 use Rattle.packet.specs.declared.Place.TheVariants.{Failed as AtFailed, Tripped as AtTripped}
@@ -8,7 +8,6 @@ use Rattle.state.specs.declared.State.{State}
 use Rattle.state.specs.declared.State.TheVariants.{Normal}
 use Rattle.state.specs.declared.Version.{Version}
 use Rattle.state.specs.declared.Version.TheVariants.{Known}
-use Rattle.cabinet.specs.declared.Alarm.TheVariants.{Fault}
 use Rattle.cabinet.specs.Cabinet.{absent, resuming, alarmed, unsure_for}
 use Rattle.image.specs.declared.Image.{Image}
 use Rattle.group.specs.declared.Group.{Group}
@@ -54,7 +53,7 @@ decided_after_fail_finds = record {
   loaded = 0;
   taken = true;
   ended = true;
-  place = Fault (AtFailed 0);
+  place = Some (AtFailed 0);
   committed = 0;
   left = 0;
   begun = true;
@@ -100,7 +99,7 @@ decided_after_trip_finds = record {
   loaded = 0;
   taken = true;
   ended = true;
-  place = Fault (AtTripped 0);
+  place = Some (AtTripped 0);
   committed = 1;
   left = 0;
   begun = true;
@@ -156,7 +155,7 @@ early_finds = record {
   loaded = 0;
   taken = true;
   ended = true;
-  place = Fault (AtTripped 0);
+  place = Some (AtTripped 0);
   committed = 1;
   left = 1;
   begun = true;

@@ -1,12 +1,11 @@
 -- Document 01's kind 9, wait over, with card 5's words. Card 6 withdrew it: no record is one, and no code does it. The definition stays for the
 -- card's sentence, that a recovery ends in the same save under the wait and with reports in its place (`claims.NoClock`).
-use Rattle.std.specs.Prelude.{ℕ, Bool, false, ◌&&◌}
+use Rattle.std.specs.Prelude.{ℕ, Bool, false, ◌&&◌, None, Some}
 use Rattle.marks.specs.Marks.{Marks, marked, covers}
 use Rattle.packet.specs.declared.Place.{Place}
 use Rattle.packet.specs.declared.Place.TheVariants.{Failed as AtFailed, Tripped as AtTripped, Link as AtLink}
 use Rattle.state.specs.declared.State.TheVariants.{Error}
-use Rattle.cabinet.specs.declared.Alarm.{Alarm}
-use Rattle.cabinet.specs.declared.Alarm.TheVariants.{Quiet, Fault}
+use Rattle.cabinet.specs.Alarm.{Alarm}
 use Rattle.cabinet.specs.declared.Cabinet.{Cabinet}
 use Rattle.group.specs.declared.Group.{Group}
 use Rattle.state.specs.State.{is_in, bit_of}
@@ -22,8 +21,8 @@ joined_to (AtLink j k) c = false
 
 -- the fault is the coordinator as it was before, as noted on entering error, and a link in use joined the two
 abbrev pub lost_coordinator : Alarm → Cabinet → Bool
-lost_coordinator Quiet c = false
-lost_coordinator (Fault p) c = c.noted.former && joined_to p c
+lost_coordinator None c = false
+lost_coordinator (Some p) c = c.noted.former && joined_to p c
 
 -- those in error with unknown version
 unfoldable pub unsure_ones : Group → Marks

@@ -1,13 +1,13 @@
 -- Document 02, card 8: which word settled the latest recovery. First the question, asked of the group, and the line that the program `word`
 -- prints; then what the history says, from the groups before and after each step and never from the note.
-use Rattle.std.specs.Prelude.{ℕ, ◌+◌, ◌-◌, Bool, true, false, cond, not, ◌&&◌, List, [], ◌∷◌, ◌++◌, eqb, ltb}
+use Rattle.std.specs.Prelude.{ℕ, ◌+◌, ◌-◌, Bool, true, false, cond, not, ◌&&◌, List, [], ◌∷◌, ◌++◌, eqb, ltb, None, Some, Result, Err, Ok}
 use Rattle.std.proofs.Math.Option.{Option, none, some}
 use Rattle.marks.specs.Marks.{Marks, lowest}
 use Rattle.state.specs.declared.State.{State}
 use Rattle.state.specs.declared.State.TheVariants.{Normal, Recovering}
 use Rattle.state.specs.State.{is_in, in_recovery, is_unknown}
-use Rattle.settled.specs.declared.Settled.{Settled}
-use Rattle.settled.specs.declared.Settled.TheVariants.{Nobody, By}
+use Rattle.settled.specs.declared.First.{First}
+use Rattle.settled.specs.Settled.{Settled}
 use Rattle.settled.specs.Settled.{number_of, unfinished}
 use Rattle.cabinet.specs.Cabinet.{coordinator}
 use Rattle.group.specs.declared.Group.{Group}
@@ -18,26 +18,28 @@ use Rattle.protocol.specs.declared.Step.{Step}
 use Rattle.protocol.specs.declared.Step.TheVariants.{Send, Note, Begin, Deliver, Write, Saved, Fetch, Restored, Fail, Damage, Lose, Trip, Unsure}
 use Rattle.protocol.specs.declared.Decoded.{Decoded}
 use Rattle.protocol.specs.declared.Decoded.TheVariants.{Malformed, Unused, Taken}
-use Rattle.protocol.specs.declared.Told.{Told}
-use Rattle.protocol.specs.declared.Told.TheVariants.{Refused, Settled as Whom}
 use Rattle.protocol.specs.Entry.{decode, step, step_all}
 use Rattle.protocol.specs.Listing.{Text, ascii, decimal, load_line, records}
 use Rattle.protocol.specs.History.{Operation, stepping, pointing, returning, World, advance, opening, ends}
+
+-- what is told of the word that settled the latest recovery: who it was, or a refusal's number
+abbrev pub Told : Type 0
+Told = Result First ℕ
 
 -- ---- the question
 
 -- "24 none has yet, asked after 10"
 abbrev pub told_of : Settled → Told
-told_of Nobody = Refused 24
-told_of (By f) = Whom f
+told_of None = Err 24
+told_of (Some f) = Ok f
 
 unfoldable pub which_word : Group → Told
-which_word g = cond (is_crashed g) (Refused 10) (told_of g.settled)
+which_word g = cond (is_crashed g) (Err 10) (told_of g.settled)
 
 -- its numbers: a refusal's alone, or "I R", cabinets numbered from 1
 abbrev pub numbers_of : Told → List ℕ
-numbers_of (Refused k) = k ∷ []
-numbers_of (Whom f) = (f.cabinet + 1) ∷ number_of f.reason ∷ []
+numbers_of (Err k) = k ∷ []
+numbers_of (Ok f) = (f.cabinet + 1) ∷ number_of f.reason ∷ []
 
 -- ---- the program: "runs the listing's two files and prints one line, `word I R` (`load N` or `word N` if refused)"
 

@@ -1,7 +1,7 @@
 -- Closed runs of document 02, card 9: a recovery that brings back the bookings of both parties, cases of what is loaded, answered and printed, what the
 -- history notes of a hurt packet, and pairs of runs that differ in the amounts of workshop sends. Check values that stand here as numbers were
 -- computed by another program.
-use Rattle.std.specs.Prelude.{ℕ, ◌+◌, ◌≡◌, Bool, true, false, cond, ◌&&◌, List, [], ◌∷◌, ◌++◌, map, get_or, replicate, eqb}
+use Rattle.std.specs.Prelude.{ℕ, ◌+◌, ◌≡◌, Bool, true, false, cond, ◌&&◌, List, [], ◌∷◌, ◌++◌, map, get_or, replicate, eqb, Some}
 use Rattle.std.proofs.Math.Option.{Option, none, some}
 use Rattle.outlet.specs.declared.Outlet.TheVariants.{A, B, W}
 use Rattle.outlet.specs.declared.Party.{Party}
@@ -14,8 +14,7 @@ use Rattle.packet.specs.declared.Packet.{Packet}
 use Rattle.packet.specs.declared.Packet.TheVariants.{Checkp}
 use Rattle.packet.specs.Packet.{packed, octets_of, start_check}
 use Rattle.line.specs.Line.{oldest}
-use Rattle.cabinet.specs.declared.Alarm.{Alarm}
-use Rattle.cabinet.specs.declared.Alarm.TheVariants.{Fault}
+use Rattle.cabinet.specs.Alarm.{Alarm}
 use Rattle.cabinet.specs.declared.Cabinet.{Cabinet}
 use Rattle.image.specs.declared.Image.{Image}
 use Rattle.image.specs.Image.{booking}
@@ -93,7 +92,7 @@ both_parties_finds = record {
   loaded = 0;
   taken = true;
   ended = true;
-  place = Fault (AtFailed 2);
+  place = Some (AtFailed 2);
   committed = 1;
   left = 1;
   begun = true;
@@ -463,8 +462,8 @@ loss_after q = loss_in (step_all (load twins_one.file).group (lost_shared q))
 -- with 17,789 amperes the CRCs are equal and with 1 ampere they are not; the counts are unequal in both
 abbrev pub LossFound : Type 0
 LossFound =
-    (loss_after 17789 ≡ ((Checkp (register_at 0x3F63 2), register_at 0x3F63 1), Fault (AtLink 0 1)))
-    × (loss_after 1 ≡ ((Checkp (register_at 0x001B 2), register_at 0x3F63 1), Fault (AtLink 0 1)))
+    (loss_after 17789 ≡ ((Checkp (register_at 0x3F63 2), register_at 0x3F63 1), Some (AtLink 0 1)))
+    × (loss_after 1 ≡ ((Checkp (register_at 0x001B 2), register_at 0x3F63 1), Some (AtLink 0 1)))
 
 -- so both runs find the loss at that checkp, and come back from the start
 abbrev pub twins_lost : Twins

@@ -5,7 +5,6 @@
 use group::Group;
 use packet::Pattern;
 use points::Points;
-use settled::First;
 
 // A step with the fields that its kind uses. Cabinets are numbered from 1, as in the record.
 #[derive(Clone, Copy)]
@@ -26,6 +25,7 @@ pub enum Step {
 }
 
 // What six octets, or some other number of them, decode to.
+// Kept: an enum of its own and no Result: it is the project's form for the decoder (docs/TRACE.md).
 #[derive(Clone, Copy)]
 pub enum Decoded {
     Malformed,
@@ -34,17 +34,11 @@ pub enum Decoded {
 }
 
 // An answer with the points after it.
+// Kept, here and in Turn: an answer beside what is left, also of a refusal; `take_point` and `operate` are defined so, and theorems read both.
 #[derive(Clone, Copy)]
 pub struct Noted {
     pub answer: u8,
     pub points: Points,
-}
-
-// What is told of the word that settled the latest recovery: a refusal's number, or who it was.
-#[derive(Clone, Copy)]
-pub enum Told {
-    Refused(u8),
-    Settled(First),
 }
 
 // A group and its points.

@@ -3,13 +3,15 @@
 #![tactic(auto)]
 
 ghost use Rattle.std.specs.Prelude.{◌≡◌, get_or, set};
-ghost use Rattle.packet.specs.Packet.{start_check};
-ghost use Rattle.registers.specs.Registers.{start_registers, run_over_sent, run_over_taken, mark_hurt, restart_if, restart_to, restart_sent, restart_taken};
+ghost use Rattle.packet.specs.Packet.{start_check, step_check};
+ghost use Rattle.registers.specs.Registers.{start_registers, run_over_sent, run_over_taken, mark_hurt, restart_to, restart_sent, restart_taken};
 
 use packet::{Check, Payload};
+use std::array;
 
 // The check registers of a cabinet's lines out and in, and which lines in had a normal packet
 // hurt since the register restarted.
+// Kept: three rows side by side: a packet changes one of them, and each is promised equal to its own definition.
 #[derive(Clone, Copy)]
 pub struct Registers {
     pub sent: [Check; 8],
@@ -22,13 +24,10 @@ pub struct Registers {
 pub fn check_at(checks: [Check; 8], j: u8) -> Check
     ensures { result ≡ get_or checks j start_check }
 {
-    if j < 8 {
-        checks[j as usize]
-    } else {
-        Check::start()
-    }
+    checks.get(j as usize).copied().unwrap_or(Check::start())
 }
 
+// Kept: a test and a write, as in marks::set_mark.
 fn set_check(checks: [Check; 8], j: u8, check: Check) -> [Check; 8]
     ensures { result ≡ set checks j check }
 {
@@ -39,38 +38,27 @@ fn set_check(checks: [Check; 8], j: u8, check: Check) -> [Check; 8]
     changed
 }
 
-fn restart_if(restart: bool, checks: [Check; 8], j: u8) -> [Check; 8]
-    ensures { result ≡ restart_if restart checks j }
+// The register of the line to or from j runs over a packet.
+fn run_over(checks: [Check; 8], j: u8, p: Payload) -> [Check; 8]
+    ensures { result ≡ set checks j (step_check (get_or checks j start_check) p) }
 {
-    if restart {
-        set_check(checks, j, Check::start())
-    } else {
-        checks
-    }
+    set_check(checks, j, check_at(checks, j).step(p))
 }
 
 // The registers of the marked lines restart.
 fn restarted(marks: [bool; 8], checks: [Check; 8]) -> [Check; 8]
     ensures { result ≡ restart_to 8 marks checks }
 {
-    let mut left = checks;
-    let mut j: u8 = 0;
-    while j < 8 {
-        let next = restart_if(marks::marked(marks, j), left, j);
-        left = next;
-        j += 1;
-    }
-    left
+    array::from_fn(|j| if marks[j] { Check::start() } else { checks[j] })
 }
 
 // All registers at their start, and no packet hurt.
 pub fn start_registers() -> Registers
     ensures { result ≡ start_registers }
 {
-    let start = Check::start();
     Registers {
-        sent: [start; 8],
-        taken: [start; 8],
+        sent: [Check::start(); 8],
+        taken: [Check::start(); 8],
         hurt: [false; 8],
     }
 }
@@ -80,59 +68,50 @@ impl Registers {
     pub fn run_over_sent(self, j: u8, p: Payload) -> Registers
         ensures { result ≡ run_over_sent self j p }
     {
-        let mut registers = self;
-        let sent = registers.sent;
-        let check = check_at(sent, j).step(p);
-        let sent = set_check(sent, j, check);
-        registers.sent = sent;
-        registers
+        Registers {
+            sent: run_over(self.sent, j, p),
+            ..self
+        }
     }
 
     // The receiver's register of the line from j runs over a packet.
     pub fn run_over_taken(self, j: u8, p: Payload) -> Registers
         ensures { result ≡ run_over_taken self j p }
     {
-        let mut registers = self;
-        let taken = registers.taken;
-        let check = check_at(taken, j).step(p);
-        let taken = set_check(taken, j, check);
-        registers.taken = taken;
-        registers
+        Registers {
+            taken: run_over(self.taken, j, p),
+            ..self
+        }
     }
 
     // A normal packet of the line from j was hurt.
     pub fn mark_hurt(self, j: u8) -> Registers
         ensures { result ≡ mark_hurt self j }
     {
-        let mut registers = self;
-        let hurt = registers.hurt;
-        let hurt = marks::set_mark(hurt, j, true);
-        registers.hurt = hurt;
-        registers
+        Registers {
+            hurt: marks::set_mark(self.hurt, j, true),
+            ..self
+        }
     }
 
     // The sender's registers of the marked lines restart.
     pub fn restart_sent(self, marks: [bool; 8]) -> Registers
         ensures { result ≡ restart_sent self marks }
     {
-        let mut registers = self;
-        let sent = registers.sent;
-        let sent = restarted(marks, sent);
-        registers.sent = sent;
-        registers
+        Registers {
+            sent: restarted(marks, self.sent),
+            ..self
+        }
     }
 
     // The receiver's register of the line from j restarts, and no packet counts as hurt since.
     pub fn restart_taken(self, j: u8) -> Registers
         ensures { result ≡ restart_taken self j }
     {
-        let mut registers = self;
-        let taken = registers.taken;
-        let taken = set_check(taken, j, Check::start());
-        registers.taken = taken;
-        let hurt = registers.hurt;
-        let hurt = marks::set_mark(hurt, j, false);
-        registers.hurt = hurt;
-        registers
+        Registers {
+            taken: set_check(self.taken, j, Check::start()),
+            hurt: marks::set_mark(self.hurt, j, false),
+            ..self
+        }
     }
 }

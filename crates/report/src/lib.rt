@@ -6,38 +6,30 @@ ghost use Rattle.std.proofs.lemmas.List.Edits.{sets};
 ghost use Rattle.load.specs.Load.{load};
 ghost use Rattle.protocol.specs.Listing.{step_lines, cab_lines, records, listing};
 ghost use Rattle.protocol.specs.History.{steps};
-ghost use Rattle.buffer.specs.Written.{Written};
+ghost use Rattle.buffer.specs.Added.{Added};
 ghost use Rattle.replay.specs.Replay.{EndsWell};
 
+use buffer::Writer;
 use group::Group;
 
 // A line for each answer. Records are numbered from 0 inside and from 1 in the listing.
-fn step_lines(out: &mut [u8], answers: &[u8]) -> usize
+fn step_lines(out: &mut Writer, answers: &[u8])
     requires { length answers.now ≤ 10000 }
-    ensures { Written (step_lines 1 answers.now) 0 out.old result out.new }
+    ensures { Added (step_lines 1 answers.now) out.old out.new }
 {
-    let mut at = 0;
-    let mut i = 0;
-    while i < answers.len() {
-        at = text::step_line(out, at, i as u16 + 1, answers[i]);
-        i += 1;
+    for (i, answer) in answers.iter().enumerate() {
+        text::step_line(out, i as u16 + 1, *answer);
     }
-    at
 }
 
 // A line for each cabinet, at most 255 of them.
-pub fn cab_lines(out: &mut [u8], at: usize, g: Group) -> usize
-    ensures written { Written (cab_lines g.n g) at out.old result out.new }
+pub fn cab_lines(out: &mut Writer, g: Group)
+    ensures written { Added (cab_lines g.n g) out.old out.new }
     ensures n_bound { g.n ≤ 255 }
 {
-    let n = g.n;
-    let mut at = at;
-    let mut i: u8 = 0;
-    while i < n {
-        at = text::cab_line(out, at, i, g.cabinet(i));
-        i += 1;
+    for i in 0..g.n {
+        text::cab_line(out, i, g.cabinet(i));
     }
-    at
 }
 
 // The whole text for a group file and a list of step records, of which the first 10,000 count: its
@@ -50,14 +42,20 @@ pub fn write_listing(file: &[u8], list: &[u8], out: &mut [u8]) -> usize
     ensures upper_bound { result ≤ 200000 }
     ensures ends_well { (load file.now).answer ≡ 0 → EndsWell file.now (steps (records 10000 list.now)) }
 {
-    let used = steps::least(list.len(), 60000);
+    let used = list.len().min(60000);
     let mut answers = [0u8; 10000];
-    let o = replay::replay(file, &list[..used], &mut answers);
-    if o.answer == 0 {
-        let count = (used + 5) / 6;
-        let at = step_lines(out, &answers[..count]);
-        cab_lines(out, at, o.group)
-    } else {
-        text::load_line(out, 0, o.answer)
+    let replayed = replay::replay(file, &list[..used], &mut answers);
+    let mut text = Writer { out, end: 0 };
+    match replayed {
+        Ok(group) => {
+            let count = (used + 5) / 6;
+            step_lines(&mut text, &answers[..count]);
+            cab_lines(&mut text, group);
+            text.end
+        }
+        Err(refusal) => {
+            text::load_line(&mut text, u8::from(refusal));
+            text.end
+        }
     }
 }

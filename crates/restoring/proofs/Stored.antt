@@ -1,9 +1,9 @@
 -- Fetch, restored and unsure of the group are those on the cabinets, lines and slots that they touch, stored back.
-use Prim.Native.Nat.{ℕ, zero, suc}
+use Rattle.std.specs.Prelude.{None, Some}
+use Prim.Native.Nat.{ℕ}
 use mathlib.Core.Path.{◌≡◌, refl, sym, ap, ◌∙◌}
 use mathlib.Core.Bool.{Bool, true, false, cond, ◌||◌}
-use mathlib.Core.List.{List, [], ◌∷◌}
-use lib.ListN.{length, get_or, set, length-set}
+use lib.ListN.{length, length-set}
 use lib.Dec.{eqb}
 use Rattle.marks.specs.Marks.{covers}
 use Rattle.packet.specs.declared.Place.TheVariants.{Failed as AtFailed, Tripped as AtTripped, Link as AtLink}
@@ -15,9 +15,7 @@ use Rattle.image.specs.Image.{with_piece}
 use Rattle.store.specs.Store.{home_in, is_away}
 use Rattle.store.specs.Share.{share}
 use Rattle.store.proofs.Shared.{share_same, share_slot}
-use Rattle.cabinet.specs.declared.Alarm.{Alarm}
-use Rattle.cabinet.specs.declared.Alarm.TheVariants.{Quiet, Fault as At}
-use Rattle.cabinet.specs.declared.Cabinet.{Cabinet}
+use Rattle.cabinet.specs.Alarm.{Alarm}
 use Rattle.cabinet.specs.Cabinet.{absent, coordinator, fetched, restored_for, unsure_for, with_version}
 use Rattle.group.specs.declared.Group.{Group}
 use Rattle.group.specs.Group.{cabinet, with_cabinet, outgoing, with_outgoing, with_store, with_settled, settle, taken}
@@ -30,7 +28,7 @@ use Rattle.moves.specs.Seats as S
 use Rattle.moves.proofs.Stored.{recover_stored, end_stored}
 use Rattle.saving.specs.Saving.{leaving}
 use Rattle.seat.proofs.Same.{cabinet_same}
-use Rattle.saving.proofs.Stored.{home_of, keep, keep_all, kept_by}
+use Rattle.saving.proofs.Stored.{home_of, keep, keep_all, kept_by, told}
 use Rattle.restoring.specs.Restoring.{fetch_refusal, fetch_piece, fetch, restored_refusal, all_restored, closes, closing, unsure_refusal, all_unsure, decide_if_all, word_after}
 
 -- ---- 7 fetch
@@ -67,22 +65,16 @@ restored_refused g a = refl
 note_length : (x : Alarm) (g : Group) (v : Version) → length g.cabinets ≡ length g.outgoing
     → length (M.note_for x g v).cabinets ≡ length (M.note_for x g v).outgoing
 unfolding with_cabinet
-note_length Quiet g v e = e
-note_length (At (AtFailed x)) g v e = length-set g.cabinets x (with_version (cabinet g x) v) ∙ e
-note_length (At (AtTripped x)) g v e = e
-note_length (At (AtLink x y)) g v e = e
+note_length None g v e = e
+note_length (Some (AtFailed x)) g v e = length-set g.cabinets x (with_version (cabinet g x) v) ∙ e
+note_length (Some (AtTripped x)) g v e = e
+note_length (Some (AtLink x y)) g v e = e
 
 -- the end of a recovery, once the failed cabinet's slot is noted
 pub end_noted : (g : Group) (k : ℕ) → length g.cabinets ≡ length g.outgoing
     → M.end_recovery (M.note_lost g k) k ≡ with_seat (M.note_lost g k) k (S.end_recovery (seat (M.note_lost g k) k))
 unfolding M.note_lost
 end_noted g k e = end_stored (M.note_lost g k) k (note_length (cabinet g k).phase.alarm g (cabinet g k).phase.version e)
-
--- whether all have restored, read back; past the end no coordinator is in recovered
-all_told : (l : List Cabinet) (k : ℕ) (c : Cabinet) → all_restored c ≡ false → all_restored (get_or (set l k c) k absent) ≡ false
-all_told [] k c e = refl
-all_told (x ∷ l) zero c e = e
-all_told (x ∷ l) (suc k) c e = all_told l k c e
 
 -- where nothing closes, nothing more is done
 not_closing : (g : Group) (a k : ℕ) → is_away g.store a ≡ false → all_restored (cabinet g k) ≡ false → closing g a k ≡ g
@@ -94,7 +86,7 @@ closed_by : (g : Group) (a k : ℕ) (s : Seat) (away all : Bool) → is_away g.s
 unfolding cabinet with_cabinet with_outgoing
 closed_by g a k s true all e f = refl
 closed_by g a k s false true e f = refl
-closed_by g a k s false false e f = not_closing (with_seat g k s) a k e (all_told g.cabinets k s.cabinet f)
+closed_by g a k s false false e f = not_closing (with_seat g k s) a k e (told all_restored (λ x. s.cabinet) (sym f) g.cabinets k ∙ f)
 
 pub restored_stored : (g : Group) (a k : ℕ)
     → G.end_if_all (G.come_back_if_away (G.report_restored g a k) a) k
@@ -113,13 +105,10 @@ pub unsure_refused : (g : Group) (a : ℕ)
     → G.unsure_refusal g a ≡ unsure_refusal (cabinet g a) (cabinet g (coordinator (cabinet g a))) a
 unsure_refused g a = refl
 
--- whether all are unsure, read back; past the end nothing is wanted, before as after
-all_unsure_told : (l : List Cabinet) (k a : ℕ)
-    → all_unsure (get_or (set l k (unsure_for (get_or l k absent) a)) k absent) ≡ all_unsure (unsure_for (get_or l k absent) a)
+-- past the end nothing is wanted
+none_wanted : (a : ℕ) → all_unsure absent ≡ all_unsure (unsure_for absent a)
 unfolding covers
-all_unsure_told [] k a = refl
-all_unsure_told (x ∷ l) zero a = refl
-all_unsure_told (x ∷ l) (suc k) a = all_unsure_told l k a
+none_wanted a = refl
 
 decided_by : (g : Group) (k : ℕ) (s : Seat) (t : Bool) → length g.cabinets ≡ length g.outgoing
     → cond t (settle (M.recover_with (with_seat g k s) k (bit_of (cabinet (with_seat g k s) k).phase.version)) k Decided) (with_seat g k s)
@@ -141,5 +130,5 @@ unsure_stored g a k e =
     let s : Seat = record { cabinet = c; lines = outgoing g k } in
     let x = with_seat g k s in
     ap (λ h. cond (all_unsure (cabinet h k)) (settle (M.recover_with h k (bit_of (cabinet h k).phase.version)) k Decided) h) (cabinet_stored g k c)
-    ∙ (ap (λ t. cond t (settle (M.recover_with x k (bit_of (cabinet x k).phase.version)) k Decided) x) (all_unsure_told g.cabinets k a)
+    ∙ (ap (λ t. cond t (settle (M.recover_with x k (bit_of (cabinet x k).phase.version)) k Decided) x) (told all_unsure (λ x. unsure_for x a) (none_wanted a) g.cabinets k)
     ∙ decided_by g k s (all_unsure c) e)

@@ -5,7 +5,7 @@ use Rattle.marks.specs.Marks.{covers}
 use Rattle.state.specs.declared.State.TheVariants.{Recovering, Recovered}
 use Rattle.state.specs.State.{is_in, in_restoring, bit_of}
 use Rattle.settled.specs.declared.Reason.TheVariants.{Decided}
-use Rattle.settled.specs.declared.Settled.{Settled}
+use Rattle.settled.specs.Settled.{Settled}
 use Rattle.settled.specs.Settled.{enters}
 use Rattle.image.specs.Image.{with_piece}
 use Rattle.store.specs.declared.Share.{Share}
@@ -16,7 +16,7 @@ use Rattle.group.specs.declared.Group.{Group}
 use Rattle.seat.specs.declared.Seat.{Seat}
 use Rattle.protocol.specs.Kinds.{need, may_report, come_back_if_away, end_if_all, is_unsure, takes_unsure}
 use Rattle.moves.specs.Seats.{recover_with}
-use Rattle.saving.specs.declared.Kept.{Kept}
+use Rattle.saving.specs.declared.KeptAnswer.{KeptAnswer}
 use Rattle.saving.specs.Saving.{leaving}
 
 -- ---- 7 fetch
@@ -29,7 +29,7 @@ unfoldable pub fetch_piece : Cabinet → Cabinet → Share → Cabinet
 fetch_piece c home x =
     fetched c (with_piece c.noted.pieces (slot_in_share x (serves_in x) (bit_of home.phase.version)) c.image)
 
-unfoldable pub fetch : Cabinet → Cabinet → Share → Kept
+unfoldable pub fetch : Cabinet → Cabinet → Share → KeptAnswer
 fetch c home x =
     cond (eqb (fetch_refusal c home) 0) (leaving 0 (fetch_piece c home x) x false) (leaving (fetch_refusal c home) c x false)
 

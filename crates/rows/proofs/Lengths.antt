@@ -7,7 +7,7 @@ use native.Mathlib.Omega.{arith}
 use lib.ListN.{length, length-append}
 use Rattle.group.specs.declared.Group.{Group}
 use Rattle.group.specs.Group.{cabinet, home}
-use Rattle.protocol.specs.declared.Told.{Told}
+use Rattle.protocol.specs.Word.{Told}
 use Rattle.protocol.specs.Word.{which_word}
 use Rattle.newest.specs.declared.Sort.{Sort}
 use Rattle.events.specs.Fates.{fate_in, ended_in}

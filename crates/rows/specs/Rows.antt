@@ -1,10 +1,9 @@
 -- A row of a chronicle: the answer to an operation, what it came to, and the group after it. docs/CHRONICLE.md has it in a table.
-use Rattle.std.specs.Prelude.{ℕ, zero, suc, List, [], ◌∷◌, ◌++◌}
+use Rattle.std.specs.Prelude.{ℕ, zero, suc, List, [], ◌∷◌, ◌++◌, Err, Ok}
 use Rattle.settled.specs.Settled.{number_of}
 use Rattle.group.specs.declared.Group.{Group}
 use Rattle.group.specs.Group.{cabinet, home}
-use Rattle.protocol.specs.declared.Told.{Told}
-use Rattle.protocol.specs.declared.Told.TheVariants.{Refused, Settled}
+use Rattle.protocol.specs.Word.{Told}
 use Rattle.protocol.specs.Word.{which_word}
 use Rattle.newest.specs.declared.Sort.{Sort}
 use Rattle.events.specs.Fates.{fate_in, ended_in}
@@ -13,12 +12,12 @@ use Rattle.layout.specs.Layout.{high, low, numbered, cabinet_octets, lines_from}
 
 -- which word settled the latest recovery: the cabinet and its reason, or 0 and the refusal
 abbrev pub told_first : Told → ℕ
-told_first (Refused k) = 0
-told_first (Settled f) = numbered f.cabinet
+told_first (Err k) = 0
+told_first (Ok f) = numbered f.cabinet
 
 abbrev pub told_second : Told → ℕ
-told_second (Refused k) = k
-told_second (Settled f) = number_of f.reason
+told_second (Err k) = k
+told_second (Ok f) = number_of f.reason
 
 unfoldable pub head_octets : ℕ → ℕ → Told → ℕ → ℕ → List ℕ
 head_octets answer fate told ended number = answer ∷ fate ∷ told_first told ∷ told_second told ∷ ended ∷ high number ∷ low number ∷ []

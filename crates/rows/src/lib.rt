@@ -1,80 +1,46 @@
-// A row of a chronicle, written into a buffer that the caller lends, as in `buffer`.
+// A row of a chronicle, written by the writer that the caller lends.
 #![tactic(auto)]
 
-ghost use Rattle.std.specs.Prelude.{◌≡◌};
-ghost use Rattle.buffer.specs.Written.{Written};
-ghost use Rattle.rows.specs.Rows.{told_first, told_second, head_octets, cabinets_to, row_octets};
+ghost use Rattle.std.specs.Prelude.{◌≡◌, [], ◌∷◌};
+ghost use Rattle.buffer.specs.Added.{Added};
+ghost use Rattle.rows.specs.Rows.{told_first, told_second, cabinets_to, row_octets};
+ghost use Rattle.refusal.specs.Refusal.{numbered};
 
+use buffer::Writer;
 use group::Group;
 use newest::Sort;
-use protocol::Told;
+use refusal::Refusal;
+use settled::First;
 
-fn told_first(t: Told) -> u8
-    ensures { result ≡ told_first t }
+fn told_octets(t: Result<First, Refusal>) -> [u8; 2]
+    ensures { result ≡ told_first (numbered t) ∷ told_second (numbered t) ∷ [] }
 {
     match t {
-        Told::Refused(_) => 0,
-        Told::Settled(first) => layout::numbered(first.cabinet),
+        Err(refusal) => [0, u8::from(refusal)],
+        Ok(first) => [layout::numbered(first.cabinet), u8::from(first.reason)],
     }
-}
-
-fn told_second(t: Told) -> u8
-    ensures { result ≡ told_second t }
-{
-    match t {
-        Told::Refused(k) => k,
-        Told::Settled(first) => {
-            let reason = first.reason;
-            settled::number_of(reason)
-        }
-    }
-}
-
-fn head_octets(answer: u8, fate: u8, t: Told, ended: u8, number: u16) -> [u8; 7]
-    ensures { result ≡ head_octets answer fate t ended number }
-{
-    [
-        answer,
-        fate,
-        told_first(t),
-        told_second(t),
-        ended,
-        layout::high(number),
-        layout::low(number),
-    ]
 }
 
 // The cabinets below n of the group after an operation.
-fn put_cabinets(out: &mut [u8], at: usize, n: u8, before: Group, after: Group) -> usize
-    ensures { Written (cabinets_to n before after) at out.old result out.new }
+fn put_cabinets(out: &mut Writer, n: u8, before: Group, after: Group)
+    ensures { Added (cabinets_to n before after) out.old out.new }
 {
-    let mut end = at;
-    let mut i: u8 = 0;
-    while i < n {
+    for i in 0..n {
         let c = after.cabinet(i);
         let did = events::deeds(before.cabinet(i), c, i);
-        end = layout::put_cabinet(out, end, c, after.home(i), did);
-        i += 1;
+        layout::put_cabinet(out, c, after.home(i), did);
     }
-    end
 }
 
 // The row of an operation of sort s, which took the group from `before` to `after`; `number` is that of the save which the rule gives then.
-pub fn put_row(
-    out: &mut [u8],
-    at: usize,
-    answer: u8,
-    before: Group,
-    after: Group,
-    s: Sort,
-    number: u16,
-) -> usize
-    ensures { Written (row_octets answer before after s number) at out.old result out.new }
+pub fn put_row(out: &mut Writer, answer: u8, before: Group, after: Group, s: Sort, number: u16)
+    ensures { Added (row_octets answer before after s number) out.old out.new }
 {
-    let fate = events::fate_in(answer, before, s);
-    let ended = events::ended_in(answer, before, after, s);
-    let head = head_octets(answer, fate, asking::which_word(after), ended, number);
-    let at = buffer::word(out, at, &head);
-    let at = put_cabinets(out, at, after.n, before, after);
-    layout::put_all_lines(out, at, after.n, after)
+    out.put(answer);
+    out.put(events::fate_in(answer, before, s));
+    out.word(&told_octets(asking::which_word(after)));
+    out.put(events::ended_in(answer, before, after, s));
+    out.word(&number.to_be_bytes());
+    put_cabinets(out, after.n, before, after);
+    layout::put_all_lines(out, after.n, after);
 }

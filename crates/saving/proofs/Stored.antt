@@ -24,7 +24,7 @@ use Rattle.protocol.specs.Moves as M
 use Rattle.protocol.specs.Kinds as G
 use Rattle.moves.specs.Seats as S
 use Rattle.moves.proofs.Stored.{join_stored, commit_stored}
-use Rattle.saving.specs.declared.Kept.{Kept}
+use Rattle.saving.specs.declared.KeptAnswer.{KeptAnswer}
 use Rattle.saving.specs.Saving.{begin_refusal, begin, write_refusal, leaving, piece_saved, write, owe_if, saved_refusal, all_saved, commit_if_all, trips_after}
 
 -- ---- a cabinet read and stored
@@ -34,10 +34,6 @@ again : (f : Cabinet → Cabinet) (l : List Cabinet) (i : ℕ) (c d : Cabinet) �
 again f [] i c d = refl
 again f (x ∷ l) zero c d = refl
 again f (x ∷ l) (suc i) c d = ap (λ (r : List Cabinet). x ∷ r) (again f l i c d)
-
--- the group with other cabinets
-with_cabinets_lem : (g : Group) {cs ds : List Cabinet} → cs ≡ ds → with_cabinets g cs ≡ with_cabinets g ds
-with_cabinets_lem g e = ap (with_cabinets g) e
 
 -- ---- 3 begin
 
@@ -69,7 +65,7 @@ abbrev pub keep : Group → ℕ → Cabinet → Share → Group
 keep g a c x = with_store (with_cabinet g a c) (with_share g.store a x)
 
 -- .. and its home, which may owe a report on it
-abbrev pub keep_all : Group → ℕ → Kept → Outcome
+abbrev pub keep_all : Group → ℕ → KeptAnswer → Outcome
 keep_all g a r =
     answering r.answer (with_cabinet (keep g a r.cabinet r.share) (home_of g a) (owe_if r.owes (cabinet (keep g a r.cabinet r.share) (home_of g a)) a))
 
@@ -86,7 +82,7 @@ refused_same g a k =
     ap (answering k)
     (sym (cabinet_same (keep g a (cabinet g a) (share g.store a)) (home_of g a) ∙ kept_same g a))
 
-pub kept_by : (g : Group) (a : ℕ) (h : Group) (r : Kept) (k : ℕ) (t : Bool) → taken h ≡ keep_all g a r
+pub kept_by : (g : Group) (a : ℕ) (h : Group) (r : KeptAnswer) (k : ℕ) (t : Bool) → taken h ≡ keep_all g a r
     → cond t (taken h) (answering k g) ≡ keep_all g a (cond t r (leaving k (cabinet g a) (share g.store a) false))
 kept_by g a h r k true e = e
 kept_by g a h r k false e = refused_same g a k
@@ -125,13 +121,17 @@ saved_refused g a = refl
 abbrev pub reported : Group → ℕ → ℕ → Group
 reported g a h = with_cabinet g h (owing (cabinet g h) a false)
 
--- whether all is saved, read back; past the end nothing is wanted, before as after
-all_told : (l : List Cabinet) (k a : ℕ)
-    → all_saved (get_or (set l k (saved_for (get_or l k absent) a)) k absent) ≡ all_saved (saved_for (get_or l k absent) a)
+-- what a changed cabinet is asked, read back; past the end the change makes no difference
+pub told : (ask : Cabinet → Bool) (change : Cabinet → Cabinet) → ask absent ≡ ask (change absent) → (l : List Cabinet) (k : ℕ)
+    → ask (get_or (set l k (change (get_or l k absent))) k absent) ≡ ask (change (get_or l k absent))
+told ask change e [] k = e
+told ask change e (x ∷ l) zero = refl
+told ask change e (x ∷ l) (suc k) = told ask change e l k
+
+-- past the end nothing is wanted
+none_wanted : (a : ℕ) → all_saved absent ≡ all_saved (saved_for absent a)
 unfolding covers
-all_told [] k a = refl
-all_told (x ∷ l) zero a = refl
-all_told (x ∷ l) (suc k) a = all_told l k a
+none_wanted a = refl
 
 saved_by : (g : Group) (k : ℕ) (s : Seat) (t : Bool) → length g.cabinets ≡ length g.outgoing
     → cond t (M.commit (with_seat g k s) k) (with_seat g k s) ≡ with_trips (with_seat g k (cond t (S.commit s) s)) (cond t no_trips g.trips)
@@ -151,5 +151,5 @@ saved_stored g a h k e =
     let c = saved_for (cabinet m k) a in
     let s : Seat = record { cabinet = c; lines = outgoing m k } in
     ap (λ x. cond (all_saved (cabinet x k)) (M.commit x k) x) (cabinet_stored m k c)
-    ∙ (ap (λ t. cond t (M.commit (with_seat m k s) k) (with_seat m k s)) (all_told m.cabinets k a)
+    ∙ (ap (λ t. cond t (M.commit (with_seat m k s) k) (with_seat m k s)) (told all_saved (λ x. saved_for x a) (none_wanted a) m.cabinets k)
     ∙ saved_by m k s (all_saved c) (length-set g.cabinets h (owing (cabinet g h) a false) ∙ e))

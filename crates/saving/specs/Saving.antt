@@ -1,6 +1,8 @@
 -- Begin, write and saved, on the cabinets, lines and slots that they touch. That each, stored back, is the step of the group is proved in
 -- proofs/Stored.antt.
-use Rattle.std.specs.Prelude.{ℕ, Bool, true, false, cond, not, ◌&&◌, List, eqb, ltb}
+use Rattle.std.specs.Prelude.{ℕ, Bool, true, false, cond, not, ◌&&◌, List, eqb, ltb, Result, Ok, Err}
+use Rattle.refusal.specs.declared.Refusal.{Refusal}
+use Rattle.refusal.specs.Refusal.{number}
 use Rattle.marks.specs.Marks.{marked, covers}
 use Rattle.state.specs.declared.State.TheVariants.{Normal, Checkpointing}
 use Rattle.state.specs.State.{is_in, in_recovery, in_saving, bit_of}
@@ -10,18 +12,19 @@ use Rattle.cabinet.specs.declared.Cabinet.{Cabinet}
 use Rattle.cabinet.specs.Cabinet.{coordinator, wrote, owing}
 use Rattle.group.specs.Group.{no_trips}
 use Rattle.seat.specs.declared.Seat.{Seat}
-use Rattle.seat.specs.declared.Done.{Done}
+use Rattle.seat.specs.declared.SeatAnswer.{SeatAnswer}
 use Rattle.seat.specs.Seat.{answered}
 use Rattle.protocol.specs.Kinds.{need}
 use Rattle.moves.specs.Seats.{join, cut_if_all, commit}
 use Rattle.saving.specs.declared.Kept.{Kept}
+use Rattle.saving.specs.declared.KeptAnswer.{KeptAnswer}
 
 -- ---- 3 begin
 
 abbrev pub begin_refusal : Cabinet → ℕ → ℕ
 begin_refusal c a = need (is_in c.phase.state Normal && eqb (coordinator c) a) 14 0
 
-unfoldable pub begin : Seat → ℕ → Done
+unfoldable pub begin : Seat → ℕ → SeatAnswer
 begin s a = cond (eqb (begin_refusal s.cabinet a) 0) (answered 0 (cut_if_all (join s))) (answered (begin_refusal s.cabinet a) s)
 
 -- ---- 5 write
@@ -34,10 +37,15 @@ abbrev pub piece_saved : Share → Cabinet → Share
 piece_saved x c = put_piece_in x (not (bit_of c.phase.version)) c.noted.pieces c.image
 
 -- what a cabinet leaves that writes a piece or fetches one, and whether its home owes a report on it
-abbrev pub leaving : ℕ → Cabinet → Share → Bool → Kept
+abbrev pub leaving : ℕ → Cabinet → Share → Bool → KeptAnswer
 leaving k c x owes = record { answer = k; cabinet = c; share = x; owes = owes }
 
-unfoldable pub write : Cabinet → Cabinet → Share → ℕ → Kept
+-- a refusal changes nothing, and no report is owed
+abbrev pub kept_after : Kept → Result Kept Refusal → KeptAnswer
+kept_after before (Ok k) = leaving 0 k.cabinet k.share k.owes
+kept_after before (Err r) = leaving (number r) before.cabinet before.share false
+
+unfoldable pub write : Cabinet → Cabinet → Share → ℕ → KeptAnswer
 write c home x a =
     cond (eqb (write_refusal c home) 0) (leaving 0 (wrote c a) (piece_saved x c) (not (ltb c.noted.pieces 3)))
     (leaving (write_refusal c home) c x false)

@@ -1,100 +1,107 @@
 // The steps of a save: begin, write and saved.
 #![tactic(auto)]
 
-ghost use Rattle.std.specs.Prelude.{◌≡◌, not};
-ghost use Rattle.state.specs.State.{bit_of};
-ghost use Rattle.saving.specs.Saving.{begin_refusal, begin, write_refusal, piece_saved, write, owe_if, saved_refusal, all_saved, commit_if_all, trips_after};
+ghost use Rattle.std.specs.Prelude.{◌≡◌, false};
+ghost use Rattle.refusal.specs.Refusal.{answer_of};
+ghost use Rattle.seat.specs.Seat.{seat_after};
+ghost use Rattle.saving.specs.Saving.{begin_refusal, begin, write_refusal, piece_saved, kept_after, write, owe_if, saved_refusal, all_saved, commit_if_all, trips_after};
 
 use cabinet::Cabinet;
-use seat::{Done, Seat};
+use refusal::Refusal;
+use seat::Seat;
 use state::State;
 use store::Share;
 
 // ---- 3 begin
 
-fn begin_refusal(c: Cabinet, a: u8) -> u8
-    ensures { result ≡ begin_refusal c a }
+fn may_begin(c: Cabinet, a: u8) -> Result<(), Refusal>
+    ensures { answer_of result ≡ begin_refusal c a }
 {
-    let phase = c.phase;
-    let state = phase.state;
-    let normal = state::is_in(state, State::Normal);
-    records::need(marks::and(normal, c.coordinator() == a), 14, 0)
+    Refusal::WrongState.unless(c.phase.state == State::Normal && c.coordinator() == a)
 }
 
 // Cabinet a begins a save.
-pub fn begin(s: Seat, a: u8) -> Done
-    ensures { result ≡ begin s a }
+#[tactic(auto, unfolding(crate::specs::Saving::begin))]
+pub fn begin(s: Seat, a: u8) -> Result<Seat, Refusal>
+    ensures { seat_after s result ≡ begin s a }
 {
-    let k = begin_refusal(s.cabinet, a);
-    if k == 0 {
-        seat::answered(0, moves::cut_if_all(moves::join(s)))
-    } else {
-        seat::answered(k, s)
-    }
+    may_begin(s.cabinet, a)?;
+    Ok(moves::cut_if_all(moves::join(s)))
 }
 
 // ---- 5 write
 
-// What a cabinet leaves that writes a piece or fetches one: the answer, itself and its share of the store, and whether its home owes a report on it.
+// What a cabinet leaves that writes a piece or fetches one: itself and its share of the store, and whether its home owes a report on it.
 #[derive(Clone, Copy)]
 pub struct Kept {
+    pub cabinet: Cabinet,
+    pub share: Share,
+    pub owes: bool,
+}
+
+// What the run of records stores after it: the answer with what is left.
+// Kept: an answer beside what is left, as seat::SeatAnswer.
+#[derive(Clone, Copy)]
+pub struct KeptAnswer {
     pub answer: u8,
     pub cabinet: Cabinet,
     pub share: Share,
     pub owes: bool,
 }
 
-fn write_refusal(c: Cabinet, home: Cabinet) -> u8
-    ensures { result ≡ write_refusal c home }
-{
-    let own = c.phase;
-    let phase = home.phase;
-    let state = own.state;
-    let at_home = phase.state;
-    let ready = records::need(!state::in_recovery(at_home), 19, 0);
-    records::need(state::is_in(state, State::Checkpointing), 14, ready)
+impl KeptAnswer {
+    // What is left of a cabinet and its share that something was done to, or refused: no report is owed after a refusal.
+    pub fn after(before: Kept, done: Result<Kept, Refusal>) -> KeptAnswer
+        ensures { result ≡ kept_after before done }
+    {
+        match done {
+            Ok(
+                Kept {
+                    cabinet,
+                    share,
+                    owes,
+                },
+            ) => KeptAnswer {
+                answer: 0,
+                cabinet,
+                share,
+                owes,
+            },
+            Err(refusal) => KeptAnswer {
+                answer: u8::from(refusal),
+                cabinet: before.cabinet,
+                share: before.share,
+                owes: false,
+            },
+        }
+    }
 }
 
-// The slot that pieces go to: not that of the version.
-fn other_slot(c: Cabinet) -> bool
-    ensures { result ≡ not (bit_of c.phase.version) }
+fn may_write(c: Cabinet, home: Cabinet) -> Result<(), Refusal>
+    ensures { answer_of result ≡ write_refusal c home }
 {
-    let phase = c.phase;
-    let version = phase.version;
-    !state::bit_of(version)
+    Refusal::WrongState.unless(c.phase.state == State::Checkpointing)?;
+    Refusal::NotReady.unless(!state::in_recovery(home.phase.state))
 }
 
-// The next piece, at each store of the pair that is present.
+// The next piece, at each store of the pair that is present, in the slot that is not the version's.
 fn piece_saved(share: Share, c: Cabinet) -> Share
     ensures { result ≡ piece_saved share c }
 {
-    let image = c.image;
-    let noted = c.noted;
-    share.put_piece(other_slot(c), noted.pieces, image)
+    share.put_piece(!state::bit_of(c.phase.version), c.noted.pieces, c.image)
 }
 
 // Cabinet a, which is c, writes its next piece; with the last its home owes a report.
-pub fn write(c: Cabinet, home: Cabinet, share: Share, a: u8) -> Kept
-    ensures { result ≡ write c home share a }
+#[tactic(auto, unfolding(crate::specs::Saving::write))]
+pub fn write(c: Cabinet, home: Cabinet, share: Share, a: u8) -> Result<Kept, Refusal>
+    ensures { kept_after (record { cabinet = c; share = share; owes = false }) result ≡ write c home share a }
 {
-    let k = write_refusal(c, home);
-    if k == 0 {
-        let noted = c.noted;
-        let more = noted.pieces < 3;
-        Kept {
-            answer: 0,
-            cabinet: c.wrote(a),
-            share: piece_saved(share, c),
-            owes: !more,
-        }
-    } else {
-        Kept {
-            answer: k,
-            cabinet: c,
-            share: share,
-            owes: false,
-        }
-    }
+    may_write(c, home)?;
+    Ok(Kept {
+        cabinet: c.wrote(a),
+        share: piece_saved(share, c),
+        owes: c.noted.pieces >= 3,
+    })
 }
 
 // A home that owes the report on a, if it does.
@@ -107,27 +114,20 @@ pub fn owe_if(asked: bool, home: Cabinet, a: u8) -> Cabinet
 // ---- 6 saved
 
 // The home owes the report, and its coordinator k takes it.
-pub fn saved_refusal(home: Cabinet, k: Cabinet, a: u8) -> u8
-    ensures { result ≡ saved_refusal home k a }
+pub fn may_report_saved(home: Cabinet, k: Cabinet, a: u8) -> Result<(), Refusal>
+    ensures { answer_of result ≡ saved_refusal home k a }
 {
-    let owed = home.owed;
-    let phase = k.phase;
-    let state = phase.state;
-    let saving = state::in_saving(state);
-    records::need(marks::and(marks::marked(owed, a), saving), 19, 0)
+    Refusal::NotReady.unless(marks::marked(home.owed, a) && state::in_saving(k.phase.state))
 }
 
 // The coordinator has this save's reports on all in its table.
 fn all_saved(c: Cabinet) -> bool
     ensures { result ≡ all_saved c }
 {
-    let noted = c.noted;
-    let saved = noted.saved;
-    let table = c.table;
-    let cabinets = table.cabinets;
-    marks::covers(saved, cabinets)
+    marks::covers(c.noted.saved, c.table.cabinets)
 }
 
+#[tactic(auto, unfolding(crate::specs::Saving::commit_if_all))]
 pub fn commit_if_all(s: Seat) -> Seat
     ensures { result ≡ commit_if_all s }
 {
@@ -139,6 +139,7 @@ pub fn commit_if_all(s: Seat) -> Seat
 }
 
 // No trip before a commit counts any more; the coordinator is c before it.
+#[tactic(auto, unfolding(crate::specs::Saving::trips_after))]
 pub fn trips_after(c: Cabinet, trips: [u8; 8]) -> [u8; 8]
     ensures { result ≡ trips_after c trips }
 {

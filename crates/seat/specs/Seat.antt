@@ -1,6 +1,8 @@
 -- Parts of the group: a cabinet with its outgoing lines, a cabinet with one line; how they come out of the group and go back into it.
 -- Cabinets are numbered from 0 here.
-use Rattle.std.specs.Prelude.{ℕ, cond, ltb}
+use Rattle.std.specs.Prelude.{ℕ, cond, ltb, Result, Ok, Err}
+use Rattle.refusal.specs.declared.Refusal.{Refusal}
+use Rattle.refusal.specs.Refusal.{number}
 use Rattle.line.specs.declared.Line.{Line}
 use Rattle.line.specs.Line.{empty_line}
 use Rattle.cabinet.specs.declared.Cabinet.{Cabinet}
@@ -9,8 +11,9 @@ use Rattle.outgoing.specs.declared.Outgoing.{Outgoing}
 use Rattle.group.specs.declared.Group.{Group}
 use Rattle.group.specs.Group.{cabinet, with_cabinet, outgoing, with_outgoing}
 use Rattle.seat.specs.declared.Seat.{Seat}
-use Rattle.seat.specs.declared.Done.{Done}
 use Rattle.seat.specs.declared.Spot.{Spot}
+use Rattle.seat.specs.declared.SeatAnswer.{SeatAnswer}
+use Rattle.seat.specs.declared.SpotAnswer.{SpotAnswer}
 
 -- ---- a cabinet with its outgoing lines
 
@@ -26,13 +29,26 @@ with_seat_cabinet s c = record { cabinet = c; lines = s.lines }
 abbrev pub with_seat_lines : Seat → Outgoing → Seat
 with_seat_lines s o = record { cabinet = s.cabinet; lines = o }
 
-abbrev pub answered : ℕ → Seat → Done
+abbrev pub answered : ℕ → Seat → SeatAnswer
 answered k s = record { answer = k; seat = s }
+
+-- a refusal changes nothing
+abbrev pub seat_after : Seat → Result Seat Refusal → SeatAnswer
+seat_after before (Ok s) = answered 0 s
+seat_after before (Err r) = answered (number r) before
 
 -- ---- a cabinet with one line
 
-abbrev pub spot : ℕ → Cabinet → Line → Spot
+abbrev pub spot : ℕ → Cabinet → Line → SpotAnswer
 spot k c l = record { answer = k; cabinet = c; line = l }
+
+abbrev pub spot_after : Spot → Result Spot Refusal → SpotAnswer
+spot_after before (Ok s) = spot 0 s.cabinet s.line
+spot_after before (Err r) = spot (number r) before.cabinet before.line
+
+-- where nothing is refused
+abbrev pub spot_left : Spot → SpotAnswer
+spot_left s = spot 0 s.cabinet s.line
 
 -- ---- by a number that may be past the eighth, of what stands at the place that it has among the eight
 

@@ -2,13 +2,14 @@
 // Cabinets are numbered 0 to 7 here: a cabinet's number in a file or a record, less one.
 #![tactic(auto)]
 
-ghost use Rattle.std.specs.Prelude.{◌%◌, ◌≡◌};
-ghost use Rattle.seat.specs.Seat.{there, kept, line_there, line_kept, seat, with_seat, with_seat_cabinet, with_seat_lines, answered, spot};
+ghost use Rattle.std.specs.Prelude.{◌%◌, ◌≡◌, cond, ltb};
+ghost use Rattle.seat.specs.Seat.{there, line_there, seat, with_seat, with_seat_cabinet, with_seat_lines, seat_after, spot_after};
 
 use cabinet::Cabinet;
 use group::Group;
 use line::Line;
 use outgoing::Outgoing;
+use refusal::Refusal;
 
 #[derive(Clone, Copy)]
 pub struct Seat {
@@ -16,16 +17,25 @@ pub struct Seat {
     pub lines: Outgoing,
 }
 
-// An answer with the seat after it.
+// A cabinet and one line.
+// Kept: the kinds of step answer one, and take the two one by one, as their definitions do.
 #[derive(Clone, Copy)]
-pub struct Done {
+pub struct Spot {
+    pub cabinet: Cabinet,
+    pub line: Line,
+}
+
+// What the run of records stores after a turn: the answer with what is left, which after a refusal is what stood there.
+// Kept, here and in SpotAnswer: a number beside what is left: the run stores both at each turn, and the definitions of the kinds name both, each by
+// its own name, so that no one struct of any type stands for these two, saving::KeptAnswer, group::Outcome and protocol::Noted.
+#[derive(Clone, Copy)]
+pub struct SeatAnswer {
     pub answer: u8,
     pub seat: Seat,
 }
 
-// An answer with a cabinet and one line after it.
 #[derive(Clone, Copy)]
-pub struct Spot {
+pub struct SpotAnswer {
     pub answer: u8,
     pub cabinet: Cabinet,
     pub line: Line,
@@ -39,17 +49,18 @@ pub fn place(i: u8) -> usize
 }
 
 // Cabinet i, where c stands at its place: past the eighth there is none.
+// Kept, here and in line_there: by the names of the definitions, which the run calls at each turn, and not as `kept` with none written out.
 pub fn there(i: u8, c: Cabinet) -> Cabinet
     ensures { result ≡ there i c }
 {
     if i < 8 { c } else { Cabinet::absent() }
 }
 
-// .. and what stands there once cabinet i is c: what stood there, past the eighth.
-pub fn kept(i: u8, c: Cabinet, before: Cabinet) -> Cabinet
-    ensures { result ≡ kept i c before }
+// .. and what stands there, a cabinet or a line, once it is changed: what stood there, past the eighth.
+pub fn kept<T: Copy>(i: u8, changed: T, before: T) -> T
+    ensures { result ≡ cond (ltb i 8) changed before }
 {
-    if i < 8 { c } else { before }
+    if i < 8 { changed } else { before }
 }
 
 // The line to cabinet j, where l stands at its place.
@@ -59,26 +70,39 @@ pub fn line_there(j: u8, l: Line) -> Line
     if j < 8 { l } else { Line::empty() }
 }
 
-pub fn line_kept(j: u8, l: Line, before: Line) -> Line
-    ensures { result ≡ line_kept j l before }
-{
-    if j < 8 { l } else { before }
-}
-
-pub fn spotted(k: u8, c: Cabinet, l: Line) -> Spot
-    ensures { result ≡ spot k c l }
-{
-    Spot {
-        answer: k,
-        cabinet: c,
-        line: l,
+impl SpotAnswer {
+    // What is left of a cabinet and a line that something was done to, or refused.
+    pub fn after(before: Spot, done: Result<Spot, Refusal>) -> SpotAnswer
+        ensures { result ≡ spot_after before done }
+    {
+        match done {
+            Ok(Spot { cabinet, line }) => SpotAnswer {
+                answer: 0,
+                cabinet,
+                line,
+            },
+            Err(refusal) => SpotAnswer {
+                answer: u8::from(refusal),
+                cabinet: before.cabinet,
+                line: before.line,
+            },
+        }
     }
 }
 
-pub fn answered(k: u8, s: Seat) -> Done
-    ensures { result ≡ answered k s }
-{
-    Done { answer: k, seat: s }
+impl SeatAnswer {
+    // .. and of a seat.
+    pub fn after(before: Seat, done: Result<Seat, Refusal>) -> SeatAnswer
+        ensures { result ≡ seat_after before done }
+    {
+        match done {
+            Ok(seat) => SeatAnswer { answer: 0, seat },
+            Err(refusal) => SeatAnswer {
+                answer: u8::from(refusal),
+                seat: before,
+            },
+        }
+    }
 }
 
 // The seat of cabinet i, out of a group.
@@ -95,25 +119,19 @@ pub fn taken_out(g: Group, i: u8) -> Seat
 pub fn stored(g: Group, i: u8, s: Seat) -> Group
     ensures { result ≡ with_seat g i s }
 {
-    let c = s.cabinet;
-    let o = s.lines;
-    g.with_cabinet(i, c).with_outgoing(i, o)
+    g.with_cabinet(i, s.cabinet).with_outgoing(i, s.lines)
 }
 
 impl Seat {
     pub fn with_cabinet(self, c: Cabinet) -> Seat
         ensures { result ≡ with_seat_cabinet self c }
     {
-        let mut s = self;
-        s.cabinet = c;
-        s
+        Seat { cabinet: c, ..self }
     }
 
     pub fn with_lines(self, o: Outgoing) -> Seat
         ensures { result ≡ with_seat_lines self o }
     {
-        let mut s = self;
-        s.lines = o;
-        s
+        Seat { lines: o, ..self }
     }
 }

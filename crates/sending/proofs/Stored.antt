@@ -9,7 +9,7 @@ use Rattle.image.specs.Image.{with_octet}
 use Rattle.group.specs.declared.Group.{Group}
 use Rattle.group.specs.declared.Outcome.{Outcome}
 use Rattle.group.specs.Group.{cabinet, with_cabinet, state_of, line, with_line, answering, taken}
-use Rattle.seat.specs.declared.Spot.{Spot}
+use Rattle.seat.specs.declared.SpotAnswer.{SpotAnswer}
 use Rattle.seat.specs.Seat.{spot}
 use Rattle.protocol.specs.Kinds as kinds
 use Rattle.protocol.specs.Kinds.{or_refuse, send_step, note_step}
@@ -17,19 +17,19 @@ use Rattle.seat.proofs.Same.{cabinet_same, line_left}
 use Rattle.sending.specs.Sending.{send_refusal, sent, send, note_refusal, note}
 
 -- cabinet a and the line from it to b stored, with an answer
-abbrev stored : Group → ℕ → ℕ → Spot → Outcome
+abbrev stored : Group → ℕ → ℕ → SpotAnswer → Outcome
 stored g a b r = answering r.answer (with_line (with_cabinet g a r.cabinet) a b r.line)
 
 -- what was read
 unchanged : (g : Group) (a b k : ℕ) → answering k g ≡ stored g a b (spot k (cabinet g a) (line g a b))
 unchanged g a b k = ap (answering k) (sym (line_left g a a b (cabinet g a) ∙ cabinet_same g a))
 
-by_test : (t : Bool) (g : Group) (a b k : ℕ) (o : Outcome) (r : Spot) → o ≡ stored g a b r
+by_test : (t : Bool) (g : Group) (a b k : ℕ) (o : Outcome) (r : SpotAnswer) → o ≡ stored g a b r
     → cond t o (answering k g) ≡ stored g a b (cond t r (spot k (cabinet g a) (line g a b)))
 by_test true g a b k o r e = e
 by_test false g a b k o r e = unchanged g a b k
 
-by_refusal : (g : Group) (a b k : ℕ) (o : Outcome) (r : Spot) → o ≡ stored g a b r
+by_refusal : (g : Group) (a b k : ℕ) (o : Outcome) (r : SpotAnswer) → o ≡ stored g a b r
     → or_refuse k g o ≡ stored g a b (cond (eqb k 0) r (spot k (cabinet g a) (line g a b)))
 by_refusal g a b k = by_test (eqb k 0) g a b k
 

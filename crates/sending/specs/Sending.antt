@@ -14,7 +14,7 @@ use Rattle.state.specs.State.{is_in}
 use Rattle.image.specs.Image.{booking, first_note, with_octet}
 use Rattle.cabinet.specs.declared.Cabinet.{Cabinet}
 use Rattle.cabinet.specs.Cabinet.{in_use, with_image, sending}
-use Rattle.seat.specs.declared.Spot.{Spot}
+use Rattle.seat.specs.declared.SpotAnswer.{SpotAnswer}
 use Rattle.seat.specs.Seat.{spot}
 use Rattle.protocol.specs.Kinds.{need}
 
@@ -30,11 +30,11 @@ send_refusal c l b p q =
     (need (ltb (normals (party_of (ends_of p).to) l) 4) 17 0))))
 
 -- what a send puts: a packet for the receiving outlet or the workshop, as the packet version has it
-unfoldable pub sent : Cabinet → Line → ℕ → ℕ → ℕ → PacketVersion → Spot
+unfoldable pub sent : Cabinet → Line → ℕ → ℕ → ℕ → PacketVersion → SpotAnswer
 sent c l b p q v =
     spot 0 (sending c b (ends_of p).from (packed v (ends_of p).to q)) (put l (NormalPacket (packed v (ends_of p).to q)))
 
-unfoldable pub send : Cabinet → Line → ℕ → ℕ → ℕ → PacketVersion → Spot
+unfoldable pub send : Cabinet → Line → ℕ → ℕ → ℕ → PacketVersion → SpotAnswer
 send c l b p q v = cond (eqb (send_refusal c l b p q) 0) (sent c l b p q v) (spot (send_refusal c l b p q) c l)
 
 -- ---- 2 note
@@ -43,7 +43,7 @@ send c l b p q v = cond (eqb (send_refusal c l b p q) 0) (sent c l b p q v) (spo
 abbrev pub note_refusal : State → ℕ → ℕ → ℕ
 note_refusal s p q = need (is_in s Normal) 14 (need (leb first_note p && (leb p 31 && leb q 255)) 15 0)
 
-unfoldable pub note : Cabinet → Line → ℕ → ℕ → Spot
+unfoldable pub note : Cabinet → Line → ℕ → ℕ → SpotAnswer
 note c l p q =
     cond (eqb (note_refusal c.phase.state p q) 0) (spot 0 (with_image c (with_octet c.image p q)) l)
     (spot (note_refusal c.phase.state p q) c l)

@@ -1,13 +1,15 @@
 -- Document 02, card 8: "Which word settled it?" The note that a group keeps of it: who entered recovering first, and why.
-use Rattle.std.specs.Prelude.{ℕ, Bool, true, false, cond, ◌||◌}
+use Rattle.std.specs.Prelude.{ℕ, Bool, true, false, cond, ◌||◌, Option, None, Some}
 use Rattle.state.specs.declared.State.{State}
 use Rattle.state.specs.declared.State.TheVariants.{CheckpBegin, Checkpointing}
 use Rattle.state.specs.State.{is_in}
 use Rattle.settled.specs.declared.Reason.{Reason}
 use Rattle.settled.specs.declared.Reason.TheVariants.{Led, Unfinished, InNormal, Decided}
 use Rattle.settled.specs.declared.First.{First}
-use Rattle.settled.specs.declared.Settled.{Settled}
-use Rattle.settled.specs.declared.Settled.TheVariants.{Nobody, By}
+
+-- the first of the latest recovery in which a cabinet has entered recovering, if there was one
+abbrev pub Settled : Type 0
+Settled = Option First
 
 -- "R its reason, 1 to 4: it was coordinator before the fault and knew, it was in a save with pieces unfinished, it was in normal, or it
 -- decided under the unsure rule"
@@ -31,10 +33,10 @@ first_of i r = record { cabinet = i; reason = r; going = true }
 
 -- "I is the first cabinet that entered recovering": nobody who enters while the recovery goes on
 abbrev pub enters : Settled → ℕ → Reason → Settled
-enters Nobody i r = By (first_of i r)
-enters (By f) i r = cond f.going (By f) (By (first_of i r))
+enters None i r = Some (first_of i r)
+enters (Some f) i r = cond f.going (Some f) (Some (first_of i r))
 
 -- "The latest recovery in which one has entered is meant": over its end the first one stays
 abbrev pub ends : Settled → Settled
-ends Nobody = Nobody
-ends (By f) = By (record { cabinet = f.cabinet; reason = f.reason; going = false })
+ends None = None
+ends (Some f) = Some (record { cabinet = f.cabinet; reason = f.reason; going = false })

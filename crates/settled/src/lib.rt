@@ -3,7 +3,6 @@
 #![tactic(auto)]
 
 ghost use Rattle.std.specs.Prelude.{◌≡◌};
-ghost use Rattle.settled.specs.declared.Settled.TheVariants.{By};
 ghost use Rattle.settled.specs.Settled.{number_of, unfinished, reason_of, first_of, enters, ends};
 
 use state::State;
@@ -26,22 +25,17 @@ pub struct First {
     pub going: bool,
 }
 
-// The first of the latest recovery in which a cabinet has entered recovering.
-#[derive(Clone, Copy)]
-pub enum Settled {
-    Nobody,
-    By(First),
-}
-
 // The number that is printed for a reason.
-pub fn number_of(r: Reason) -> u8
-    ensures { result ≡ number_of r }
-{
-    match r {
-        Reason::Led => 1,
-        Reason::Unfinished => 2,
-        Reason::InNormal => 3,
-        Reason::Decided => 4,
+impl From<Reason> for u8 {
+    ghost from_gives = { λ reason n. n ≡ number_of reason };
+
+    fn from(reason: Reason) -> u8 {
+        match reason {
+            Reason::Led => 1,
+            Reason::Unfinished => 2,
+            Reason::InNormal => 3,
+            Reason::Decided => 4,
+        }
     }
 }
 
@@ -49,10 +43,7 @@ pub fn number_of(r: Reason) -> u8
 fn unfinished(s: State) -> bool
     ensures { result ≡ unfinished s }
 {
-    marks::or(
-        state::is_in(s, State::CheckpBegin),
-        state::is_in(s, State::Checkpointing),
-    )
+    matches!(s, State::CheckpBegin | State::Checkpointing)
 }
 
 // The reason of a cabinet that knows its version as it enters error, from the state that it was in
@@ -61,50 +52,42 @@ pub fn reason_of(leads: bool, s: State) -> Reason
     ensures { result ≡ reason_of leads s }
 {
     if leads {
-        return Reason::Led;
+        Reason::Led
+    } else if unfinished(s) {
+        Reason::Unfinished
+    } else {
+        Reason::InNormal
     }
-    if unfinished(s) {
-        return Reason::Unfinished;
-    }
-    Reason::InNormal
 }
 
 // The first of a recovery that goes on.
-fn first_of(i: u8, r: Reason) -> Settled
-    ensures { result ≡ By (first_of i r) }
+fn first_of(i: u8, reason: Reason) -> First
+    ensures { result ≡ first_of i reason }
 {
-    Settled::By(First {
+    First {
         cabinet: i,
-        reason: r,
+        reason,
         going: true,
-    })
+    }
 }
 
-impl Settled {
-    // Cabinet i enters recovering by its own word: it is the first unless the recovery goes on.
-    pub fn enters(self, i: u8, r: Reason) -> Settled
-        ensures { result ≡ enters self i r }
-    {
-        match self {
-            Settled::Nobody => first_of(i, r),
-            Settled::By(first) => { if first.going { self } else { first_of(i, r) } }
-        }
+// The first of the latest recovery in which a cabinet has entered recovering, once cabinet i enters recovering by its own word: it is the
+// first unless the recovery goes on.
+pub fn enters(settled: Option<First>, i: u8, r: Reason) -> Option<First>
+    ensures { result ≡ enters settled i r }
+{
+    match settled {
+        Some(first) if first.going => settled,
+        _ => Some(first_of(i, r)),
     }
+}
 
-    // The recovery ends; who was the first in it stays.
-    pub fn ends(self) -> Settled
-        ensures { result ≡ ends self }
-    {
-        match self {
-            Settled::Nobody => Settled::Nobody,
-            Settled::By(first) => {
-                let reason = first.reason;
-                Settled::By(First {
-                    cabinet: first.cabinet,
-                    reason: reason,
-                    going: false,
-                })
-            }
-        }
-    }
+// .. and once the recovery ends: who was the first in it stays.
+pub fn ends(settled: Option<First>) -> Option<First>
+    ensures { result ≡ ends settled }
+{
+    settled.map(|first| First {
+        going: false,
+        ..first
+    })
 }

@@ -8,7 +8,7 @@ use Rattle.packet.specs.declared.Place.{Place}
 use Rattle.state.specs.declared.State.{State}
 use Rattle.state.specs.declared.State.TheVariants.{Failed, Normal, CheckpBegin, Checkpointing, Checkpointed, Error, Recovering, Recovered, Crashed}
 use Rattle.state.specs.State.{is_in, in_recovery}
-use Rattle.settled.specs.declared.Settled.{Settled}
+use Rattle.settled.specs.Settled.{Settled}
 use Rattle.cabinet.specs.Alarm.{is_for}
 use Rattle.cabinet.specs.Cabinet.{hearing}
 use Rattle.group.specs.declared.Group.{Group}

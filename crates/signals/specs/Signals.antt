@@ -5,7 +5,7 @@ use Rattle.packet.specs.declared.Place.{Place}
 use Rattle.packet.specs.declared.Packet.TheVariants.{Resume}
 use Rattle.state.specs.declared.State.TheVariants.{Checkpointed, Error}
 use Rattle.state.specs.State.{is_in, in_recovery, adopted}
-use Rattle.settled.specs.declared.Settled.{Settled}
+use Rattle.settled.specs.Settled.{Settled}
 use Rattle.cabinet.specs.declared.Cabinet.{Cabinet}
 use Rattle.cabinet.specs.Alarm.{is_for}
 use Rattle.cabinet.specs.Cabinet.{in_use, resuming, hearing}

@@ -8,7 +8,7 @@ ghost use Rattle.signals.specs.Signals.{adopt, resume_taken, recover_taken, hear
 use cabinet::Cabinet;
 use packet::{Packet, Place};
 use seat::Seat;
-use settled::Settled;
+use settled::First;
 use state::State;
 
 // ---- resume
@@ -17,43 +17,26 @@ use state::State;
 fn adopt(s: Seat, a: u8) -> Seat
     ensures { result ≡ adopt s a }
 {
-    let c = s.cabinet;
-    let o = s.lines;
-    let phase = c.phase;
-    let v = phase.version;
-    let others = marks::set_mark(c.in_use(), a, false);
-    let resumed = s.with_cabinet(c.resuming(state::adopted(v)));
-    resumed.with_lines(o.put_all(others, Packet::Resume))
+    let others = marks::set_mark(s.cabinet.in_use(), a, false);
+    let resumed = s.with_cabinet(s.cabinet.resuming(state::adopted(s.cabinet.phase.version)));
+    resumed.with_lines(s.lines.put_all(others, Packet::Resume))
 }
 
 pub fn resumes_from(c: Cabinet, a: u8, b: u8) -> bool
     ensures { result ≡ resumes_from c a b }
 {
-    let phase = c.phase;
-    let s = phase.state;
-    let noted = c.noted;
-    let heard = noted.heard;
-    let other = !(c.coordinator() == b);
-    marks::and(
-        state::is_in(s, State::Recovered),
-        marks::and(marks::marked(heard, a), other),
-    )
+    c.phase.state == State::Recovered && marks::marked(c.noted.heard, a) && c.coordinator() != b
 }
 
 pub fn resume_taken(s: Seat, a: u8, b: u8) -> Seat
     ensures { result ≡ resume_taken s a b }
 {
-    let c = s.cabinet;
-    let phase = c.phase;
-    let state = phase.state;
-    if state::is_in(state, State::Checkpointed) {
+    if s.cabinet.phase.state == State::Checkpointed {
         adopt(s, a)
+    } else if resumes_from(s.cabinet, a, b) {
+        moves::end_recovery(s)
     } else {
-        if resumes_from(c, a, b) {
-            moves::end_recovery(s)
-        } else {
-            s
-        }
+        s
     }
 }
 
@@ -62,13 +45,7 @@ pub fn resume_taken(s: Seat, a: u8, b: u8) -> Seat
 pub fn recover_taken(s: Seat, a: u8, v: bool) -> Seat
     ensures { result ≡ recover_taken s a v }
 {
-    let c = s.cabinet;
-    let phase = c.phase;
-    let state = phase.state;
-    let noted = c.noted;
-    let waits = state::is_in(state, State::Error);
-    let heard = noted.heard;
-    if marks::and(waits, marks::marked(heard, a)) {
+    if s.cabinet.phase.state == State::Error && marks::marked(s.cabinet.noted.heard, a) {
         moves::recover_with(s, v)
     } else {
         s
@@ -81,32 +58,23 @@ pub fn recover_taken(s: Seat, a: u8, v: bool) -> Seat
 fn hear(s: Seat, a: u8) -> Seat
     ensures { result ≡ hear s a }
 {
-    let c = s.cabinet;
-    s.with_cabinet(c.hearing(a))
+    s.with_cabinet(s.cabinet.hearing(a))
 }
 
 // A fault for another place than the one that a cabinet is in recovery from crashes the group.
 pub fn fault_crashes(c: Cabinet, p: Place) -> bool
     ensures { result ≡ fault_crashes c p }
 {
-    let phase = c.phase;
-    let state = phase.state;
-    let alarm = phase.alarm;
-    let other = !cabinet::is_for(alarm, p);
-    marks::and(state::in_recovery(state), other)
+    state::in_recovery(c.phase.state) && !cabinet::is_for(c.phase.alarm, p)
 }
 
 // One that does not: cabinet b enters error for its place, or notes it.
 pub fn fault_taken(s: Seat, a: u8, b: u8, p: Place) -> Seat
     ensures { result ≡ fault_taken s a b p }
 {
-    let c = s.cabinet;
-    let phase = c.phase;
-    let state = phase.state;
-    if moves::serving(state) {
-        return hear(moves::enter_error(s, b, p), a);
-    }
-    if state::in_recovery(state) {
+    if moves::serving(s.cabinet.phase.state) {
+        hear(moves::enter_error(s, b, p), a)
+    } else if state::in_recovery(s.cabinet.phase.state) {
         hear(s, a)
     } else {
         s
@@ -114,12 +82,10 @@ pub fn fault_taken(s: Seat, a: u8, b: u8, p: Place) -> Seat
 }
 
 // Which word settles the recovery then; cabinet b is c before it.
-pub fn fault_word(settled: Settled, c: Cabinet, b: u8) -> Settled
+pub fn fault_word(settled: Option<First>, c: Cabinet, b: u8) -> Option<First>
     ensures { result ≡ fault_word settled c b }
 {
-    let phase = c.phase;
-    let state = phase.state;
-    if moves::serving(state) {
+    if moves::serving(c.phase.state) {
         moves::word_by(settled, c, b)
     } else {
         settled

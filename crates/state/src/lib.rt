@@ -2,10 +2,10 @@
 #![tactic(auto)]
 
 ghost use Rattle.std.specs.Prelude.{◌≡◌};
-ghost use Rattle.state.specs.State.{rank, is_in, works, in_recovery, in_restoring, in_saving, is_unknown, bit_of, doubted, flipped, adopted};
+ghost use Rattle.state.specs.State.{rank, works, in_recovery, in_restoring, in_saving, is_unknown, bit_of, doubted, flipped, adopted};
 
 // The eight logical states of the 1984 paper, III-D, and failed.
-#[derive(Clone, Copy)]
+#[derive(Clone, Copy, PartialEq, Eq)]
 pub enum State {
     Failed,
     Normal,
@@ -19,7 +19,7 @@ pub enum State {
 }
 
 // The version variable: 0 is false, 1 is true. While it is unknown the old version is kept with it; a trip leaves none.
-#[derive(Clone, Copy)]
+#[derive(Clone, Copy, PartialEq, Eq)]
 pub enum Version {
     Known(bool),
     Unknown(bool),
@@ -27,66 +27,55 @@ pub enum Version {
 }
 
 // A number for each state, by which states are compared.
-pub fn rank(s: State) -> u8
-    ensures { result ≡ rank s }
-{
-    match s {
-        State::Failed => 0,
-        State::Normal => 1,
-        State::CheckpBegin => 2,
-        State::Checkpointing => 3,
-        State::Checkpointed => 4,
-        State::Error => 5,
-        State::Recovering => 6,
-        State::Recovered => 7,
-        State::Crashed => 8,
-    }
-}
+impl From<State> for u8 {
+    ghost from_gives = { λ state n. n ≡ rank state };
 
-pub fn is_in(s: State, t: State) -> bool
-    ensures { result ≡ is_in s t }
-{
-    rank(s) == rank(t)
+    fn from(state: State) -> u8 {
+        match state {
+            State::Failed => 0,
+            State::Normal => 1,
+            State::CheckpBegin => 2,
+            State::Checkpointing => 3,
+            State::Checkpointed => 4,
+            State::Error => 5,
+            State::Recovering => 6,
+            State::Recovered => 7,
+            State::Crashed => 8,
+        }
+    }
 }
 
 pub fn works(s: State) -> bool
     ensures { result ≡ works s }
 {
-    !is_in(s, State::Failed)
+    s != State::Failed
 }
 
 // In error, recovering or recovered.
 pub fn in_recovery(s: State) -> bool
     ensures { result ≡ in_recovery s }
 {
-    marks::or(is_in(s, State::Error), in_restoring(s))
+    matches!(s, State::Error | State::Recovering | State::Recovered)
 }
 
 // In recovering or recovered.
 pub fn in_restoring(s: State) -> bool
     ensures { result ≡ in_restoring s }
 {
-    marks::or(is_in(s, State::Recovering), is_in(s, State::Recovered))
+    matches!(s, State::Recovering | State::Recovered)
 }
 
 // Past the cut of a save: in checkpointing or checkpointed.
 pub fn in_saving(s: State) -> bool
     ensures { result ≡ in_saving s }
 {
-    marks::or(
-        is_in(s, State::Checkpointing),
-        is_in(s, State::Checkpointed),
-    )
+    matches!(s, State::Checkpointing | State::Checkpointed)
 }
 
 pub fn is_unknown(v: Version) -> bool
     ensures { result ≡ is_unknown v }
 {
-    match v {
-        Version::Known(_) => false,
-        Version::Unknown(_) => true,
-        Version::Lost => true,
-    }
+    !matches!(v, Version::Known(_))
 }
 
 // The version, and while it is unknown the old one.
@@ -94,8 +83,7 @@ pub fn bit_of(v: Version) -> bool
     ensures { result ≡ bit_of v }
 {
     match v {
-        Version::Known(bit) => bit,
-        Version::Unknown(old) => old,
+        Version::Known(bit) | Version::Unknown(bit) => bit,
         Version::Lost => false,
     }
 }
@@ -106,8 +94,7 @@ pub fn doubted(v: Version) -> Version
 {
     match v {
         Version::Known(bit) => Version::Unknown(bit),
-        Version::Unknown(old) => Version::Unknown(old),
-        Version::Lost => Version::Lost,
+        _ => v,
     }
 }
 
@@ -117,8 +104,7 @@ pub fn flipped(v: Version) -> Version
 {
     match v {
         Version::Known(bit) => Version::Known(!bit),
-        Version::Unknown(old) => Version::Unknown(old),
-        Version::Lost => Version::Lost,
+        _ => v,
     }
 }
 
@@ -127,8 +113,7 @@ pub fn adopted(v: Version) -> Version
     ensures { result ≡ adopted v }
 {
     match v {
-        Version::Known(bit) => Version::Known(bit),
         Version::Unknown(old) => Version::Known(!old),
-        Version::Lost => Version::Lost,
+        _ => v,
     }
 }

@@ -15,7 +15,7 @@ use Rattle.line.specs.declared.Line.{Line}
 use Rattle.line.specs.Line.{oldest}
 use Rattle.state.specs.declared.State.TheVariants.{Crashed}
 use Rattle.state.specs.State.{is_in, in_recovery}
-use Rattle.settled.specs.declared.Settled.{Settled}
+use Rattle.settled.specs.Settled.{Settled}
 use Rattle.cabinet.specs.declared.Cabinet.{Cabinet}
 use Rattle.cabinet.specs.Cabinet.{absent}
 use Rattle.outgoing.specs.declared.Outgoing.{Outgoing}
@@ -30,11 +30,11 @@ use Rattle.group.specs.Group.{cabinet, with_cabinet, outgoing, with_outgoing, li
 use Rattle.survey.specs.Survey.{any_of}
 use Rattle.survey.proofs.Rows.{any_crashed, any_recovering}
 use Rattle.seat.specs.declared.Seat.{Seat}
-use Rattle.seat.specs.declared.Done.{Done}
-use Rattle.seat.specs.declared.Spot.{Spot}
+use Rattle.seat.specs.declared.SeatAnswer.{SeatAnswer}
+use Rattle.seat.specs.declared.SpotAnswer.{SpotAnswer}
 use Rattle.seat.specs.Seat.{there, kept, line_there, line_kept}
 use Rattle.seat.proofs.Places.{cabinet_there, cabinet_kept, line_there_lem, line_kept_lem}
-use Rattle.saving.specs.declared.Kept.{Kept}
+use Rattle.saving.specs.declared.KeptAnswer.{KeptAnswer}
 use Rattle.saving.specs.Saving.{owe_if}
 use Rattle.restoring.specs.Restoring.{closing}
 use Rattle.turns.specs.declared.Order.{Order}
@@ -79,7 +79,7 @@ turn_read g x o a b i j cx dx rx ox h ei ej =
 abbrev pub with_two : Group → List Cabinet → List Outgoing → Group
 with_two g cs os = record { n = g.n; cabinets = cs; links = g.links; sound = g.sound; outgoing = os; store = g.store; trips = g.trips; packets = g.packets; settled = g.settled }
 
-pub deed_arm : (g : Group) (x : Settled) (d : Deed) (a b i k who : ℕ) (cx c changed : Cabinet) (ox left : Outgoing) (on l keeps : Line) (r : Spot) → Eight g
+pub deed_arm : (g : Group) (x : Settled) (d : Deed) (a b i k who : ℕ) (cx c changed : Cabinet) (ox left : Outgoing) (on l keeps : Line) (r : SpotAnswer) → Eight g
     → i ≡ a % 8 → on ≡ line_to (get_or g.outgoing i ox) b → l ≡ line_there a on → who ≡ doer d a b → k ≡ who % 8
     → c ≡ there who (get_or g.cabinets k cx) → r ≡ deed_done d c l a b g.packets → changed ≡ kept who r.cabinet (get_or g.cabinets k cx)
     → keeps ≡ line_kept a r.line on → left ≡ with_line_to (get_or g.outgoing i ox) b keeps
@@ -93,7 +93,7 @@ deed_arm g x d a b i k who cx c changed ox left on l keeps r h ei eon el ew ek e
 
 -- ---- the line from a to b, then b's cabinet and all its lines
 
-pub call_arm : (g : Group) (x y : Settled) (d : Call) (a b i j : ℕ) (dx c : Cabinet) (ox oy left : Outgoing) (on l rest keeps : Line) (r : Done) → Eight g → b < 8
+pub call_arm : (g : Group) (x y : Settled) (d : Call) (a b i j : ℕ) (dx c : Cabinet) (ox oy left : Outgoing) (on l rest keeps : Line) (r : SeatAnswer) → Eight g → b < 8
     → i ≡ a % 8 → j ≡ b % 8 → c ≡ there b (get_or g.cabinets j dx) → on ≡ line_to (get_or g.outgoing i ox) b → l ≡ line_there a on
     → rest ≡ line_left d l → keeps ≡ line_kept a rest on → left ≡ with_line_to (get_or g.outgoing i ox) b keeps
     → r ≡ call_done d (record { cabinet = c; lines = get_or (set g.outgoing i left) j oy }) a b (oldest l) → y ≡ word_left d x c a b (oldest l)
@@ -136,7 +136,7 @@ owed_by cs h k a ex e owes false hl ek el ee =
     nothing true = set-get_or cs k ex
     nothing false = set-get_or cs k ex
 
-pub piece_arm : (g : Group) (x : Settled) (d : Piece) (a i h k : ℕ) (cx c hx home changed ex owing : Cabinet) (sh : Share) (store : Store) (r : Kept) → Eight g
+pub piece_arm : (g : Group) (x : Settled) (d : Piece) (a i h k : ℕ) (cx c hx home changed ex owing : Cabinet) (sh : Share) (store : Store) (r : KeptAnswer) → Eight g
     → i ≡ a % 8 → c ≡ there a (get_or g.cabinets i cx) → sh ≡ share g.store a → h ≡ serves_in sh → k ≡ h % 8
     → home ≡ there h (get_or g.cabinets k hx) → r ≡ piece_done d c home sh a → changed ≡ kept a r.cabinet (get_or g.cabinets i cx)
     → store ≡ with_share g.store a r.share → owing ≡ owe_if (r.owes && ltb h 8) (get_or (set g.cabinets i changed) k ex) a

@@ -1,13 +1,15 @@
 -- What holds at each turn of the loop: the group, with the word that is kept beside it, has what the records before left of it, and eight of each part.
-use Prim.Native.Nat.{ℕ, ◌+◌, ◌-◌, ◌<◌, ◌≤◌, ◌^◌, min}
-use mathlib.Core.Path.{◌≡◌, refl, ap, ◌∙◌}
+use Prim.Native.Nat.{ℕ, zero, suc, ◌<◌, ◌≤◌, ◌^◌, min}
+use mathlib.Core.Path.{◌≡◌, refl, sym, ap, ◌∙◌}
 use mathlib.Core.Bool.{Bool, true, false}
 use mathlib.Core.List.{List, [], ◌∷◌}
-use native.Mathlib.Omega.{arith}
-use lib.ListN.{length, set, take, drop, length-set}
+use native.Mathlib.Omega.{arith, min_cases}
+use lib.ListN.{length, set, take, drop, length-set, length-drop}
 use lib.Seq.{sets}
+use borrow.Author.Tests.{ne_eqb}
+use Rattle.std.proofs.Common.{◌==◌, true≢false}
 use Rattle.points.specs.declared.Points.{Points}
-use Rattle.settled.specs.declared.Settled.{Settled}
+use Rattle.settled.specs.Settled.{Settled}
 use Rattle.group.specs.declared.Group.{Group}
 use Rattle.group.specs.declared.Outcome.{Outcome}
 use Rattle.group.specs.Group.{with_settled}
@@ -23,7 +25,7 @@ use Rattle.turns.specs.Turns.{record_size, operation_in, order_of, first_named, 
 use Rattle.turns.specs.Stored.{turn_in}
 use Rattle.turns.proofs.Same.{Eight}
 use Rattle.steps.specs.Steps.{operations_of}
-use Rattle.steps.proofs.Records.{To-do, start, turn, shorter, ended}
+use Rattle.steps.proofs.Records.{To-do, start, turn, ended}
 use Rattle.steps.proofs.Operations.{all_of, said_of, none_made, none_said, one_made, one_said, each_said}
 use Rattle.steps.proofs.Turning.{turn_made, operated}
 
@@ -31,8 +33,8 @@ use Rattle.steps.proofs.Turning.{turn_made, operated}
 abbrev pub site_of : Group → Settled → Points → Site
 site_of g x ps = record { group = with_settled g x; points = ps }
 
-pub record Holds (plan : Bool) (l : List ℕ) (whole : Site) (full buffer : List ℕ) (g : Group) (ps : Points) (x : Settled) (from at : ℕ) : Type 0 where
-  pub to_do : To-do (record_size plan) (all_of plan) (said_of plan) l whole full buffer (site_of g x ps) from at
+pub record Holds (plan : Bool) (l : List ℕ) (whole : Site) (full buffer : List ℕ) (g : Group) (ps : Points) (x : Settled) (rest : List ℕ) (at : ℕ) : Type 0 where
+  pub to_do : To-do (record_size plan) (all_of plan) (said_of plan) l whole full buffer (site_of g x ps) rest at
   pub eight : Eight g
 
 -- a word that is put back where it stood
@@ -65,17 +67,29 @@ some_octets true = omega arith
 some_octets false = omega arith
 
 pub at_first : (plan : Bool) (l buffer : List ℕ) (g : Group) (ps : Points) → length l < 2 ^ 64 → Eight g
-    → Holds plan l (operate_all (record { group = g; points = ps }) (operations_of plan l)) (sets buffer 0 (answers_to (record { group = g; points = ps }) (operations_of plan l))) buffer g ps g.settled 0 0
+    → Holds plan l (operate_all (record { group = g; points = ps }) (operations_of plan l)) (sets buffer 0 (answers_to (record { group = g; points = ps }) (operations_of plan l))) buffer g ps g.settled l 0
 at_first plan l buffer g ps h e = record {
   to_do = start (record_size plan) (all_of plan) (said_of plan) l buffer (record { group = g; points = ps }) (λ rs. each_said plan rs (record { group = g; points = ps })) h;
   eight = e;
 }
 
-pub fewer : (plan : Bool) {from to size n : ℕ} → size ≡ record_size plan → to ≡ min (from + size) n → from < n → n - to < n - from
-fewer plan {from} {to} {size} {n} es e l = shorter size e (rw es (some_octets plan)) l
+-- whether octets are left
+pub some_left : (n : ℕ) {b : Bool} → b ≡ (n == 0) → b ≡ false → 0 < n
+some_left zero e f = let z : true ≡ false = sym e ∙ f in absurd (true≢false z)
+some_left (suc n) e f = omega arith
 
-module _ {plan : Bool} {l full buffer : List ℕ} {whole : Site} {g : Group} {ps : Points} {x : Settled} {from at : ℕ}
-    (h : Holds plan l whole full buffer g ps x from at) where
+pub none_left : (n : ℕ) {b : Bool} → b ≡ (n == 0) → b ≡ true → n ≤ 0
+none_left zero e t = omega arith
+none_left (suc n) e t = let z : true ≡ false = sym t ∙ e ∙ ne_eqb (suc n) 0 (λ q. omega arith) in absurd (true≢false z)
+
+-- fewer octets are left
+pub fewer : (plan : Bool) (rest : List ℕ) {size n : ℕ} → size ≡ record_size plan → n ≡ min size (length rest) → 0 < length rest → length (drop n rest) < length rest
+fewer plan rest {size} {n} es e m =
+    let some : 0 < size = rw es (some_octets plan) in
+    min_cases size (length rest) _ (λ s q. omega (arith, length-drop n rest)) (λ s q. omega (arith, length-drop n rest))
+
+module _ {plan : Bool} {l full buffer : List ℕ} {whole : Site} {g : Group} {ps : Points} {x : Settled} {rest : List ℕ} {at : ℕ}
+    (h : Holds plan l whole full buffer g ps x rest at) where
   -- the operation of the record is the turn that was read
   pub asked : (r : List ℕ) (o : Order) (a b : ℕ) (t : Turn) → o ≡ order_of plan r → a ≡ first_named o → b ≡ second_named o → turn_in o (with_settled g x) a b ≡ t
       → operate (site_of g x ps) (operation_in plan r) ≡ turn_made t (site_of g x ps) r a b
@@ -84,14 +98,17 @@ module _ {plan : Bool} {l full buffer : List ℕ} {whole : Site} {g : Group} {ps
       ∙ ap (λ (u : Turn). turn_made u (site_of g x ps) r a b) et
 
   -- a turn more
-  pub going : {g' : Group} {ps' : Points} {x' : Settled} {k to end size : ℕ} {buffer' : List ℕ} → from < length l → size ≡ record_size plan → to ≡ min (from + size) (length l)
-      → operate (site_of g x ps) (operation_in plan (take (to - from) (drop from l))) ≡ record { answer = k; site = site_of g' x' ps' }
-      → Written (k ∷ []) at buffer end buffer' → Eight g' → Holds plan l whole full buffer' g' ps' x' to end
-  going {to = to} m es et e w e8 = record {
-    to_do = turn (record_size plan) (all_of plan) (said_of plan) h.to_do (some_octets plan) m (rw (← es) et)
-        (one_made plan (site_of g x ps) (take (to - from) (drop from l)) e) (one_said plan (site_of g x ps) (take (to - from) (drop from l)) e) w;
-    eight = e8;
-  }
+  pub going : {g' : Group} {ps' : Points} {x' : Settled} {k n end size : ℕ} {buffer' one after : List ℕ} → 0 < length rest → size ≡ record_size plan → n ≡ min size (length rest)
+      → one ≡ take n rest → after ≡ drop n rest
+      → operate (site_of g x ps) (operation_in plan one) ≡ record { answer = k; site = site_of g' x' ps' }
+      → Written (k ∷ []) at buffer end buffer' → Eight g' → Holds plan l whole full buffer' g' ps' x' after end
+  going {n = n} m es et er ea e w e8 =
+      let made = rw er at e in
+      rw ea (record {
+        to_do = turn (record_size plan) (all_of plan) (said_of plan) h.to_do (some_octets plan) m (rw (← es) et)
+            (one_made plan (site_of g x ps) (take n rest) made) (one_said plan (site_of g x ps) (take n rest) made) w;
+        eight = e8;
+      })
 
-  pub at_last : length l ≤ from → (site_of g x ps ≡ whole) × (buffer ≡ full)
+  pub at_last : length rest ≤ 0 → (site_of g x ps ≡ whole) × (buffer ≡ full)
   at_last m = ended (record_size plan) (all_of plan) (said_of plan) h.to_do (none_made plan (site_of g x ps)) (none_said plan (site_of g x ps)) m

@@ -61,17 +61,13 @@ part w from to l m e =
     let few : length (drop from l) ≤ w = omega (arith, length-drop from l) in
     rw (take_all (to - from) (drop from l) all, take_all w (drop from l) few))
 
-pub left : (w from to : ℕ) (l : List ℕ) → from < length l → to ≡ min (from + w) (length l) → drop to l ≡ drop w (drop from l)
-left w from to l m e =
-    min_cases (from + w) (length l) _
-    (λ s q. rw (e, q) (sym (drop-drop w from l)))
-    (λ s q.
-    let few : length (drop from l) ≤ w = omega (arith, length-drop from l) in
-    rw (drop_of_length-le (drop from l) few, e, q) (drop_of_length-le l {i = length l} (omega arith)))
+-- the first w octets, or all where there are fewer, and those behind them
+taken_of : (w n : ℕ) (l : List ℕ) → n ≡ min w (length l) → take n l ≡ take w l
+taken_of w n l e = min_cases w (length l) _ (λ s q. rw (e, q)) (λ s q. rw (e, q, take_all (length l) l (omega arith), take_all w l s))
 
--- fewer octets are left, whatever a record's length
-pub shorter : (k : ℕ) {from to n : ℕ} → to ≡ min (from + k) n → 0 < k → from < n → n - to < n - from
-shorter k {from} {to} {n} e p l = min_cases (from + k) n _ (λ s q. omega arith) (λ s q. omega arith)
+left_of : (w n : ℕ) (l : List ℕ) → n ≡ min w (length l) → drop n l ≡ drop w l
+left_of w n l e =
+    min_cases w (length l) _ (λ s q. rw (e, q)) (λ s q. rw (e, q, drop_of_length-le l {i = length l} (omega arith), drop_of_length-le l {i = w} s))
 
 -- ---- how many there are
 
@@ -94,47 +90,48 @@ count (suc n) l h = elim (dec_lt 0 (length l)) [
 
 -- `all` is the state after a list of records, `said` what each of them is answered
 module _ {S : Type 0} (w : ℕ) (all : S → List (List ℕ) → S) (said : S → List (List ℕ) → List ℕ) where
-  -- what is left to do from octet `from` on: to the state, and from place `at` on to the buffer
-  pub record To-do (l : List ℕ) (whole : S) (full buffer : List ℕ) (s : S) (from at : ℕ) : Type 0 where
-    pub within : from ≤ length l
-    pub rest : all s (parts w (length l) (drop from l)) ≡ whole
-    pub unsaid : stored_from at (said s (parts w (length l) (drop from l))) buffer ≡ full
+  -- what is left to do with the octets `rest`: to the state, and from place `at` on to the buffer
+  pub record To-do (l : List ℕ) (whole : S) (full buffer : List ℕ) (s : S) (rest : List ℕ) (at : ℕ) : Type 0 where
+    pub within : length rest ≤ length l
+    pub undone : all s (parts w (length l) rest) ≡ whole
+    pub unsaid : stored_from at (said s (parts w (length l) rest)) buffer ≡ full
 
   pub start : (l buffer : List ℕ) (s : S) → ((rs : List (List ℕ)) → length (said s rs) ≡ length rs) → length l < 2 ^ 64
-      → To-do l (all s (parts w (length l) l)) (sets buffer 0 (said s (parts w (length l) l))) buffer s 0 0
+      → To-do l (all s (parts w (length l) l)) (sets buffer 0 (said s (parts w (length l) l))) buffer s l 0
   start l buffer s each h = record {
     within = omega arith;
-    rest = refl;
+    undone = refl;
     unsaid = stored_sets 0 (said s (parts w (length l) l)) buffer (omega (arith, each (parts w (length l) l), at_most w (length l) l));
   }
 
-  module _ {l full buffer : List ℕ} {whole s : S} {from at : ℕ} (d : To-do l whole full buffer s from at) where
-    first : 0 < w → from < length l → parts w (length l) (drop from l) ≡ take w (drop from l) ∷ parts w (length l) (drop w (drop from l))
+  module _ {l full buffer : List ℕ} {whole s : S} {rest : List ℕ} {at : ℕ} (d : To-do l whole full buffer s rest at) where
+    first : 0 < w → 0 < length rest → parts w (length l) rest ≡ take w rest ∷ parts w (length l) (drop w rest)
     first p m =
         let room : 1 * length l ≤ w * length l = mul-le-mul_right (length l) p in
-        enough w (length l) (suc (length l)) (drop from l) (omega (arith, length-drop from l)) (omega (arith, length-drop from l))
-        ∙ some_part w (length l) (drop from l) (omega (arith, length-drop from l))
+        enough w (length l) (suc (length l)) rest (omega (arith, d.within)) (omega (arith, d.within))
+        ∙ some_part w (length l) rest m
 
-    pub turn : {s' : S} {answer to end : ℕ} {buffer' : List ℕ} → 0 < w → from < length l → to ≡ min (from + w) (length l)
-        → ((rs : List (List ℕ)) → all s (take (to - from) (drop from l) ∷ rs) ≡ all s' rs)
-        → ((rs : List (List ℕ)) → said s (take (to - from) (drop from l) ∷ rs) ≡ answer ∷ said s' rs)
-        → Written (answer ∷ []) at buffer end buffer' → To-do l whole full buffer' s' to end
-    turn {s'} {answer} {to} {end} {buffer'} p m t onward told v = record {
-      within = min_cases (from + w) (length l) _ (λ x q. omega arith) (λ x q. omega arith);
-      rest = rw (left w from to l m t) (sym (onward others) ∙ ap (all s) these ∙ d.rest);
-      unsaid = rw (v.ends, v.stored, left w from to l m t)
+    -- a record more: the next n octets, w of them or what there are
+    pub turn : {s' : S} {answer n end : ℕ} {buffer' : List ℕ} → 0 < w → 0 < length rest → n ≡ min w (length rest)
+        → ((rs : List (List ℕ)) → all s (take n rest ∷ rs) ≡ all s' rs)
+        → ((rs : List (List ℕ)) → said s (take n rest ∷ rs) ≡ answer ∷ said s' rs)
+        → Written (answer ∷ []) at buffer end buffer' → To-do l whole full buffer' s' (drop n rest) end
+    turn {s'} {answer} {n} {end} {buffer'} p m t onward told v = record {
+      within = omega (arith, d.within, length-drop n rest);
+      undone = rw (left_of w n rest t) (sym (onward others) ∙ ap (all s) these ∙ d.undone);
+      unsaid = rw (v.ends, v.stored, left_of w n rest t)
           (ap (λ (answers : List ℕ). stored_from at answers buffer) (sym (told others) ∙ ap (said s) these) ∙ d.unsaid);
     }
       where
         others : List (List ℕ)
-        others = parts w (length l) (drop w (drop from l))
+        others = parts w (length l) (drop w rest)
 
-        these : take (to - from) (drop from l) ∷ others ≡ parts w (length l) (drop from l)
-        these = ap (λ (r : List ℕ). r ∷ others) (part w from to l m t) ∙ sym (first p m)
+        these : take n rest ∷ others ≡ parts w (length l) rest
+        these = ap (λ (r : List ℕ). r ∷ others) (taken_of w n rest t) ∙ sym (first p m)
 
-    pub ended : all s [] ≡ s → said s [] ≡ [] → length l ≤ from → (s ≡ whole) × (buffer ≡ full)
+    pub ended : all s [] ≡ s → said s [] ≡ [] → length rest ≤ 0 → (s ≡ whole) × (buffer ≡ full)
     ended still silent h =
-        let none : parts w (length l) (drop from l) ≡ [] = ap (parts w (length l)) (drop_of_length-le l h) ∙ no_octets w (length l) in (
-          sym still ∙ sym (ap (all s) none) ∙ d.rest,
+        let none : parts w (length l) rest ≡ [] = ap (parts w (length l)) (no_more rest h) ∙ no_octets w (length l) in (
+          sym still ∙ sym (ap (all s) none) ∙ d.undone,
           sym (ap (λ (answers : List ℕ). stored_from at answers buffer) (ap (said s) none ∙ silent)) ∙ d.unsaid,
         )

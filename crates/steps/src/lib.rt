@@ -2,7 +2,7 @@
 // them back one by one. What is done to the parts is in `turns` and the kinds below it.
 #![tactic(auto)]
 
-ghost use Rattle.std.specs.Prelude.{min, ◌≡◌};
+ghost use Rattle.std.specs.Prelude.{◌≡◌, ◌&&◌, ltb};
 ghost use Rattle.std.proofs.lemmas.List.Edits.{sets};
 ghost use Rattle.protocol.specs.Entry.{step};
 ghost use Rattle.protocol.specs.Evening.{operate_all, answers_to};
@@ -12,12 +12,13 @@ use group::{Group, Outcome};
 use points::Points;
 use protocol::Site;
 use seat::Seat;
-use turns::Turn;
+use turns::{Turn, View};
 
-pub fn least(a: usize, b: usize) -> usize
-    ensures { result ≡ min a b }
+// No home is past the eighth.
+fn owed_at(owes: bool, home: u8) -> bool
+    ensures { result ≡ owes && ltb home 8 }
 {
-    if a < b { a } else { b }
+    owes && home < 8
 }
 
 // The group and its points after all records of a list of steps, or of a plan. What each is answered is stored in the buffer, as far as it
@@ -29,11 +30,13 @@ pub fn run(site: Site, plan: bool, list: &[u8], answers: &mut [u8]) -> Site
     let mut g = site.group;
     let mut points = site.points;
     let mut settled = g.settled;
-    let mut from = 0;
     let mut at = 0;
-    while from < list.len() {
-        let to = least(from + turns::record_size(plan), list.len());
-        let order = turns::order_of(plan, &list[from..to]);
+    let mut rest = list;
+    // Kept: a `while`, which counts no index; the last record may be short, and what is done is proved of the rest of the list.
+    while !rest.is_empty() {
+        let size = turns::record_size(plan).min(rest.len());
+        let (record, others) = rest.split_at(size);
+        let order = turns::order_of(plan, record);
         let a = turns::first_named(order);
         let b = turns::second_named(order);
         let i = seat::place(a);
@@ -51,7 +54,20 @@ pub fn run(site: Site, plan: bool, list: &[u8], answers: &mut [u8]) -> Site
         let l = seat::line_there(a, line);
         let on = turns::linked(a, b, row);
         let version = g.packets;
-        let turn = turns::turn_of(order, g.n, crashed, recovering, c, d, a, on, l, version);
+        let turn = turns::turn_of(
+            order,
+            View {
+                n: g.n,
+                crashed,
+                recovering,
+                first: c,
+                second: d,
+                a,
+                on,
+                line: l,
+                version,
+            },
+        );
         match turn {
             Turn::Refused(k) => {
                 at = buffer::put(answers, at, k);
@@ -64,16 +80,13 @@ pub fn run(site: Site, plan: bool, list: &[u8], answers: &mut [u8]) -> Site
                 let r = turns::deed_done(deed, seat::there(x, cx), l, a, b, version);
                 at = buffer::put(answers, at, r.answer);
                 let changed = seat::kept(x, r.cabinet, cx);
-                let left = lines.with_line_to(b, seat::line_kept(a, r.line, line));
+                let left = lines.with_line_to(b, seat::kept(a, r.line, line));
                 g.cabinets[k] = changed;
                 g.outgoing[i] = left;
             }
             // That line, then all lines of b: begin, and a signal heard.
             Turn::Call(call) => {
-                let left = lines.with_line_to(
-                    b,
-                    seat::line_kept(a, turns::line_left(call, l), line),
-                );
+                let left = lines.with_line_to(b, seat::kept(a, turns::line_left(call, l), line));
                 g.outgoing[i] = left;
                 let theirs = g.outgoing[j];
                 let r = turns::call_done(
@@ -108,7 +121,7 @@ pub fn run(site: Site, plan: bool, list: &[u8], answers: &mut [u8]) -> Site
                 g.cabinets[i] = changed;
                 g.store = kept;
                 let home = g.cabinets[k];
-                let owing = saving::owe_if(marks::and(r.owes, h < 8), home, a);
+                let owing = saving::owe_if(owed_at(r.owes, h), home, a);
                 g.cabinets[k] = owing;
             }
             // A home, then a coordinator: saved, restored and unsure.
@@ -159,43 +172,44 @@ pub fn run(site: Site, plan: bool, list: &[u8], answers: &mut [u8]) -> Site
                 settled = g.settled;
             }
             Turn::Point => {
-                let noted = planning::take_point(
+                let taken = planning::take_point(
                     points,
                     g.with_settled(settled),
-                    turns::name_in(&list[from..to]),
+                    turns::name_in(record),
                 );
+                let noted = planning::noted_after(points, taken);
                 at = buffer::put(answers, at, noted.answer);
                 points = noted.points;
             }
             Turn::Return => {
-                let r = planning::return_to(
-                    points,
-                    g.with_settled(settled),
-                    turns::name_in(&list[from..to]),
-                );
+                let before = g.with_settled(settled);
+                let returned = planning::return_to(points, before, turns::name_in(record));
+                let r = planning::returned_after(before, returned);
                 at = buffer::put(answers, at, r.answer);
                 g = r.group;
                 settled = g.settled;
             }
         }
-        from = to;
+        rest = others;
     }
-    let group = g.with_settled(settled);
-    Site { group, points }
+    Site {
+        group: g.with_settled(settled),
+        points,
+    }
 }
 
 // One record: a turn of the run. More than six octets are none, and no octets are none: the run then makes no turn, and the answer stays 8.
 pub fn step(g: Group, octets: &[u8]) -> Outcome
     ensures { result ≡ step g octets.now }
 {
-    if octets.len() <= 6 {
-        let mut answer = [8u8; 1];
-        let group = g;
-        let points = Points::none();
-        let site = run(Site { group, points }, false, octets, &mut answer);
-        let after = site.group;
-        group::answering(answer[0], after)
-    } else {
-        group::answering(8, g)
+    if octets.len() > 6 {
+        return group::answering(8, g);
     }
+    let mut answer = [8; 1];
+    let site = Site {
+        group: g,
+        points: Points::none(),
+    };
+    let after = run(site, false, octets, &mut answer);
+    group::answering(answer[0], after.group)
 }

@@ -3,10 +3,11 @@
 #![tactic(auto)]
 
 ghost use Rattle.std.specs.Prelude.{◌≡◌, ◌<◌, get_or};
-ghost use Rattle.store.specs.Store.{blank_slots, slot_in, with_slot_in, with_present, empty_store, file_home, is_store, partner, is_present, home_in, is_last, is_away, is_homed_at, homed_at, first_of, second_of, copy_at, slot_at, leaves, first_back, second_back, of_each, comes_back, set_slots};
-ghost use Rattle.store.specs.Share.{share, with_share, serves_in, slot_in_share, piece_to, put_piece_in};
+ghost use Rattle.store.specs.Store.{blank_slots, slot_in, with_slot_in, empty_store, file_home, is_store, partner, is_present, home_in, is_last, is_away, is_homed_at, homed_at, first_of, second_of, copy_at, slot_at, leaves, first_back, second_back, comes_back, set_slots};
+ghost use Rattle.store.specs.Share.{share, with_share, serves_in, slot_in_share, with_piece_in, piece_to, put_piece_in};
 
 use image::Image;
+use std::array;
 
 // A cabinet's two slots.
 #[derive(Clone, Copy)]
@@ -17,6 +18,7 @@ pub struct Slots {
 
 // homes: the home of each cabinet that the file names; stores: which cabinets are stores; partners: of each store its partner, 8 for none;
 // present: the stores that work and are not away; firsts: each cabinet's slots at its home in the file; seconds: those at that one's partner.
+// Kept: 8 and no Option for no home or partner, and rows side by side: the definitions and `claims` Stores read each row by a cabinet's number.
 #[derive(Clone, Copy)]
 pub struct Store {
     pub homes: [u8; 8],
@@ -58,29 +60,19 @@ impl Slots {
     fn with_image(self, v: bool, m: Image) -> Slots
         ensures { result ≡ with_slot_in self v m }
     {
-        let mut s = self;
         if v {
-            s.one = m;
+            Slots { one: m, ..self }
         } else {
-            s.zero = m;
+            Slots { zero: m, ..self }
         }
-        s
     }
-}
 
-// A row's number for cabinet i, 8 past the eighth.
-fn number_at(row: [u8; 8], i: u8) -> u8
-    ensures { result ≡ get_or row i 8 }
-{
-    let k = i as usize;
-    if k < 8 { row[k] } else { 8 }
-}
-
-fn slots_at(row: [Slots; 8], i: u8) -> Slots
-    ensures { result ≡ get_or row i blank_slots }
-{
-    let k = i as usize;
-    if k < 8 { row[k] } else { Slots::blank() }
+    // The slots with piece k of an image in one of them.
+    fn with_piece(self, v: bool, k: u8, m: Image) -> Slots
+        ensures { result ≡ with_piece_in self v k m }
+    {
+        self.with_image(v, self.image(v).with_piece(k, m))
+    }
 }
 
 impl Share {
@@ -106,21 +98,19 @@ impl Share {
     fn piece_to(self, first: bool, present: bool, v: bool, k: u8, m: Image) -> Share
         ensures { result ≡ piece_to self first present v k m }
     {
-        let mut x = self;
-        if present {
-            if first {
-                let slots = x.first;
-                let written = slots.image(v).with_piece(k, m);
-                let slots = slots.with_image(v, written);
-                x.first = slots;
-            } else {
-                let slots = x.second;
-                let written = slots.image(v).with_piece(k, m);
-                let slots = slots.with_image(v, written);
-                x.second = slots;
+        if !present {
+            self
+        } else if first {
+            Share {
+                first: self.first.with_piece(v, k, m),
+                ..self
+            }
+        } else {
+            Share {
+                second: self.second.with_piece(v, k, m),
+                ..self
             }
         }
-        x
     }
 
     // .. at each store of the pair that is present.
@@ -153,29 +143,25 @@ impl Store {
     fn file_home(self, c: u8) -> u8
         ensures { result ≡ file_home self c }
     {
-        let k = c as usize;
-        if k < 8 { self.homes[k] } else { 8 }
+        self.homes.get(c as usize).copied().unwrap_or(8)
     }
 
     pub fn partner(self, h: u8) -> u8
         ensures { result ≡ partner self h }
     {
-        let k = h as usize;
-        if k < 8 { self.partners[k] } else { 8 }
+        self.partners.get(h as usize).copied().unwrap_or(8)
     }
 
     fn is_store(self, h: u8) -> bool
         ensures { result ≡ is_store self h }
     {
-        let stores = self.stores;
-        marks::marked(stores, h)
+        marks::marked(self.stores, h)
     }
 
     fn is_present(self, h: u8) -> bool
         ensures { result ≡ is_present self h }
     {
-        let present = self.present;
-        marks::marked(present, h)
+        marks::marked(self.present, h)
     }
 
     // The store that serves cabinet c.
@@ -194,14 +180,14 @@ impl Store {
     pub fn is_last(self, a: u8) -> bool
         ensures { result ≡ is_last self a }
     {
-        marks::and(self.is_store(a), !self.is_present(self.partner(a)))
+        self.is_store(a) && !self.is_present(self.partner(a))
     }
 
     // Cabinet a is a store that has left.
     pub fn is_away(self, a: u8) -> bool
         ensures { result ≡ is_away self a }
     {
-        marks::and(self.is_store(a), !self.is_present(a))
+        self.is_store(a) && !self.is_present(a)
     }
 
     fn is_homed_at(self, a: u8, c: u8) -> bool
@@ -214,40 +200,28 @@ impl Store {
     pub fn homed_at(self, a: u8) -> [bool; 8]
         ensures { result ≡ homed_at self a }
     {
-        [
-            self.is_homed_at(a, 0),
-            self.is_homed_at(a, 1),
-            self.is_homed_at(a, 2),
-            self.is_homed_at(a, 3),
-            self.is_homed_at(a, 4),
-            self.is_homed_at(a, 5),
-            self.is_homed_at(a, 6),
-            self.is_homed_at(a, 7),
-        ]
+        array::from_fn(|c| self.is_homed_at(a, c as u8))
     }
 
     // ---- the slots
 
+    // Kept, here and below: first and second are twins but for the field that they read; a shared form would pass all slots by value.
     fn first_of(self, c: u8) -> Slots
         ensures { result ≡ first_of self c }
     {
-        let k = c as usize;
-        if k < 8 {
-            self.firsts[k]
-        } else {
-            Slots::blank()
-        }
+        self.firsts
+            .get(c as usize)
+            .copied()
+            .unwrap_or(Slots::blank())
     }
 
     fn second_of(self, c: u8) -> Slots
         ensures { result ≡ second_of self c }
     {
-        let k = c as usize;
-        if k < 8 {
-            self.seconds[k]
-        } else {
-            Slots::blank()
-        }
+        self.seconds
+            .get(c as usize)
+            .copied()
+            .unwrap_or(Slots::blank())
     }
 
     // The slots that store h has of cabinet c.
@@ -272,45 +246,30 @@ impl Store {
     pub fn share(self, c: u8) -> Share
         ensures { result ≡ share self c }
     {
-        let homes = self.homes;
-        let partners = self.partners;
-        let present = self.present;
-        let firsts = self.firsts;
-        let seconds = self.seconds;
-        let h = number_at(homes, c);
-        let p = number_at(partners, h);
+        let home = self.file_home(c);
+        let partner = self.partner(home);
         Share {
-            first: slots_at(firsts, c),
-            second: slots_at(seconds, c),
-            home: h,
-            partner: p,
-            here: marks::marked(present, h),
-            there: marks::marked(present, p),
+            first: self.first_of(c),
+            second: self.second_of(c),
+            home,
+            partner,
+            here: self.is_present(home),
+            there: self.is_present(partner),
         }
     }
 
     // ---- what changes them
 
     // The slots of cabinet c become those of a share.
+    // Kept: a test and two writes, as in marks::set_mark.
     pub fn with_share(self, c: u8, x: Share) -> Store
         ensures { result ≡ with_share self c x }
     {
-        let k = c as usize;
         let mut s = self;
-        if k < 8 {
-            let first = x.first;
-            let second = x.second;
-            s.firsts[k] = first;
-            s.seconds[k] = second;
+        if c < 8 {
+            s.firsts[c as usize] = x.first;
+            s.seconds[c as usize] = x.second;
         }
-        s
-    }
-
-    fn with_present(self, present: [bool; 8]) -> Store
-        ensures { result ≡ with_present self present }
-    {
-        let mut s = self;
-        s.present = present;
         s
     }
 
@@ -318,8 +277,10 @@ impl Store {
     pub fn leaves(self, a: u8) -> Store
         ensures { result ≡ leaves self a }
     {
-        let present = self.present;
-        self.with_present(marks::set_mark(present, a, false))
+        Store {
+            present: marks::set_mark(self.present, a, false),
+            ..self
+        }
     }
 
     // What stands at a cabinet's home in the file, and at that one's partner, once store a is back.
@@ -343,51 +304,15 @@ impl Store {
         }
     }
 
-    fn firsts_back(self, a: u8) -> [Slots; 8]
-        ensures { result ≡ of_each (first_back self a) }
-    {
-        [
-            self.first_back(a, 0),
-            self.first_back(a, 1),
-            self.first_back(a, 2),
-            self.first_back(a, 3),
-            self.first_back(a, 4),
-            self.first_back(a, 5),
-            self.first_back(a, 6),
-            self.first_back(a, 7),
-        ]
-    }
-
-    fn seconds_back(self, a: u8) -> [Slots; 8]
-        ensures { result ≡ of_each (second_back self a) }
-    {
-        [
-            self.second_back(a, 0),
-            self.second_back(a, 1),
-            self.second_back(a, 2),
-            self.second_back(a, 3),
-            self.second_back(a, 4),
-            self.second_back(a, 5),
-            self.second_back(a, 6),
-            self.second_back(a, 7),
-        ]
-    }
-
     // Store a takes its partner's slots and is present again.
     pub fn comes_back(self, a: u8) -> Store
         ensures { result ≡ comes_back self a }
     {
-        let homes = self.homes;
-        let stores = self.stores;
-        let partners = self.partners;
-        let present = self.present;
         Store {
-            homes: homes,
-            stores: stores,
-            partners: partners,
-            present: marks::set_mark(present, a, true),
-            firsts: self.firsts_back(a),
-            seconds: self.seconds_back(a),
+            present: marks::set_mark(self.present, a, true),
+            firsts: array::from_fn(|c| self.first_back(a, c as u8)),
+            seconds: array::from_fn(|c| self.second_back(a, c as u8)),
+            ..self
         }
     }
 
@@ -395,9 +320,10 @@ impl Store {
     pub fn set_slots(self, slots: [Slots; 8]) -> Store
         ensures { result ≡ set_slots self slots }
     {
-        let mut s = self;
-        s.firsts = slots;
-        s.seconds = slots;
-        s
+        Store {
+            firsts: slots,
+            seconds: slots,
+            ..self
+        }
     }
 }

@@ -1,15 +1,14 @@
 -- What is asked of the row of cabinets is what is asked of the group.
-use Prim.Native.Nat.{ℕ, ◌<◌}
-use mathlib.Core.Path.{◌≡◌, refl, ap}
-use mathlib.Core.Bool.{Bool}
+use mathlib.Core.Path.{◌≡◌, refl}
+use mathlib.Core.Bool.{Bool, true, false, ◌||◌}
 use mathlib.Core.List.{List, [], ◌∷◌}
 use native.Mathlib.Omega.{arith}
-use lib.ListN.{length, get_or}
-use Rattle.marks.proofs.Lists.{get_d_in}
+use lib.ListN.{length}
+use Rattle.std.specs.List.{list_any}
+use Rattle.marks.specs.Marks.{lowest}
 use Rattle.state.specs.declared.State.TheVariants.{Crashed}
 use Rattle.state.specs.State.{is_in, in_recovery}
 use Rattle.cabinet.specs.declared.Cabinet.{Cabinet}
-use Rattle.cabinet.specs.Cabinet.{absent}
 use Rattle.group.specs.declared.Group.{Group}
 use Rattle.group.specs.Group.{cabinet, some, is_crashed, recovering_ones}
 use Rattle.survey.specs.Survey.{any_of}
@@ -22,15 +21,28 @@ pub any_recovering : (g : Group) → any_of (λ c. in_recovery c.phase.state) g.
 unfolding recovering_ones cabinet
 any_recovering g = refl
 
--- within a row of eight the default does not count
-module _ (f : Cabinet → Bool) (cs : List Cabinet) (d : Cabinet) (h : length cs ≡ 8) where
-  at : (i : ℕ) → i < 8 → f (get_or cs i d) ≡ f (get_or cs i absent)
-  at i b = ap f (get_d_in cs i d absent (rw h b))
+-- one of eight marks stands where the lowest is below eight
+some_of : (a b c d e f g h : Bool) → a || (b || (c || (d || (e || (f || (g || (h || false))))))) ≡ some (a ∷ b ∷ c ∷ d ∷ e ∷ f ∷ g ∷ h ∷ [])
+unfolding some lowest
+some_of true b c d e f g h = refl
+some_of false true c d e f g h = refl
+some_of false false true d e f g h = refl
+some_of false false false true e f g h = refl
+some_of false false false false true f g h = refl
+some_of false false false false false true g h = refl
+some_of false false false false false false true h = refl
+some_of false false false false false false false true = refl
+some_of false false false false false false false false = refl
 
-  pub eight_read :
-      some
-      (f (get_or cs 0 d) ∷ f (get_or cs 1 d) ∷ f (get_or cs 2 d) ∷ f (get_or cs 3 d) ∷ f (get_or cs 4 d) ∷ f (get_or cs 5 d) ∷ f (get_or cs 6 d)
-      ∷ f (get_or cs 7 d) ∷ [])
-      ≡ any_of f cs
-  eight_read =
-      rw (at 0 (omega arith), at 1 (omega arith), at 2 (omega arith), at 3 (omega arith), at 4 (omega arith), at 5 (omega arith), at 6 (omega arith), at 7 (omega arith))
+-- the test is asked of each of the eight
+pub eight_asked : (f : Cabinet → Bool) (cs : List Cabinet) → length cs ≡ 8 → list_any f cs ≡ any_of f cs
+eight_asked f (s ∷ t ∷ u ∷ v ∷ w ∷ x ∷ y ∷ z ∷ []) e = some_of (f s) (f t) (f u) (f v) (f w) (f x) (f y) (f z)
+eight_asked f [] e = absurd (omega (arith, e))
+eight_asked f (s ∷ []) e = absurd (omega (arith, e))
+eight_asked f (s ∷ t ∷ []) e = absurd (omega (arith, e))
+eight_asked f (s ∷ t ∷ u ∷ []) e = absurd (omega (arith, e))
+eight_asked f (s ∷ t ∷ u ∷ v ∷ []) e = absurd (omega (arith, e))
+eight_asked f (s ∷ t ∷ u ∷ v ∷ w ∷ []) e = absurd (omega (arith, e))
+eight_asked f (s ∷ t ∷ u ∷ v ∷ w ∷ x ∷ []) e = absurd (omega (arith, e))
+eight_asked f (s ∷ t ∷ u ∷ v ∷ w ∷ x ∷ y ∷ []) e = absurd (omega (arith, e))
+eight_asked f (s ∷ t ∷ u ∷ v ∷ w ∷ x ∷ y ∷ z ∷ q ∷ r) e = absurd (omega (arith, e))

@@ -8,6 +8,7 @@ ghost use Rattle.table.specs.Table.{in_use, coordinator, struck_at, is_at, led_o
 use packet::Place;
 
 // The cabinets still in use, a cabinet's own links still in use, and the coordinator.
+// Kept: a number past the seventh and no Option where there is no coordinator: definitions and theorems compare `lead` with cabinets' numbers.
 #[derive(Clone, Copy)]
 pub struct Table {
     pub cabinets: [bool; 8],
@@ -20,9 +21,7 @@ impl Table {
     pub fn in_use(self) -> [bool; 8]
         ensures { result ≡ in_use self }
     {
-        let links = self.links;
-        let cabinets = self.cabinets;
-        marks::both(links, cabinets)
+        marks::both(self.links, self.cabinets)
     }
 
     // The cabinet that the table names as coordinator.
@@ -40,31 +39,27 @@ fn without_link(links: [bool; 8], i: u8, a: u8, b: u8) -> [bool; 8]
     ensures { result ≡ cond (eqb i a) (set links b false) (cond (eqb i b) (set links a false) links) }
 {
     if i == a {
-        return marks::set_mark(links, b, false);
+        marks::set_mark(links, b, false)
+    } else if i == b {
+        marks::set_mark(links, a, false)
+    } else {
+        links
     }
-    if i == b {
-        return marks::set_mark(links, a, false);
-    }
-    links
 }
 
 // The place struck from the table of cabinet i: a cabinet that failed, or i's own end of a link; nothing for one that tripped.
 fn struck_at(i: u8, place: Place, table: Table) -> Table
     ensures { result ≡ struck_at i place table }
 {
-    let cabinets = table.cabinets;
-    let links = table.links;
     match place {
         Place::Failed(a) => Table {
-            cabinets: marks::set_mark(cabinets, a, false),
-            links: links,
-            lead: table.lead,
+            cabinets: marks::set_mark(table.cabinets, a, false),
+            ..table
         },
         Place::Tripped(_) => table,
         Place::Link(a, b) => Table {
-            cabinets: cabinets,
-            links: without_link(links, i, a, b),
-            lead: table.lead,
+            links: without_link(table.links, i, a, b),
+            ..table
         },
     }
 }
@@ -76,9 +71,8 @@ pub fn is_at(place: Place, k: u8) -> bool
     ensures { result ≡ is_at place k }
 {
     match place {
-        Place::Failed(a) => a == k,
-        Place::Tripped(a) => a == k,
-        Place::Link(_, _) => false,
+        Place::Failed(a) | Place::Tripped(a) => a == k,
+        Place::Link(..) => false,
     }
 }
 
@@ -86,12 +80,13 @@ pub fn is_at(place: Place, k: u8) -> bool
 fn led_on_if(lost: bool, table: Table) -> Table
     ensures { result ≡ led_on_if lost table }
 {
-    let mut t = table;
-    if lost {
-        let cabinets = table.cabinets;
-        t.lead = marks::next_up(cabinets, table.lead);
+    if !lost {
+        return table;
     }
-    t
+    Table {
+        lead: marks::next_up(table.cabinets, table.lead),
+        ..table
+    }
 }
 
 // The table of cabinet i once it has entered error for a place.

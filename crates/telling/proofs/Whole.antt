@@ -1,4 +1,5 @@
 -- The whole line, by the answer of the load.
+use Rattle.std.specs.Prelude.{Err, Ok}
 use Prim.Native.Nat.{ℕ, ◌+◌, ◌≤◌, min}
 use mathlib.Core.Path.{◌≡◌}
 use mathlib.Core.List.{List}
@@ -7,8 +8,7 @@ use lib.ListN.{length, take, length-append}
 use lib.Seq.{sets}
 use Rattle.settled.specs.Settled.{number_of}
 use Rattle.group.specs.declared.Outcome.{Outcome}
-use Rattle.protocol.specs.declared.Told.{Told}
-use Rattle.protocol.specs.declared.Told.TheVariants.{Refused, Settled}
+use Rattle.protocol.specs.Word.{Told}
 use Rattle.protocol.specs.Listing.{load_line, records}
 use Rattle.protocol.specs.History.{steps}
 use Rattle.protocol.specs.Word.{which_word, numbers_of, word_line, word}
@@ -20,8 +20,8 @@ use Rattle.report.proofs.Lines.{load_length}
 use Rattle.report.proofs.Whole.{exactly, run_of, last}
 
 word_length : (t : Told) → length (word_line (numbers_of t)) ≤ 17
-word_length (Refused k) = simp length-append (omega (arith, at_most 5 k))
-word_length (Settled f) = simp length-append (omega (arith, at_most 5 (f.cabinet + 1), at_most 5 (number_of f.reason)))
+word_length (Err k) = simp length-append (omega (arith, at_most 5 k))
+word_length (Ok f) = simp length-append (omega (arith, at_most 5 (f.cabinet + 1), at_most 5 (number_of f.reason)))
 
 module _ (file list : List ℕ) {used : ℕ} (u : used ≡ min (length list) 60000) {o : Outcome} (e : o ≡ replayed file (steps (records_in (take used list)))) where
   abbrev rs : List (List ℕ)

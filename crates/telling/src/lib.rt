@@ -10,6 +10,8 @@ ghost use Rattle.protocol.specs.History.{steps};
 ghost use Rattle.protocol.specs.Word.{word};
 ghost use Rattle.replay.specs.Replay.{EndsWell};
 
+use buffer::Writer;
+
 // The line for a group file and a list of step records, of which the first 10,000 count: its length,
 // and its octets stored in the buffer from the start as far as the buffer reaches. It has at most 17
 // octets: a word, two numbers of five digits, the spaces before them and the newline. What the steps
@@ -21,12 +23,18 @@ pub fn write_word(file: &[u8], list: &[u8], out: &mut [u8]) -> usize
     ensures upper_bound { result ≤ 17 }
     ensures ends_well { (load file.now).answer ≡ 0 → EndsWell file.now (steps (records 10000 list.now)) }
 {
-    let used = steps::least(list.len(), 60000);
+    let used = list.len().min(60000);
     let mut answers = [0u8; 0];
-    let o = replay::replay(file, &list[..used], &mut answers);
-    if o.answer == 0 {
-        text::word_line(out, 0, asking::which_word(o.group))
-    } else {
-        text::load_line(out, 0, o.answer)
+    let replayed = replay::replay(file, &list[..used], &mut answers);
+    let mut text = Writer { out, end: 0 };
+    match replayed {
+        Ok(group) => {
+            text::word_line(&mut text, asking::which_word(group));
+            text.end
+        }
+        Err(refusal) => {
+            text::load_line(&mut text, u8::from(refusal));
+            text.end
+        }
     }
 }

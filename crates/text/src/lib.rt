@@ -1,4 +1,4 @@
-// The lines of the listing, and that of the program `word`, each written into a buffer that the caller lends, as in `buffer`.
+// The lines of the listing, and that of the program `word`, each written by the writer that the caller lends.
 #![tactic(auto)]
 
 ghost use Rattle.std.specs.Prelude.{◌≡◌, [], ◌∷◌};
@@ -12,12 +12,13 @@ ghost use Rattle.protocol.specs.Listing.{
 };
 ghost use Rattle.protocol.specs.Evening.{word_of};
 ghost use Rattle.protocol.specs.Word.{numbers_of, spaced, word_line};
-ghost use Rattle.protocol.specs.declared.Told.TheVariants.{Settled};
-ghost use Rattle.buffer.specs.Written.{Written};
+ghost use Rattle.buffer.specs.Added.{Added};
+ghost use Rattle.refusal.specs.Refusal.{numbered};
 
+use buffer::Writer;
 use cabinet::Cabinet;
 use outlet::Outlet;
-use protocol::Told;
+use refusal::Refusal;
 use settled::First;
 use state::Version;
 
@@ -26,104 +27,97 @@ fn version_octet(v: Version) -> u8
 {
     match v {
         Version::Known(bit) => if bit { b'1' } else { b'0' },
-        Version::Unknown(_) => b'u',
-        Version::Lost => b'u',
+        Version::Unknown(_) | Version::Lost => b'u',
     }
 }
 
-fn end_line(out: &mut [u8], at: usize) -> usize
-    ensures { Written (10 ∷ []) at out.old result out.new }
+pub fn load_line(out: &mut Writer, k: u8)
+    ensures { Added (load_line k) out.old out.new }
 {
-    buffer::put(out, at, b'\n')
+    out.word(b"load");
+    out.number(k as u16);
+    out.put(b'\n');
 }
 
-pub fn load_line(out: &mut [u8], at: usize, k: u8) -> usize
-    ensures { Written (load_line k) at out.old result out.new }
+fn answer_line(out: &mut Writer, word: &[u8], k: u16, answer: u8)
+    ensures { Added (answer_line word.now k answer) out.old out.new }
 {
-    let at = buffer::word(out, at, b"load");
-    let at = buffer::number(out, at, k as u16);
-    end_line(out, at)
+    out.word(word);
+    out.number(k);
+    out.number(answer as u16);
+    out.put(b'\n');
 }
 
-fn answer_line(out: &mut [u8], at: usize, word: &[u8], k: u16, answer: u8) -> usize
-    ensures { Written (answer_line word.now k answer) at out.old result out.new }
+pub fn step_line(out: &mut Writer, k: u16, answer: u8)
+    ensures { Added (step_line k answer) out.old out.new }
 {
-    let at = buffer::word(out, at, word);
-    let at = buffer::number(out, at, k);
-    let at = buffer::number(out, at, answer as u16);
-    end_line(out, at)
+    answer_line(out, b"step", k, answer);
 }
 
-pub fn step_line(out: &mut [u8], at: usize, k: u16, answer: u8) -> usize
-    ensures { Written (step_line k answer) at out.old result out.new }
+// The word for a plan's record, by the record's first octet.
+fn word_of(first: u8) -> &'static [u8]
+    ensures { result.now ≡ word_of first }
 {
-    answer_line(out, at, b"step", k, answer)
+    match first {
+        1 => b"point",
+        2 => b"return",
+        _ => b"step",
+    }
 }
 
 // The line of a plan's record, by the record's first octet.
-pub fn plan_line(out: &mut [u8], at: usize, first: u8, k: u16, answer: u8) -> usize
-    ensures { Written (answer_line (word_of first) k answer) at out.old result out.new }
+pub fn plan_line(out: &mut Writer, first: u8, k: u16, answer: u8)
+    ensures { Added (answer_line (word_of first) k answer) out.old out.new }
 {
-    if first == 1 {
-        return answer_line(out, at, b"point", k, answer);
-    }
-    if first == 2 {
-        return answer_line(out, at, b"return", k, answer);
-    }
-    step_line(out, at, k, answer)
+    answer_line(out, word_of(first), k, answer);
 }
 
 // The state and, unless it is failed, version and bookings.
-fn cab_rest(out: &mut [u8], at: usize, c: Cabinet) -> usize
-    ensures { Written (32 ∷ cab_rest c) at out.old result out.new }
+fn cab_rest(out: &mut Writer, c: Cabinet)
+    ensures { Added (32 ∷ cab_rest c) out.old out.new }
 {
-    let phase = c.phase;
-    let state = phase.state;
-    let version = phase.version;
-    let at = buffer::put(out, at, b' ');
-    let at = words::state_word(out, at, state);
-    if state::works(state) {
-        let at = buffer::put(out, at, b' ');
-        let at = buffer::put(out, at, version_octet(version));
-        let at = buffer::number(out, at, c.image.booking(Outlet::A));
-        let at = buffer::number(out, at, c.image.booking(Outlet::B));
-        return buffer::number(out, at, c.image.booking(Outlet::W));
+    out.put(b' ');
+    out.word(words::state_word(c.phase.state));
+    if state::works(c.phase.state) {
+        out.put(b' ');
+        out.put(version_octet(c.phase.version));
+        out.number(c.image.booking(Outlet::A));
+        out.number(c.image.booking(Outlet::B));
+        out.number(c.image.booking(Outlet::W));
     }
-    at
 }
 
 // Cabinets are numbered from 0 inside and from 1 in the listing.
-pub fn cab_line(out: &mut [u8], at: usize, i: u8, c: Cabinet) -> usize
-    ensures { Written (cab_line i c) at out.old result out.new }
+pub fn cab_line(out: &mut Writer, i: u8, c: Cabinet)
+    ensures { Added (cab_line i c) out.old out.new }
 {
-    let at = buffer::word(out, at, b"cab");
-    let at = buffer::number(out, at, i as u16 + 1);
-    let at = cab_rest(out, at, c);
-    end_line(out, at)
+    out.word(b"cab");
+    out.number(i as u16 + 1);
+    cab_rest(out, c);
+    out.put(b'\n');
 }
 
 // Who settled a recovery, numbered from 1 as in the listing, and the reason's number.
-fn first_numbers(out: &mut [u8], at: usize, first: First) -> usize
-    ensures { Written (spaced (numbers_of (Settled first))) at out.old result out.new }
+fn first_numbers(out: &mut Writer, first: First)
+    ensures { Added (spaced (numbers_of (Ok first))) out.old out.new }
 {
-    let reason = first.reason;
-    let at = buffer::number(out, at, first.cabinet as u16 + 1);
-    buffer::number(out, at, settled::number_of(reason) as u16)
+    out.number(first.cabinet as u16 + 1);
+    out.number(u8::from(first.reason) as u16);
 }
 
-fn told_numbers(out: &mut [u8], at: usize, t: Told) -> usize
-    ensures { Written (spaced (numbers_of t)) at out.old result out.new }
+fn told_numbers(out: &mut Writer, t: Result<First, Refusal>)
+    ensures { Added (spaced (numbers_of (numbered t))) out.old out.new }
 {
     match t {
-        Told::Refused(k) => buffer::number(out, at, k as u16),
-        Told::Settled(first) => first_numbers(out, at, first),
+        Err(refusal) => out.number(u8::from(refusal) as u16),
+        Ok(first) => first_numbers(out, first),
     }
 }
 
-pub fn word_line(out: &mut [u8], at: usize, t: Told) -> usize
-    ensures { Written (word_line (numbers_of t)) at out.old result out.new }
+pub fn word_line(out: &mut Writer, t: Result<First, Refusal>)
+    ensures { Added (word_line (numbers_of (numbered t))) out.old out.new }
 {
-    let at = buffer::word(out, at, b"word");
-    let at = told_numbers(out, at, t);
-    end_line(out, at)
+    out.word(b"word");
+    told_numbers(out, t);
+    out.put(b'\n');
 }

@@ -8,10 +8,10 @@ use Rattle.cabinet.specs.declared.Cabinet.{Cabinet}
 use Rattle.group.specs.declared.Group.{Group}
 use Rattle.group.specs.declared.Outcome.{Outcome}
 use Rattle.group.specs.Group.{cabinet, with_cabinet, outgoing, line, with_line, with_store, with_trips, with_settled, no_row, is_crashed, some, recovering_ones, answering, taken, crashed}
-use Rattle.seat.specs.declared.Spot.{Spot}
+use Rattle.seat.specs.declared.SpotAnswer.{SpotAnswer}
 use Rattle.seat.specs.Seat.{seat, with_seat}
 use Rattle.protocol.specs.Kinds.{or_refuse, fail_step, trip_step}
-use Rattle.saving.specs.declared.Kept.{Kept}
+use Rattle.saving.specs.declared.KeptAnswer.{KeptAnswer}
 use Rattle.saving.specs.Saving.{owe_if}
 use Rattle.restoring.specs.Restoring.{closing}
 use Rattle.linkcheck.specs.Linkcheck.{link_fault}
@@ -33,7 +33,7 @@ turn_in o g a b =
 
 -- ---- one cabinet and the line from a to b
 
-abbrev pub with_spot : Group → ℕ → ℕ → ℕ → Spot → Outcome
+abbrev pub with_spot : Group → ℕ → ℕ → ℕ → SpotAnswer → Outcome
 with_spot g x a b r = answering r.answer (with_line (with_cabinet g x r.cabinet) a b r.line)
 
 unfoldable pub deed_stored : Deed → Group → ℕ → ℕ → Outcome
@@ -52,13 +52,13 @@ call_stored d g a b =
 
 -- ---- a cabinet and its slots, then its home h
 
-abbrev pub with_kept : Group → ℕ → Kept → Group
+abbrev pub with_kept : Group → ℕ → KeptAnswer → Group
 with_kept g a r = with_store (with_cabinet g a r.cabinet) (with_share g.store a r.share)
 
 abbrev pub with_owing : Group → ℕ → ℕ → Bool → Group
 with_owing g h a owes = with_cabinet g h (owe_if owes (cabinet g h) a)
 
-unfoldable pub kept_stored : Group → ℕ → ℕ → Kept → Outcome
+unfoldable pub kept_stored : Group → ℕ → ℕ → KeptAnswer → Outcome
 kept_stored g a h r = answering r.answer (with_owing (with_kept g a r) h a r.owes)
 
 unfoldable pub piece_stored : Piece → Group → ℕ → Outcome

@@ -5,14 +5,14 @@ use Rattle.packet.specs.declared.Packet.{Packet}
 use Rattle.packet.specs.declared.PacketVersion.{PacketVersion}
 use Rattle.line.specs.declared.Line.{Line}
 use Rattle.line.specs.Line.{oldest, rest}
-use Rattle.settled.specs.declared.Settled.{Settled}
+use Rattle.settled.specs.Settled.{Settled}
 use Rattle.store.specs.declared.Share.{Share}
 use Rattle.cabinet.specs.declared.Cabinet.{Cabinet}
 use Rattle.cabinet.specs.Cabinet.{coordinator, owing, saved_for, restored_for, unsure_for}
 use Rattle.group.specs.declared.Row.{Row}
 use Rattle.seat.specs.declared.Seat.{Seat}
-use Rattle.seat.specs.declared.Done.{Done}
-use Rattle.seat.specs.declared.Spot.{Spot}
+use Rattle.seat.specs.declared.SeatAnswer.{SeatAnswer}
+use Rattle.seat.specs.declared.SpotAnswer.{SpotAnswer}
 use Rattle.seat.specs.Seat.{answered}
 use Rattle.protocol.specs.declared.Step.{Step}
 use Rattle.protocol.specs.declared.Step.TheVariants.{Send, Note, Begin, Deliver, Write, Saved, Fetch, Restored, Fail, Damage, Lose, Trip, Unsure}
@@ -23,7 +23,7 @@ use Rattle.protocol.specs.Evening.{operation_of}
 use Rattle.protocol.specs.History.{Operation, stepping, pointing, returning}
 use Rattle.records.specs.Records.{entry_refusal_of}
 use Rattle.sending.specs.Sending.{send, note}
-use Rattle.saving.specs.declared.Kept.{Kept}
+use Rattle.saving.specs.declared.KeptAnswer.{KeptAnswer}
 use Rattle.saving.specs.Saving as S
 use Rattle.restoring.specs.Restoring as R
 use Rattle.delivery.specs.declared.Finding.{Finding}
@@ -150,7 +150,7 @@ doer Take a b = b
 doer (ToDamage p w) a b = b
 doer (ToLose p) a b = b
 
-unfoldable pub deed_done : Deed → Cabinet → Line → ℕ → ℕ → PacketVersion → Spot
+unfoldable pub deed_done : Deed → Cabinet → Line → ℕ → ℕ → PacketVersion → SpotAnswer
 deed_done (ToSend p q) c l a b v = send c l b p q v
 deed_done (ToNote p q) c l a b v = note c l p q
 deed_done Take c l a b v = D.take c l a
@@ -164,7 +164,7 @@ abbrev pub line_left : Call → Line → Line
 line_left ToBegin l = l
 line_left Signal l = rest l
 
-unfoldable pub call_done : Call → Seat → ℕ → ℕ → Packet → Done
+unfoldable pub call_done : Call → Seat → ℕ → ℕ → Packet → SeatAnswer
 call_done ToBegin s a b p = S.begin s a
 call_done Signal s a b p = answered 0 (D.hear s a b p)
 
@@ -174,7 +174,7 @@ word_left Signal x c a b p = D.word_after x c a b p
 
 -- ---- to a cabinet and its slots
 
-unfoldable pub piece_done : Piece → Cabinet → Cabinet → Share → ℕ → Kept
+unfoldable pub piece_done : Piece → Cabinet → Cabinet → Share → ℕ → KeptAnswer
 piece_done ToWrite c home x a = S.write c home x a
 piece_done ToFetch c home x a = R.fetch c home x
 

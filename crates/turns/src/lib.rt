@@ -2,9 +2,12 @@
 // Cabinets are numbered from 0 here.
 #![tactic(auto)]
 
-ghost use Rattle.std.specs.Prelude.{◌≡◌, true, length, drop};
+ghost use Rattle.std.specs.Prelude.{◌≡◌, true, false, length, drop};
 ghost use Rattle.turns.specs.Turns.{record_size, step_in, order_of, name_in, first_in, second_in, first_named, second_named, linked, refused_or, taken_turn, found, unless_recovering, step_turn, record_turn, turn_of, doer, deed_done, line_left, call_done, word_left, piece_done, coordinator_of, report_refusal, home_left, reported, concluded, trips_left, word_of, closes_with};
 ghost use Rattle.turns.specs.Stored.{whole_stored};
+ghost use Rattle.refusal.specs.Refusal.{answer_of};
+ghost use Rattle.seat.specs.Seat.{seat_after, spot_after};
+ghost use Rattle.saving.specs.Saving.{kept_after};
 
 use cabinet::Cabinet;
 use delivery::Finding;
@@ -12,9 +15,11 @@ use group::{Group, Outcome, Row};
 use line::Line;
 use packet::{Packet, PacketVersion, Pattern};
 use protocol::{Decoded, Step};
-use saving::Kept;
-use seat::{Done, Seat, Spot};
-use settled::Settled;
+use refusal::Refusal;
+use saving::{Kept, KeptAnswer};
+use seat::{Seat, SeatAnswer, Spot, SpotAnswer};
+use settled::First;
+use std::array;
 use store::Share;
 
 // A step record, or a plan's record to take a point or to return to one.
@@ -25,6 +30,8 @@ pub enum Order {
     Return,
 }
 
+// The kinds of turn are closed, and each function below is one match on them, in the words of its definition.
+// Kept: enums and no closures or dyn: the run has to know which parts of the group a turn touches before it is done.
 // What changes one cabinet, the sender or the receiver, and the line between them.
 #[derive(Clone, Copy)]
 pub enum Deed {
@@ -66,6 +73,21 @@ pub enum Whole {
     Crash,
 }
 
+// What a record's turn depends on: the group's size and state, the two cabinets that the record names, the number of the first, and the line
+// from it to the second, which may be on none of the file's links.
+#[derive(Clone, Copy)]
+pub struct View {
+    pub n: u8,
+    pub crashed: bool,
+    pub recovering: bool,
+    pub first: Cabinet,
+    pub second: Cabinet,
+    pub a: u8,
+    pub on: bool,
+    pub line: Line,
+    pub version: PacketVersion,
+}
+
 #[derive(Clone, Copy)]
 pub enum Turn {
     Refused(u8),
@@ -85,7 +107,7 @@ fn step_in(octets: &[u8]) -> Decoded
     requires { length octets.now ≡ 9 }
     ensures { result ≡ step_in (drop 1 octets.now) }
 {
-    if octets[7] as u16 + octets[8] as u16 == 0 {
+    if octets[7] == 0 && octets[8] == 0 {
         records::decode(&octets[1..7])
     } else {
         Decoded::Malformed
@@ -93,32 +115,30 @@ fn step_in(octets: &[u8]) -> Decoded
 }
 
 // A plan's record has nine octets; what is no operation answers as a malformed step.
+#[tactic(auto, unfolding(crate::specs::Turns::order_of))]
 fn plan_order(octets: &[u8]) -> Order
     ensures { result ≡ order_of true octets.now }
 {
-    if octets.len() == 9 {} else {
+    if octets.len() != 9 {
         return Order::Record(Decoded::Malformed);
     }
-    let first = octets[0];
-    if first == 0 {
-        return Order::Record(step_in(octets));
+    match octets[0] {
+        0 => Order::Record(step_in(octets)),
+        1 => Order::Point,
+        2 => Order::Return,
+        _ => Order::Record(Decoded::Malformed),
     }
-    if first == 1 {
-        return Order::Point;
-    }
-    if first == 2 {
-        return Order::Return;
-    }
-    Order::Record(Decoded::Malformed)
 }
 
 // How many octets a record has.
+// Kept: `plan`, here and above, is a flag that C passes (`kirsodza_chronicle`), and `operations_of plan` stands in the clauses.
 pub fn record_size(plan: bool) -> usize
     ensures { result ≡ record_size plan }
 {
     if plan { 9 } else { 6 }
 }
 
+#[tactic(auto, unfolding(crate::specs::Turns::order_of))]
 pub fn order_of(plan: bool, octets: &[u8]) -> Order
     ensures { result ≡ order_of plan octets.now }
 {
@@ -134,9 +154,7 @@ pub fn name_in(octets: &[u8]) -> [u8; 8]
     ensures { result ≡ name_in octets.now }
 {
     if octets.len() == 9 {
-        [
-            octets[1], octets[2], octets[3], octets[4], octets[5], octets[6], octets[7], octets[8],
-        ]
+        array::from_fn(|i| octets[i + 1])
     } else {
         [0; 8]
     }
@@ -146,9 +164,8 @@ fn first_in(d: Decoded) -> u8
     ensures { result ≡ first_in d }
 {
     match d {
-        Decoded::Malformed => 0,
-        Decoded::Unused => 0,
         Decoded::Taken(s) => records::before(records::first_of(s)),
+        _ => 0,
     }
 }
 
@@ -156,9 +173,8 @@ fn second_in(d: Decoded) -> u8
     ensures { result ≡ second_in d }
 {
     match d {
-        Decoded::Malformed => 0,
-        Decoded::Unused => 0,
         Decoded::Taken(s) => records::before(records::second_of(s)),
+        _ => 0,
     }
 }
 
@@ -168,8 +184,7 @@ pub fn first_named(o: Order) -> u8
 {
     match o {
         Order::Record(d) => first_in(d),
-        Order::Point => 0,
-        Order::Return => 0,
+        _ => 0,
     }
 }
 
@@ -178,8 +193,7 @@ pub fn second_named(o: Order) -> u8
 {
     match o {
         Order::Record(d) => second_in(d),
-        Order::Point => 0,
-        Order::Return => 0,
+        _ => 0,
     }
 }
 
@@ -189,14 +203,17 @@ pub fn second_named(o: Order) -> u8
 pub fn linked(a: u8, b: u8, row: Row) -> bool
     ensures { result ≡ linked a b row }
 {
-    let marks = row.marks;
-    marks::and(a < 8, marks::marked(marks, b))
+    a < 8 && marks::marked(row.marks, b)
 }
 
-fn refused_or(k: u8, t: Turn) -> Turn
-    ensures { result ≡ refused_or k t }
+// Kept: a refusal is one of the turns, with its number, as the definitions `refused_or` and `record_turn` have it.
+fn refused_or(may: Result<(), Refusal>, t: Turn) -> Turn
+    ensures { result ≡ refused_or (answer_of may) t }
 {
-    if k == 0 { t } else { Turn::Refused(k) }
+    match may {
+        Ok(()) => t,
+        Err(refusal) => Turn::Refused(u8::from(refusal)),
+    }
 }
 
 // A deliver at which nothing is found.
@@ -231,82 +248,57 @@ fn unless_recovering(recovering: bool, d: Deed) -> Turn
     }
 }
 
-// e is the second cabinet that the step names, l the line from the first, a, to it.
-fn step_turn(
-    s: Step,
-    a: u8,
-    e: Cabinet,
-    on: bool,
-    l: Line,
-    version: PacketVersion,
-    recovering: bool,
-) -> Turn
-    ensures { result ≡ step_turn s a e on l version recovering }
+#[tactic(auto, unfolding(crate::specs::Turns::step_turn))]
+fn step_turn(s: Step, v: View) -> Turn
+    ensures { result ≡ step_turn s v.a v.second v.on v.line v.version v.recovering }
 {
+    let View { second, line, .. } = v;
     match s {
-        Step::Send { a: _, b: _, p, q } => Turn::Deed(Deed::Send { p: p, q: q }),
-        Step::Note { a: _, p, q } => Turn::Deed(Deed::Note { p: p, q: q }),
-        Step::Begin { a: _ } => Turn::Call(Call::Begin),
-        Step::Deliver { a: _, b: _ } => refused_or(
-            delivery::deliver_refusal(on, l),
-            found(delivery::finds(e, a, l.oldest()), l.oldest()),
+        Step::Send { p, q, .. } => Turn::Deed(Deed::Send { p, q }),
+        Step::Note { p, q, .. } => Turn::Deed(Deed::Note { p, q }),
+        Step::Begin { .. } => Turn::Call(Call::Begin),
+        Step::Deliver { .. } => refused_or(
+            delivery::may_deliver(v.on, line),
+            found(delivery::finds(second, v.a, line.oldest()), line.oldest()),
         ),
-        Step::Write { a: _ } => Turn::Piece(Piece::Write),
-        Step::Saved { a: _ } => Turn::Report(Report::Saved),
-        Step::Fetch { a: _ } => Turn::Piece(Piece::Fetch),
-        Step::Restored { a: _ } => Turn::Report(Report::Restored),
-        Step::Fail { a: _ } => Turn::Whole(Whole::Fail),
-        Step::Damage { a: _, b: _, p, w } => refused_or(
-            hurting::damage_refusal(on, l, e, a, p, w, version),
-            unless_recovering(recovering, Deed::Damage { p: p, w: w }),
+        Step::Write { .. } => Turn::Piece(Piece::Write),
+        Step::Saved { .. } => Turn::Report(Report::Saved),
+        Step::Fetch { .. } => Turn::Piece(Piece::Fetch),
+        Step::Restored { .. } => Turn::Report(Report::Restored),
+        Step::Fail { .. } => Turn::Whole(Whole::Fail),
+        Step::Damage { p, w, .. } => refused_or(
+            hurting::may_damage(v.on, line, second, v.a, p, w, v.version),
+            unless_recovering(v.recovering, Deed::Damage { p, w }),
         ),
-        Step::Lose { a: _, b: _, p } => refused_or(
-            hurting::lose_refusal(on, l, e, a, p),
-            unless_recovering(recovering, Deed::Lose { p: p }),
+        Step::Lose { p, .. } => refused_or(
+            hurting::may_lose(v.on, line, second, v.a, p),
+            unless_recovering(v.recovering, Deed::Lose { p }),
         ),
-        Step::Trip { a: _ } => Turn::Whole(Whole::Trip),
-        Step::Unsure { a: _ } => Turn::Report(Report::Unsure),
+        Step::Trip { .. } => Turn::Whole(Whole::Trip),
+        Step::Unsure { .. } => Turn::Report(Report::Unsure),
     }
 }
 
-fn record_turn(
-    d: Decoded,
-    n: u8,
-    crashed: bool,
-    recovering: bool,
-    c: Cabinet,
-    e: Cabinet,
-    a: u8,
-    on: bool,
-    l: Line,
-    version: PacketVersion,
-) -> Turn
-    ensures { result ≡ record_turn d n crashed recovering c e a on l version }
+#[tactic(auto, unfolding(crate::specs::Turns::record_turn))]
+fn record_turn(d: Decoded, v: View) -> Turn
+    ensures { result ≡ record_turn d v.n v.crashed v.recovering v.first v.second v.a v.on v.line v.version }
 {
     let Decoded::Taken(s) = d else {
         return Turn::Refused(records::decoded_number(d));
     };
-    let k = records::entry_refusal(n, crashed, s, c, e);
-    refused_or(k, step_turn(s, a, e, on, l, version, recovering))
+    refused_or(
+        records::may_enter(v.n, v.crashed, s, v.first, v.second),
+        step_turn(s, v),
+    )
 }
 
-// The turn of a record in a group of n cabinets; c and e are those that it names.
-pub fn turn_of(
-    o: Order,
-    n: u8,
-    crashed: bool,
-    recovering: bool,
-    c: Cabinet,
-    e: Cabinet,
-    a: u8,
-    on: bool,
-    l: Line,
-    version: PacketVersion,
-) -> Turn
-    ensures { result ≡ turn_of o n crashed recovering c e a on l version }
+// The turn of a record.
+#[tactic(auto, unfolding(crate::specs::Turns::turn_of))]
+pub fn turn_of(o: Order, v: View) -> Turn
+    ensures { result ≡ turn_of o v.n v.crashed v.recovering v.first v.second v.a v.on v.line v.version }
 {
     match o {
-        Order::Record(d) => record_turn(d, n, crashed, recovering, c, e, a, on, l, version),
+        Order::Record(d) => record_turn(d, v),
         Order::Point => Turn::Point,
         Order::Return => Turn::Return,
     }
@@ -319,24 +311,39 @@ pub fn doer(d: Deed, a: u8, b: u8) -> u8
     ensures { result ≡ doer d a b }
 {
     match d {
-        Deed::Send { p: _, q: _ } => a,
-        Deed::Note { p: _, q: _ } => a,
-        Deed::Take => b,
-        Deed::Damage { p: _, w: _ } => b,
-        Deed::Lose { p: _ } => b,
+        Deed::Send { .. } | Deed::Note { .. } => a,
+        _ => b,
     }
 }
 
-pub fn deed_done(d: Deed, c: Cabinet, l: Line, a: u8, b: u8, version: PacketVersion) -> Spot
-    ensures { result ≡ deed_done d c l a b version }
+#[tactic(auto, unfolding(crate::specs::Turns::deed_done))]
+fn spot_left(
+    d: Deed,
+    c: Cabinet,
+    l: Line,
+    a: u8,
+    b: u8,
+    version: PacketVersion,
+) -> Result<Spot, Refusal>
+    ensures { spot_after (record { cabinet = c; line = l }) result ≡ deed_done d c l a b version }
 {
     match d {
         Deed::Send { p, q } => sending::send(c, l, b, p, q, version),
         Deed::Note { p, q } => sending::note(c, l, p, q),
-        Deed::Take => delivery::take(c, l, a),
-        Deed::Damage { p, w } => hurting::damage(c, l, a, p, w),
-        Deed::Lose { p } => hurting::lose(c, l, a, p),
+        Deed::Take => Ok(delivery::take(c, l, a)),
+        Deed::Damage { p, w } => Ok(hurting::damage(c, l, a, p, w)),
+        Deed::Lose { p } => Ok(hurting::lose(c, l, a, p)),
     }
+}
+
+pub fn deed_done(d: Deed, c: Cabinet, l: Line, a: u8, b: u8, version: PacketVersion) -> SpotAnswer
+    ensures { result ≡ deed_done d c l a b version }
+{
+    let before = Spot {
+        cabinet: c,
+        line: l,
+    };
+    SpotAnswer::after(before, spot_left(d, c, l, a, b, version))
 }
 
 // ---- a cabinet and all its lines
@@ -351,17 +358,32 @@ pub fn line_left(d: Call, l: Line) -> Line
     }
 }
 
-pub fn call_done(d: Call, s: Seat, a: u8, b: u8, p: Packet) -> Done
-    ensures { result ≡ call_done d s a b p }
+#[tactic(auto, unfolding(crate::specs::Turns::call_done))]
+fn seat_left(d: Call, s: Seat, a: u8, b: u8, p: Packet) -> Result<Seat, Refusal>
+    ensures { seat_after s result ≡ call_done d s a b p }
 {
     match d {
         Call::Begin => saving::begin(s, a),
-        Call::Signal => seat::answered(0, delivery::hear(s, a, b, p)),
+        Call::Signal => Ok(delivery::hear(s, a, b, p)),
     }
 }
 
+pub fn call_done(d: Call, s: Seat, a: u8, b: u8, p: Packet) -> SeatAnswer
+    ensures { result ≡ call_done d s a b p }
+{
+    SeatAnswer::after(s, seat_left(d, s, a, b, p))
+}
+
 // Which word settles the recovery then; cabinet b is c before it.
-pub fn word_left(d: Call, settled: Settled, c: Cabinet, a: u8, b: u8, p: Packet) -> Settled
+#[tactic(auto, unfolding(crate::specs::Turns::word_left))]
+pub fn word_left(
+    d: Call,
+    settled: Option<First>,
+    c: Cabinet,
+    a: u8,
+    b: u8,
+    p: Packet,
+) -> Option<First>
     ensures { result ≡ word_left d settled c a b p }
 {
     match d {
@@ -372,13 +394,25 @@ pub fn word_left(d: Call, settled: Settled, c: Cabinet, a: u8, b: u8, p: Packet)
 
 // ---- a cabinet and its slots
 
-pub fn piece_done(d: Piece, c: Cabinet, home: Cabinet, share: Share, a: u8) -> Kept
-    ensures { result ≡ piece_done d c home share a }
+#[tactic(auto, unfolding(crate::specs::Turns::piece_done))]
+fn piece_left(d: Piece, c: Cabinet, home: Cabinet, share: Share, a: u8) -> Result<Kept, Refusal>
+    ensures { kept_after (record { cabinet = c; share = share; owes = false }) result ≡ piece_done d c home share a }
 {
     match d {
         Piece::Write => saving::write(c, home, share, a),
         Piece::Fetch => restoring::fetch(c, home, share),
     }
+}
+
+pub fn piece_done(d: Piece, c: Cabinet, home: Cabinet, share: Share, a: u8) -> KeptAnswer
+    ensures { result ≡ piece_done d c home share a }
+{
+    let before = Kept {
+        cabinet: c,
+        share,
+        owes: false,
+    };
+    KeptAnswer::after(before, piece_left(d, c, home, share, a))
 }
 
 // ---- a home and a coordinator
@@ -389,19 +423,27 @@ pub fn coordinator_of(d: Report, c: Cabinet, home: Cabinet) -> u8
 {
     match d {
         Report::Saved => home.coordinator(),
-        Report::Restored => c.coordinator(),
-        Report::Unsure => c.coordinator(),
+        _ => c.coordinator(),
     }
 }
 
+#[tactic(auto, unfolding(crate::specs::Turns::report_refusal))]
+fn may_report(d: Report, c: Cabinet, home: Cabinet, k: Cabinet, a: u8) -> Result<(), Refusal>
+    ensures { answer_of result ≡ report_refusal d c home k a }
+{
+    match d {
+        Report::Saved => saving::may_report_saved(home, k, a),
+        Report::Restored => restoring::may_report_restored(c, k, a),
+        Report::Unsure => restoring::may_report_unsure(c, k, a),
+    }
+}
+
+// 0, or the number of the refusal, which the run stores.
+// Kept: a number, as the definition `report_refusal` has it.
 pub fn report_refusal(d: Report, c: Cabinet, home: Cabinet, k: Cabinet, a: u8) -> u8
     ensures { result ≡ report_refusal d c home k a }
 {
-    match d {
-        Report::Saved => saving::saved_refusal(home, k, a),
-        Report::Restored => restoring::restored_refusal(c, k, a),
-        Report::Unsure => restoring::unsure_refusal(c, k, a),
-    }
+    refusal::answer_of(may_report(d, c, home, k, a))
 }
 
 pub fn home_left(d: Report, home: Cabinet, a: u8) -> Cabinet
@@ -409,8 +451,7 @@ pub fn home_left(d: Report, home: Cabinet, a: u8) -> Cabinet
 {
     match d {
         Report::Saved => home.owing(a, false),
-        Report::Restored => home,
-        Report::Unsure => home,
+        _ => home,
     }
 }
 
@@ -441,18 +482,16 @@ pub fn trips_left(d: Report, k: Cabinet, trips: [u8; 8]) -> [u8; 8]
 {
     match d {
         Report::Saved => saving::trips_after(k, trips),
-        Report::Restored => trips,
-        Report::Unsure => trips,
+        _ => trips,
     }
 }
 
-pub fn word_of(d: Report, k: Cabinet, m: u8, settled: Settled) -> Settled
+pub fn word_of(d: Report, k: Cabinet, m: u8, settled: Option<First>) -> Option<First>
     ensures { result ≡ word_of d k m settled }
 {
     match d {
-        Report::Saved => settled,
-        Report::Restored => settled,
         Report::Unsure => restoring::word_after(k, m, settled),
+        _ => settled,
     }
 }
 
@@ -461,14 +500,14 @@ pub fn closes_with(d: Report, away: bool, k: Cabinet) -> bool
     ensures { result ≡ closes_with d away k }
 {
     match d {
-        Report::Saved => false,
         Report::Restored => restoring::closes(away, k),
-        Report::Unsure => false,
+        _ => false,
     }
 }
 
 // ---- the whole group
 
+#[tactic(auto, unfolding(crate::specs::Stored::whole_stored))]
 pub fn whole_done(w: Whole, g: Group, a: u8, b: u8) -> Outcome
     ensures { result ≡ whole_stored w g a b }
 {

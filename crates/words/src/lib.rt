@@ -1,23 +1,23 @@
-// The word of a logical state, written into a buffer that the caller lends, as in `buffer`.
+// The word of a logical state.
 #![tactic(auto)]
 
+ghost use Rattle.std.specs.Prelude.{◌≡◌};
 ghost use Rattle.protocol.specs.Listing.{state_word};
-ghost use Rattle.buffer.specs.Written.{Written};
 
 use state::State;
 
-pub fn state_word(out: &mut [u8], at: usize, s: State) -> usize
-    ensures { Written (state_word s) at out.old result out.new }
+pub fn state_word(s: State) -> &'static [u8]
+    ensures { result.now ≡ state_word s }
 {
     match s {
-        State::Failed => buffer::word(out, at, b"failed"),
-        State::Normal => buffer::word(out, at, b"normal"),
-        State::CheckpBegin => buffer::word(out, at, b"checkp-begin"),
-        State::Checkpointing => buffer::word(out, at, b"checkpointing"),
-        State::Checkpointed => buffer::word(out, at, b"checkpointed"),
-        State::Error => buffer::word(out, at, b"error"),
-        State::Recovering => buffer::word(out, at, b"recovering"),
-        State::Recovered => buffer::word(out, at, b"recovered"),
-        State::Crashed => buffer::word(out, at, b"crashed"),
+        State::Failed => b"failed",
+        State::Normal => b"normal",
+        State::CheckpBegin => b"checkp-begin",
+        State::Checkpointing => b"checkpointing",
+        State::Checkpointed => b"checkpointed",
+        State::Error => b"error",
+        State::Recovering => b"recovering",
+        State::Recovered => b"recovered",
+        State::Crashed => b"crashed",
     }
 }

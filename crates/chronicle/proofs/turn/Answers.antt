@@ -4,4 +4,4 @@ use Rattle.chronicle.proofs.turn.Goals as goal
 
 pub returns : goal.returns
 returns c = let a = c.args in
-    one_turn a.plan a.site a.octets.now _ c.run-after.ensures.value c.run-after.ensures.answers_after
+    one_turn a.plan a.site a.octets.now _ c.run-site.ensures.value c.run-site.ensures.answers_after

@@ -1,4 +1,5 @@
 -- What a delivered packet may do to the group: the answer of each kind of packet, and when it is a crash.
+use Rattle.std.specs.Prelude.{Some}
 use Prim.Native.Nat.{ℕ}
 use mathlib.Core.Path.{◌≡◌, refl}
 use mathlib.Core.Bool.{Bool, true, false, not, ◌&&◌, ◌||◌, false≢true}
@@ -16,7 +17,6 @@ use Rattle.packet.specs.Packet.{start_check, same_check, fits}
 use Rattle.line.specs.Line.{rest}
 use Rattle.state.specs.declared.State.{State}
 use Rattle.state.specs.declared.State.TheVariants.{Normal, CheckpBegin}
-use Rattle.cabinet.specs.declared.Alarm.TheVariants.{Fault as For}
 use Rattle.group.specs.declared.Group.{Group}
 use Rattle.cabinet.specs.Alarm.{is_for}
 use Rattle.state.specs.State.{is_in, in_recovery}
@@ -139,10 +139,10 @@ module _ (g : Group) (a b : ℕ) where
       (only_if (in_recovery state) _ (in_recovery_lem state)
       (crash_unless (is_for (cabinet g b).phase.alarm p) _ (not_reflects (is_for (cabinet g b).phase.alarm p) (fault_for (cabinet g b).phase.alarm p)))))
     where
-      to : (Serves state → ⊥) × (Recovers state × ((cabinet g b).phase.alarm ≡ For p → ⊥)) → Upset (Fault p)
+      to : (Serves state → ⊥) × (Recovers state × ((cabinet g b).phase.alarm ≡ Some p → ⊥)) → Upset (Fault p)
       to (n, (r, m)) = inl (other_place r m)
 
-      from : Upset (Fault p) → (Serves state → ⊥) × (Recovers state × ((cabinet g b).phase.alarm ≡ For p → ⊥))
+      from : Upset (Fault p) → (Serves state → ⊥) × (Recovers state × ((cabinet g b).phase.alarm ≡ Some p → ⊥))
       from (inl (other_place r m)) = (λ s. serves_or_recovers state s r, (r, m))
       from (inr f) = elim f.0 [ ]
 

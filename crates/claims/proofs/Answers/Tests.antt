@@ -1,4 +1,5 @@
 -- The tests that the rules of document 01 make, each with the fact that it stands for.
+use Rattle.std.specs.Prelude.{None, Some}
 use Prim.Native.Nat.{ℕ, zero, suc, ◌<◌}
 use mathlib.Core.Path.{◌≡◌, refl, sym, ◌∙◌, ap}
 use mathlib.Core.Bool.{Bool, true, false, cond, not, ◌&&◌, ◌||◌, false≢true, true≢false}
@@ -16,8 +17,7 @@ use Rattle.packet.specs.declared.Place.TheVariants.{Failed as AtFailed, Tripped 
 use Rattle.packet.specs.Packet.{same_check, same_place}
 use Rattle.state.specs.declared.State.{State}
 use Rattle.state.specs.declared.State.TheVariants.{Failed, Normal, CheckpBegin, Checkpointing, Checkpointed, Error, Recovering, Recovered, Crashed}
-use Rattle.cabinet.specs.declared.Alarm.{Alarm}
-use Rattle.cabinet.specs.declared.Alarm.TheVariants.{Quiet, Fault as For}
+use Rattle.cabinet.specs.Alarm.{Alarm}
 use Rattle.cabinet.specs.declared.Cabinet.{Cabinet}
 use Rattle.group.specs.declared.Group.{Group}
 use Rattle.cabinet.specs.Alarm.{is_for}
@@ -118,9 +118,9 @@ same_place_lem (AtLink a b) (AtLink c d) =
     let both = and_reflects (eqb a c) (eqb b d) (same_number a c) (same_number b d) in
     (λ e. let p : a ≡ c = (both.0 e).0 in let q : b ≡ d = (both.0 e).1 in cc, λ e. both.1 (cc, cc))
 
-pub fault_for : (m : Alarm) (p : Place) → Reflects (is_for m p) (m ≡ For p)
-fault_for Quiet p = (λ e. absurd (false≢true e), λ e. let z : ◌≡◌ {A = ℕ} 0 1 = cc in absurd (omega arith))
-fault_for (For q) p = (λ e. ap For ((same_place_lem q p).0 e), λ e. (same_place_lem q p).1 (cc))
+pub fault_for : (m : Alarm) (p : Place) → Reflects (is_for m p) (m ≡ Some p)
+fault_for None p = (λ e. absurd (false≢true e), λ e. let z : ◌≡◌ {A = ℕ} 0 1 = cc in absurd (omega arith))
+fault_for (Some q) p = (λ e. ap Some ((same_place_lem q p).0 e), λ e. (same_place_lem q p).1 (cc))
 
 pub same_check_lem : (v w : Check) → Reflects (same_check v w) (v ≡ w)
 same_check_lem v w = (

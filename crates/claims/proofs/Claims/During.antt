@@ -17,7 +17,7 @@ use Rattle.packet.specs.declared.Packet.TheVariants.{Empty, Normal as NormalPack
 use Rattle.packet.specs.Packet.{fits}
 use Rattle.line.specs.Line.{oldest, packet_at}
 use Rattle.state.specs.declared.State.TheVariants.{Normal, Checkpointed, Recovering, Recovered}
-use Rattle.cabinet.specs.declared.Alarm.{Alarm}
+use Rattle.cabinet.specs.Alarm.{Alarm}
 use Rattle.state.specs.State.{works, in_recovery, in_saving}
 use Rattle.cabinet.specs.Cabinet.{in_use, coordinator}
 use Rattle.points.specs.Points.{place_of}

@@ -1,5 +1,6 @@
 -- Card 6's sentence. A recovery that ended had one fault place, places do not change while a cabinet is aware of its fault, so at the wait
 -- all of them had lost their coordinator and name one that leads now: each report is taken, the last one decides, and the save stays.
+use Rattle.std.specs.Prelude.{Some}
 use Prim.Native.Nat.{ℕ, zero, suc, ◌+◌, ◌-◌, ◌<◌, ◌≤◌}
 use mathlib.Core.Path.{◌≡◌, refl, sym, ap, ◌∙◌, subst}
 use mathlib.Core.Logic.{◌≢◌, inr, ⊎_elim}
@@ -16,7 +17,6 @@ use Rattle.packet.specs.declared.Place.{Place}
 use Rattle.packet.specs.declared.Place.TheVariants.{Failed as AtFailed}
 use Rattle.state.specs.declared.State.{State}
 use Rattle.state.specs.declared.State.TheVariants.{Error, Recovering}
-use Rattle.cabinet.specs.declared.Alarm.TheVariants.{Fault as At}
 use Rattle.state.specs.State.{is_in, works, is_unknown}
 use Rattle.cabinet.specs.Cabinet.{coordinator}
 use Rattle.points.specs.declared.Point.{Point}
@@ -186,7 +186,7 @@ module _ (total : Party → ℕ) (g : Group) (γ : Ghost) (i : Inv g.n total (vi
   abbrev a_aware : aware_of v γ a ≡ true
   a_aware = wait_aware total g γ i a fine
 
-  abbrev place : (q : Place) × ((v.own a).alarm ≡ At q)
+  abbrev place : (q : Place) × ((v.own a).alarm ≡ Some q)
   place = (i.core.nodes a).place_known a_aware
 
   -- so all had lost their coordinator, and name the one that a names

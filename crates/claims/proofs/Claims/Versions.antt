@@ -1,4 +1,5 @@
 -- In every run each normal packet on a line has the octets of the group's packet version.
+use Rattle.std.specs.Prelude.{None, Some}
 use Prim.Native.Nat.{ℕ, zero, suc}
 use mathlib.Core.Path.{◌≡◌, refl, sym, ap, ◌∙◌, subst}
 use mathlib.Core.Bool.{cond, ◌&&◌}
@@ -11,8 +12,7 @@ use Rattle.marks.specs.Marks.{marked}
 use Rattle.outlet.specs.declared.Outlet.{Outlet}
 use Rattle.packet.specs.declared.PacketVersion.{PacketVersion}
 use Rattle.packet.specs.declared.PacketVersion.TheVariants.{One, Two}
-use Rattle.packet.specs.declared.OwnCheck.{OwnCheck}
-use Rattle.packet.specs.declared.OwnCheck.TheVariants.{Unchecked, Checked}
+use Rattle.packet.specs.Packet.{OwnCheck}
 use Rattle.packet.specs.declared.Pattern.{Pattern}
 use Rattle.packet.specs.declared.Payload.{Payload}
 use Rattle.packet.specs.declared.Packet.{Packet}
@@ -23,8 +23,7 @@ use Rattle.line.specs.declared.Line.{Line}
 use Rattle.line.specs.Line.{empty_cell}
 use Rattle.state.specs.declared.State.TheVariants.{Checkpointed, Recovering}
 use Rattle.state.specs.State.{is_in}
-use Rattle.cabinet.specs.declared.Alarm.{Alarm}
-use Rattle.cabinet.specs.declared.Alarm.TheVariants.{Quiet, Fault as At}
+use Rattle.cabinet.specs.Alarm.{Alarm}
 use Rattle.cabinet.specs.declared.Cabinet.{Cabinet}
 use Rattle.cabinet.specs.Cabinet.{in_use}
 use Rattle.points.specs.declared.Points.{Points}
@@ -92,8 +91,8 @@ unfolding hurt_by
 hurt_octets p w = go p.own
   where
     go : (k : OwnCheck) → length (octets_of (hurt_as k p w)) ≡ length (first_three p.outlet p.amount ++ own_octets k)
-    go Unchecked = refl
-    go (Checked c) = refl
+    go None = refl
+    go (Some c) = refl
 
 module _ (v : PacketVersion) where
   damaged_of : (p : Packet) (w : Pattern) → OfVersion v p → OfVersion v (damaged p w)
@@ -110,8 +109,8 @@ module _ (v : PacketVersion) where
 
   -- what the rules put beside a send is no normal packet
   fault_of_lem : (x : Alarm) → AllOf (fault_of x)
-  fault_of_lem Quiet = tt
-  fault_of_lem (At p) = (tt, tt)
+  fault_of_lem None = tt
+  fault_of_lem (Some p) = (tt, tt)
 
   recover_of_lem : (c : Cabinet) → AllOf (recover_of c)
   recover_of_lem c = cond_elim AllOf (is_in c.phase.state Recovering) (λ _. (tt, tt)) (λ _. tt)

@@ -1,4 +1,5 @@
 -- The note of which word settled a recovery is what the history says, after every list of operations.
+use Rattle.std.specs.Prelude.{None, Some, Err}
 use Prim.Native.Nat.{ℕ, zero, suc, ◌<◌}
 use mathlib.Core.Path.{◌≡◌, refl, sym, ap, ◌∙◌, subst}
 use mathlib.Core.Logic.{◌⊎◌, inl, inr, ⊎_elim}
@@ -19,8 +20,7 @@ use Rattle.state.specs.declared.Version.TheVariants.{Unknown}
 use Rattle.state.specs.State.{is_in, works, in_recovery, is_unknown}
 use Rattle.settled.specs.declared.Reason.{Reason}
 use Rattle.settled.specs.declared.Reason.TheVariants.{Led, Unfinished, InNormal, Decided}
-use Rattle.settled.specs.declared.Settled.{Settled}
-use Rattle.settled.specs.declared.Settled.TheVariants.{Nobody, By}
+use Rattle.settled.specs.Settled.{Settled}
 use Rattle.settled.specs.Settled.{number_of, unfinished, reason_of, first_of as first_by, enters, ends as note_ends}
 use Rattle.cabinet.specs.declared.Phase.{Phase}
 use Rattle.cabinet.specs.declared.Cabinet.{Cabinet}
@@ -36,7 +36,6 @@ use Rattle.protocol.specs.Listing.{load_line, records}
 use Rattle.protocol.specs.Entry.{step_all, step, decode, step_decoded, entry_refusal, perform, is_cabinet, first_of, second_of, actor_works}
 use Rattle.protocol.specs.declared.Decoded.{Decoded}
 use Rattle.protocol.specs.declared.Decoded.TheVariants.{Malformed, Unused, Taken}
-use Rattle.protocol.specs.declared.Told.TheVariants.{Refused}
 use Rattle.points.specs.declared.Point.{Point}
 use Rattle.points.specs.Points.{point_at, place_of}
 use Rattle.protocol.specs.Points.{take_point, return_to, returned, return_refusal}
@@ -67,12 +66,12 @@ use Rattle.claims.proofs.Claims.During.{crashed_stays}
 -- ---- the note beside the account
 
 abbrev open_in : Settled → Bool
-open_in Nobody = false
-open_in (By f) = f.going
+open_in None = false
+open_in (Some f) = f.going
 
 abbrev first_in : Settled → Option (ℕ × ℕ)
-first_in Nobody = none
-first_in (By f) = some (f.cabinet, number_of f.reason)
+first_in None = none
+first_in (Some f) = some (f.cabinet, number_of f.reason)
 
 pub record Said (g : Group) (h : Account) : Type 0 where
   pub open' : h.under_way ≡ open_in g.settled
@@ -155,16 +154,16 @@ tells_entry h g g' t d e = over_entry e (note_first (note_entries h g g' t) (low
         cond_elim (λ (k : Account). k.entry ≡ (note_entries h g g' t).entry) (ltb (lowest (enterers g g')) 8 && not h.under_way) (λ _. refl) (λ _. refl)
 
 open_enters : (s : Settled) (i : ℕ) (r : Reason) → open_in (enters s i r) ≡ true
-open_enters Nobody i r = refl
-open_enters (By f) i r = go f.going refl
+open_enters None i r = refl
+open_enters (Some f) i r = go f.going refl
   where
-    go : (t : Bool) → f.going ≡ t → open_in (cond t (By f) (By (first_by i r))) ≡ true
+    go : (t : Bool) → f.going ≡ t → open_in (cond t (Some f) (Some (first_by i r))) ≡ true
     go true e = e
     go false e = refl
 
 over_ends : (s : Settled) → (open_in (note_ends s) ≡ false) × (first_in (note_ends s) ≡ first_in s)
-over_ends Nobody = (refl, refl)
-over_ends (By f) = (refl, refl)
+over_ends None = (refl, refl)
+over_ends (Some f) = (refl, refl)
 
 -- nobody is noted
 unnoted : (h : Account) (i : ℕ) (d : Bool) → (ltb i 8 && not h.under_way) ≡ false → note_first h i d ≡ h
@@ -175,15 +174,15 @@ noted_said : (h : Account) (g g' : Group) (i : ℕ) (d : Bool) (r : Reason) → 
     → reason_in d (h.entry i) ≡ number_of r → Said g' (note_first h i d)
 noted_said h g g' i d r l said e fits = go g.settled refl
   where
-    fresh : (s : Settled) → g.settled ≡ s → open_in s ≡ false → enters s i r ≡ By (first_by i r) → Said g' (note_first h i d)
+    fresh : (s : Settled) → g.settled ≡ s → open_in s ≡ false → enters s i r ≡ Some (first_by i r) → Said g' (note_first h i d)
     fresh s q o n =
         let unopened : (ltb i 8 && not h.under_way) ≡ true = and_intro (lt-ltb i 8 l) (ap not (said.open' ∙ ap open_in q ∙ o)) in
-        let note : g'.settled ≡ By (first_by i r) = e ∙ ap (λ (x : Settled). enters x i r) q ∙ n in
+        let note : g'.settled ≡ Some (first_by i r) = e ∙ ap (λ (x : Settled). enters x i r) q ∙ n in
         rw unopened (record { open' = sym (ap open_in note); told = ap (λ (k : ℕ). some (i, k)) fits ∙ sym (ap first_in note) })
 
     go : (s : Settled) → g.settled ≡ s → Said g' (note_first h i d)
-    go Nobody q = fresh Nobody q refl refl
-    go (By f) q = on f.going refl
+    go None q = fresh None q refl refl
+    go (Some f) q = on f.going refl
       where
         off : (t : Bool) → (t && false) ≡ false
         off true = refl
@@ -191,10 +190,10 @@ noted_said h g g' i d r l said e fits = go g.settled refl
 
         on : (t : Bool) → f.going ≡ t → Said g' (note_first h i d)
         on true k =
-            let same : g'.settled ≡ g.settled = e ∙ ap (λ (x : Settled). enters x i r) q ∙ ap (λ (t : Bool). cond t (By f) (By (first_by i r))) k ∙ sym q in
+            let same : g'.settled ≡ g.settled = e ∙ ap (λ (x : Settled). enters x i r) q ∙ ap (λ (t : Bool). cond t (Some f) (Some (first_by i r))) k ∙ sym q in
             rw (unnoted h i d (ap (λ (t : Bool). ltb i 8 && not t) (said.open' ∙ ap open_in q ∙ k) ∙ off (ltb i 8)))
             (record { open' = said.open' ∙ ap open_in (sym same); told = said.told ∙ ap first_in (sym same) })
-        on false k = fresh (By f) q k (ap (λ (t : Bool). cond t (By f) (By (first_by i r))) k)
+        on false k = fresh (Some f) q k (ap (λ (t : Bool). cond t (Some f) (Some (first_by i r))) k)
 
 -- ---- a taken step
 
@@ -571,9 +570,9 @@ tells_run total (x ∷ xs) w h o good t =
     tells_run total xs (advance w x) (watch_one h w x) o.1 (one_more total w good x o.0).0 (by_operation total w h t.0 good x o.0 t.1)
 
 -- a loaded group: nothing is noted, nobody recovers
-loaded_note : (f : List ℕ) → (load f).group.settled ≡ Nobody
+loaded_note : (f : List ℕ) → (load f).group.settled ≡ None
 unfolding load
-loaded_note f = cond_elim (λ (x : Outcome). x.group.settled ≡ Nobody) (eqb (load_refusal f) 0) (λ _. refl) (λ _. refl)
+loaded_note f = cond_elim (λ (x : Outcome). x.group.settled ≡ None) (eqb (load_refusal f) 0) (λ _. refl) (λ _. refl)
 
 loaded_calm : (f : List ℕ) → Octets f → (load f).answer ≡ 0 → (c : ℕ) → in_recovery (state_of (load f).group c) ≡ false
 loaded_calm f of e c =
@@ -600,10 +599,10 @@ word_of_history f of e xs o =
     let g = (world_after f xs).group in
     go g.settled (is_crashed g) t.told
   where
-    go : (s : Settled) (c : Bool) → (account_after f xs).first ≡ first_in s → numbers_of (cond c (Refused 10) (told_of s)) ≡ cond c (10 ∷ []) (said_of (account_after f xs).first)
+    go : (s : Settled) (c : Bool) → (account_after f xs).first ≡ first_in s → numbers_of (cond c (Err 10) (told_of s)) ≡ cond c (10 ∷ []) (said_of (account_after f xs).first)
     go s true q = refl
-    go Nobody false q = rw q
-    go (By x) false q = rw q
+    go None false q = rw q
+    go (Some x) false q = rw q
 
 pub reasons_fit : ReasonsFit
 reasons_fit f of e xs o i r q = go (world_after f xs).group.settled (sym q ∙ (tells_all f of e xs o).0.told)
@@ -619,8 +618,8 @@ reasons_fit f of e xs o i r q = go (world_after f xs).group.settled (sym q ∙ (
     second (some x) = x.1
 
     go : (s : Settled) → some (i, r) ≡ first_in s → IsReason r
-    go Nobody z = subst IsReason (sym (ap second z)) (omega arith, omega arith)
-    go (By x) z = subst IsReason (sym (ap second z)) (bounds x.reason)
+    go None z = subst IsReason (sym (ap second z)) (omega arith, omega arith)
+    go (Some x) z = subst IsReason (sym (ap second z)) (bounds x.reason)
 
 -- ---- the line of the program
 

@@ -1,5 +1,6 @@
 -- A fail or a trip: the lines of that cabinet are emptied both ways, and its neighbours' lines hold what they say on entering error; one
 -- that trips puts its fault.
+use Rattle.std.specs.Prelude.{Some}
 use Prim.Native.Nat.{ℕ, zero, suc, ◌<◌, ◌≤◌}
 use mathlib.Core.Path.{◌≡◌, refl, sym, ap, ◌∙◌, subst}
 use mathlib.Core.Logic.{◌≢◌}
@@ -20,8 +21,7 @@ use Rattle.state.specs.declared.State.{State}
 use Rattle.state.specs.declared.State.TheVariants.{Normal, Error, Failed}
 use Rattle.state.specs.declared.Version.{Version}
 use Rattle.state.specs.declared.Version.TheVariants.{Lost}
-use Rattle.cabinet.specs.declared.Alarm.{Alarm}
-use Rattle.cabinet.specs.declared.Alarm.TheVariants.{Fault as At}
+use Rattle.cabinet.specs.Alarm.{Alarm}
 use Rattle.state.specs.State.{is_in, works}
 use Rattle.cabinet.specs.Cabinet.{in_use}
 use Rattle.group.specs.declared.Group.{Group}
@@ -88,7 +88,7 @@ module _ (back : ℕ → ℕ → Bool) (v : View) (a : ℕ) (q : Place) (g1 : Gr
 put_failed : (s : State) (x : Version) (q : Alarm) (k : Check) (back : Bool) → put_on s Failed x q k back ≡ []
 put_failed s x q k back = rw (and-false (is_in s Normal), and-false (not (is_in s Normal)), and-false (serving s), and-false (is_in s Error))
 
-put_tripped : (s : State) (x : Version) (q : Place) (k : Check) (back : Bool) → serving s ≡ true → put_on s Error x (At q) k back ≡ Fault q ∷ []
+put_tripped : (s : State) (x : Version) (q : Place) (k : Check) (back : Bool) → serving s ≡ true → put_on s Error x (Some q) k back ≡ Fault q ∷ []
 put_tripped s x q k back e = rw (and-false (is_in s Normal), and-false (not (is_in s Normal)), e)
 
 cond_empty : (t : Bool) (l : List Packet) → l ≡ [] → cond t [] l ≡ []

@@ -1,5 +1,6 @@
 -- Each move puts on the lines what a line without bounds would hold, where these have room. `u` is the group once a packet is taken
 -- off or a report is made, `v` the view before the step.
+use Rattle.std.specs.Prelude.{None, Some}
 use Prim.Native.Nat.{ℕ, ◌<◌}
 use mathlib.Core.Path.{◌≡◌, refl, sym, ◌∙◌, subst}
 use mathlib.Core.Logic.{inl, inr}
@@ -17,8 +18,7 @@ use Rattle.state.specs.declared.State.{State}
 use Rattle.state.specs.declared.State.TheVariants.{Normal, CheckpBegin, Checkpointing, Checkpointed, Error}
 use Rattle.state.specs.declared.Version.{Version}
 use Rattle.state.specs.declared.Version.TheVariants.{Known, Unknown, Lost}
-use Rattle.cabinet.specs.declared.Alarm.{Alarm}
-use Rattle.cabinet.specs.declared.Alarm.TheVariants.{Quiet, Fault as At}
+use Rattle.cabinet.specs.Alarm.{Alarm}
 use Rattle.cabinet.specs.declared.Cabinet.{Cabinet}
 use Rattle.state.specs.State.{is_in, works}
 use Rattle.cabinet.specs.Cabinet.{in_use, with_state, comparing}
@@ -56,7 +56,7 @@ woke true true l = sym (append-nil l)
 woke true false l = refl
 woke false c l = sym (append-nil l)
 
-pub put_error : (s : State) (x : Version) (q : Place) (k : Check) (back : Bool) → serving s ≡ true → put_on s (erred_state x) x (At q) k back ≡ Fault q ∷ erred_rest x
+pub put_error : (s : State) (x : Version) (q : Place) (k : Check) (back : Bool) → serving s ≡ true → put_on s (erred_state x) x (Some q) k back ≡ Fault q ∷ erred_rest x
 put_error s (Known x) q k back e = rw (and-false (is_in s Normal), and-false (not (is_in s Normal)), e)
 put_error s (Unknown x) q k back e = rw (and-false (is_in s Normal), and-false (not (is_in s Normal)), e)
 put_error s Lost q k back e = rw (and-false (is_in s Normal), and-false (not (is_in s Normal)), e)
@@ -83,7 +83,7 @@ module _ (base : ℕ → ℕ → List Packet) (back : ℕ → ℕ → Bool) (v :
         let s = (v.own i).state in
         moves base back v (view u) states lines i (o_resumed ((view u).own i) x) (λ b. s_cleared ((view u).side i b)) (λ b. resumed_by (r b) ((view u).lines i b))
         (view u).slots (sym up) (and-false (enters s Normal))
-        (λ b. rw (chosen b, put_resume s x Quiet (v.side i b).put (back i b) away, and-false (serving s))
+        (λ b. rw (chosen b, put_resume s x None (v.side i b).put (back i b) away, and-false (serving s))
         (woke (used ((view u).side i b)) (is_in s Checkpointed && back i b) ((view u).lines i b)))
 
     pub puts_resume : Room (view u) i → (x : Version) → works (v.own i).state ≡ true → is_in (v.own i).state Normal ≡ false

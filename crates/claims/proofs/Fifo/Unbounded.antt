@@ -13,7 +13,7 @@ use Rattle.packet.specs.declared.Packet.TheVariants.{Checkp, Resume, Recover}
 use Rattle.state.specs.declared.State.{State}
 use Rattle.state.specs.declared.State.TheVariants.{Failed, Normal, CheckpBegin, Checkpointing, Checkpointed, Error, Recovering, Recovered, Crashed}
 use Rattle.state.specs.declared.Version.{Version}
-use Rattle.cabinet.specs.declared.Alarm.{Alarm}
+use Rattle.cabinet.specs.Alarm.{Alarm}
 use Rattle.image.specs.declared.Image.{Image}
 use Rattle.cabinet.specs.Alarm.{is_for}
 use Rattle.state.specs.State.{is_in, works, in_recovery, bit_of}

@@ -1,5 +1,6 @@
 -- The invariant behind demand 3, as named facts about one cabinet, an ordered pair of cabinets and the whole group.
 -- Letters: A tables and places, B progress in a save, C versions, D what a save holds, E the store, F reports, G lines.
+use Rattle.std.specs.Prelude.{None, Some}
 use Prim.Native.Nat.{ℕ, ◌+◌, ◌*◌, ◌<◌, ◌≤◌}
 use mathlib.Core.Path.{◌≡◌}
 use mathlib.Core.Logic.{◌≢◌, ◌⊎◌}
@@ -9,7 +10,6 @@ use lib.ListN.{length, get_or, take, drop}
 use lib.Dec.{eqb}
 use Rattle.outlet.specs.declared.Party.{Party}
 use Rattle.packet.specs.declared.Check.{Check}
-use Rattle.packet.specs.declared.OwnCheck.TheVariants.{Unchecked}
 use Rattle.packet.specs.declared.Payload.{Payload}
 use Rattle.packet.specs.declared.Place.{Place}
 use Rattle.packet.specs.declared.Place.TheVariants.{Tripped as AtTripped}
@@ -19,7 +19,6 @@ use Rattle.packet.specs.Packet.{start_check, step_check, fits}
 use Rattle.state.specs.declared.State.TheVariants.{Normal, CheckpBegin, Checkpointing, Checkpointed, Error, Recovering, Recovered, Crashed}
 use Rattle.state.specs.declared.Version.{Version}
 use Rattle.state.specs.declared.Version.TheVariants.{Known, Unknown, Lost}
-use Rattle.cabinet.specs.declared.Alarm.TheVariants.{Fault as At}
 use Rattle.image.specs.declared.Image.{Image}
 use Rattle.state.specs.State.{is_in, works, in_recovery, in_saving, is_unknown, bit_of}
 use Rattle.image.specs.Image.{booked}
@@ -215,7 +214,7 @@ nothing y = 0
 
 -- what damage leaves of a packet: another amount for the same outlet where it carries no check, and else one that does not fit
 pub data Hurt : Payload → Payload → Type 0 where
-  amount_changed : {p q : Payload} → p.own ≡ Unchecked → q.own ≡ Unchecked → p.outlet ≡ q.outlet → p.amount ≢ q.amount → Hurt p q
+  amount_changed : {p q : Payload} → p.own ≡ None → q.own ≡ None → p.outlet ≡ q.outlet → p.amount ≢ q.amount → Hurt p q
   unfit : {p q : Payload} → fits q ≡ false → Hurt p q
 
 -- equal, or different in exactly one place, by a packet that is hurt or one left out
@@ -252,7 +251,7 @@ pub record Alarms (x : Version) (q : Place) (l : List Packet) : Type 0 where
 pub record Pair (b : Big) (c d : ℕ) (o : Own) (m : Mind) (p : Own) (n : Mind) (s t : Side) (l : List Packet) (w : Wire) : Type 0 where
   -- A1, A2
   pub table : unaware b o ≡ true → (s.cab ≡ n.tab) × (s.link ≡ w.lk)
-  pub struck : aware b o ≡ true → (q : Place) → o.alarm ≡ At q
+  pub struck : aware b o ≡ true → (q : Place) → o.alarm ≡ Some q
       → (s.cab ≡ (n.tab && not (hits_cabinet q d))) × (s.link ≡ (w.lk && not (hits_link q c d)))
   -- D2
   pub closed_joined : linked m n w ≡ true → closed b p n t ≡ true → m.joined ≡ true
@@ -270,9 +269,9 @@ pub record Pair (b : Big) (c d : ℕ) (o : Own) (m : Mind) (p : Own) (n : Mind) 
   -- G0
   pub silent : (works o.state && (works p.state && used s)) ≡ false → l ≡ []
   -- G1
-  pub alarms : aware b o ≡ true → (q : Place) → o.alarm ≡ At q → Alarms o.version q l
+  pub alarms : aware b o ≡ true → (q : Place) → o.alarm ≡ Some q → Alarms o.version q l
   pub unheard : aware b o ≡ true → (used s && used t) ≡ true → works p.state ≡ true → (aware b p && t.heard) ≡ false
-      → (q : Place) → o.alarm ≡ At q → (k : List Packet) × (l ≡ Fault q ∷ k)
+      → (q : Place) → o.alarm ≡ Some q → (k : List Packet) × (l ≡ Fault q ∷ k)
   pub heard : (aware b p && t.heard) ≡ true → count is_fault l ≡ 0
   -- G2
   pub heard_of : (aware b p && t.heard) ≡ true → (aware b o ≡ true) × (o.alarm ≡ p.alarm)
@@ -314,7 +313,7 @@ pub record Node (b : Big) (c : ℕ) (o : Own) (m : Mind) (z : Bool → Image) : 
   pub present : b.faulted ≡ false → m.tab ≡ true → works o.state ≡ true
   pub running : is_in o.state Crashed ≡ false
   pub quiet : b.faulted ≡ false → (is_in o.state Error ≡ false) × (is_in o.state Recovering ≡ false)
-  pub place_known : aware b o ≡ true → (q : Place) × (o.alarm ≡ At q)
+  pub place_known : aware b o ≡ true → (q : Place) × (o.alarm ≡ Some q)
   -- B
   pub in_normal : unaware b o ≡ true → o.state ≡ Normal → m.joined ≡ false
   pub in_begin : unaware b o ≡ true → o.state ≡ CheckpBegin → (m.joined ≡ true) × (m.done ≡ false) × (o.pieces ≡ 0)
@@ -359,10 +358,10 @@ pub record Node (b : Big) (c : ℕ) (o : Own) (m : Mind) (z : Bool → Image) : 
 pub record Lead (b : Big) (c : ℕ) (o : Own) : Type 0 where
   -- A1, A2: the lead moves on where the fault is the coordinator
   pub steady : unaware b o ≡ true → o.lead ≡ b.chief
-  pub moved : aware b o ≡ true → (q : Place) → o.alarm ≡ At q
+  pub moved : aware b o ≡ true → (q : Place) → o.alarm ≡ Some q
       → (o.former ≡ is_at q b.chief) × (o.lead ≡ cond (is_at q b.chief) b.heir b.chief)
   -- a coordinator that is not lost works, and is in error for another fault than its own trip
-  pub lives : c ≡ b.chief → b.alive ≡ true → (works o.state ≡ true) × (aware b o ≡ true → o.alarm ≡ At (AtTripped c) → ⊥)
+  pub lives : c ≡ b.chief → b.alive ≡ true → (works o.state ≡ true) × (aware b o ≡ true → o.alarm ≡ Some (AtTripped c) → ⊥)
   pub fallen : c ≡ b.chief → b.alive ≡ false → unaware b o ≡ false
   -- a version with no old one is that of a cabinet that is aware, and of the coordinator where that is lost
   pub blank : works o.state ≡ true → o.version ≡ Lost → (aware b o ≡ true) × (b.alive ≡ false → c ≡ b.chief)

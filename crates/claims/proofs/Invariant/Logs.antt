@@ -1,5 +1,6 @@
 -- Lines and logs: one packet more or less, and what may be on a line. Two logs of which at most one amount differs, or one packet is missing,
 -- have equal check values only if they are equal, so an equal comparison covers nothing hurt.
+use Rattle.std.specs.Prelude.{None}
 use Prim.Native.Nat.{ℕ, zero, suc, ◌+◌, ◌%◌, ◌≤◌, ◌<◌}
 use mathlib.Core.Path.{◌≡◌, refl, ap, ◌∙◌, sym}
 use mathlib.Core.Bool.{Bool, true, false, cond, false≢true, true≢false}
@@ -11,8 +12,7 @@ use Rattle.crc.proofs.Laws.{from_append, one_differs}
 use Rattle.outlet.specs.declared.Outlet.{Outlet}
 use Rattle.outlet.specs.Outlet.{octet_of}
 use Rattle.outlet.specs.declared.Party.{Party}
-use Rattle.packet.specs.declared.OwnCheck.{OwnCheck}
-use Rattle.packet.specs.declared.OwnCheck.TheVariants.{Unchecked}
+use Rattle.packet.specs.Packet.{OwnCheck}
 use Rattle.packet.specs.declared.Check.{Check}
 use Rattle.packet.specs.declared.Payload.{Payload}
 use Rattle.packet.specs.declared.Packet.{Packet}
@@ -285,7 +285,7 @@ counts_apart c d (p ∷ l) a b n e =
     counts_apart (step_check c p) (step_check d p) l (mod-lt (c.count + 1)) (mod-lt (d.count + 1)) (λ f. n (counts_stay c.count d.count a b f)) e
 
 -- a packet that carries no check is its first three octets
-bare_octets : (p : Payload) → p.own ≡ Unchecked → octets_of p ≡ first_three p.outlet p.amount
+bare_octets : (p : Payload) → p.own ≡ None → octets_of p ≡ first_three p.outlet p.amount
 bare_octets p e = ap (λ (k : OwnCheck). first_three p.outlet p.amount ++ own_octets k) e
 
 -- one amount that differs is seen by the CRC, a packet that does not fit is none of those taken, and one that is missing is seen by the count,

@@ -6,6 +6,7 @@ use mathlib.Core.Logic.{◌≢◌}
 use mathlib.Core.Bool.{Bool, true, false, cond, false≢true}
 use mathlib.Core.List.{List, [], ◌∷◌, nil≢cons}
 use mathlib.Core.Option.{Option, none, some}
+use Rattle.std.specs.Prelude.{Some, None, is_some, unwrap_or}
 use lib.ListN.{length, length-set, get_or-eq_default}
 use lib.Seq.{get_or-set_same, get_or-set_other}
 use lib.Dec.{eqb, ltb}
@@ -17,7 +18,7 @@ use Rattle.image.specs.declared.Image.{Image}
 use Rattle.image.specs.Image.{booked}
 use Rattle.points.specs.declared.Point.{Point}
 use Rattle.points.specs.declared.Points.{Points}
-use Rattle.points.specs.Points.{no_point, no_points, point_at, with_point, image_at, same_name, is_named, is_free, first_place, place_of, place_for}
+use Rattle.points.specs.Points.{no_point, no_points, is_kept, point_at, with_point, image_at, same_name, is_named, is_free, first_place, place_of, place_for}
 use Rattle.group.specs.Group.{sum}
 use Rattle.protocol.specs.History.{History}
 use Rattle.claims.specs.Points.{Stand}
@@ -35,8 +36,8 @@ pub record PointHeld (n : ℕ) (total : Party → ℕ) (images : ℕ → Option 
 
 pub record PointsHeld (n : ℕ) (total : Party → ℕ) (ps : Points) (points : List ℕ → Option (ℕ → Option Image)) : Type 0 where
   pub four : length ps.places ≡ 4
-  pub names : (j k : ℕ) → (point_at ps j).kept ≡ true → (point_at ps k).kept ≡ true → (point_at ps j).name ≡ (point_at ps k).name → j ≡ k
-  pub each : (k : ℕ) → (point_at ps k).kept ≡ true
+  pub names : (j k : ℕ) → is_kept ps j ≡ true → is_kept ps k ≡ true → (point_at ps j).name ≡ (point_at ps k).name → j ≡ k
+  pub each : (k : ℕ) → is_kept ps k ≡ true
       → (images : ℕ → Option Image) × (points (point_at ps k).name ≡ some images) × PointHeld n total images (point_at ps k)
 
 -- ---- names and places
@@ -79,29 +80,29 @@ passes_first test k l t =
 
 module _ (ps : Points) (name : List ℕ) where
   -- the place found has a point of just this name
-  pub place_named : place_of ps name < 4 → ((point_at ps (place_of ps name)).kept ≡ true) × ((point_at ps (place_of ps name)).name ≡ name)
+  pub place_named : place_of ps name < 4 → (is_kept ps (place_of ps name) ≡ true) × ((point_at ps (place_of ps name)).name ≡ name)
   unfolding place_of
   place_named l =
-      let b = and_true {s = (point_at ps (place_of ps name)).kept} (first_passes (is_named ps name) l) in
+      let b = and_true {s = is_kept ps (place_of ps name)} (first_passes (is_named ps name) l) in
       (b.0, (same_name_lem (point_at ps (place_of ps name)).name name).0 b.1)
 
   -- where none is found, no point has this name
-  pub place_none : (place_of ps name < 4 → ⊥) → (k : ℕ) → k < 4 → (point_at ps k).kept ≡ true → (point_at ps k).name ≡ name → ⊥
+  pub place_none : (place_of ps name < 4 → ⊥) → (k : ℕ) → k < 4 → is_kept ps k ≡ true → (point_at ps k).name ≡ name → ⊥
   unfolding place_of
   place_none n k l e f = n (passes_first (is_named ps name) k l (and_intro e ((same_name_lem (point_at ps k).name name).1 f)))
 
 -- ---- the points that stand
 
 module _ {n : ℕ} {total : Party → ℕ} {ps : Points} {points : List ℕ → Option (ℕ → Option Image)} (h : PointsHeld n total ps points) where
-  kept_below : (k : ℕ) → (point_at ps k).kept ≡ true → k < 4
+  kept_below : (k : ℕ) → is_kept ps k ≡ true → k < 4
   unfolding point_at
   kept_below k e = elim (dec_lt k 4) [
     | yes l ↦ l
-    | no m ↦ absurd (never e (ap (λ (p : Point). p.kept) (get_or-eq_default ps.places no_point {n = k} (omega (arith, h.four)))))
+    | no m ↦ absurd (never e (ap is_some (get_or-eq_default ps.places None {n = k} (omega (arith, h.four)))))
   ]
 
   -- a point stands where its name goes
-  pub name_place : (name : List ℕ) (k : ℕ) → (point_at ps k).kept ≡ true → (point_at ps k).name ≡ name → k ≡ place_for ps name
+  pub name_place : (name : List ℕ) (k : ℕ) → is_kept ps k ≡ true → (point_at ps k).name ≡ name → k ≡ place_for ps name
   unfolding place_for
   name_place name k e f = elim (dec_lt (place_of ps name) 4) [
     | yes l ↦
@@ -132,11 +133,15 @@ module _ {n : ℕ} {total : Party → ℕ} {ps : Points} {points : List ℕ → 
 
     pub at_place : point_at ps' place ≡ p
     unfolding point_at with_point
-    at_place = get_or-set_same ps.places place p no_point (omega (arith, h.four, ltb-true place 4 room))
+    at_place = ap (λ o. unwrap_or o no_point) (get_or-set_same ps.places place (Some p) None (omega (arith, h.four, ltb-true place 4 room)))
 
     there : (k : ℕ) → k ≢ place → point_at ps' k ≡ point_at ps k
     unfolding point_at with_point
-    there k d = get_or-set_other ps.places place k p no_point d
+    there k d = ap (λ o. unwrap_or o no_point) (get_or-set_other ps.places place k (Some p) None d)
+
+    kept_there : (k : ℕ) → k ≢ place → is_kept ps' k ≡ is_kept ps k
+    unfolding with_point
+    kept_there k d = ap is_some (get_or-set_other ps.places place k (Some p) None d)
 
     noted_here : (name : List ℕ) → name ≡ p.name → points' name ≡ some images
     noted_here name e = ap (λ (t : Bool). cond t (some images) (points name)) ((same_name_lem name p.name).1 e)
@@ -146,26 +151,26 @@ module _ {n : ℕ} {total : Party → ℕ} {ps : Points} {points : List ℕ → 
         ap (λ (t : Bool). cond t (some images) (points name)) (is_false (same_name name p.name) (λ e. n ((same_name_lem name p.name).0 e)))
 
     -- no other place has its name
-    other_name : (k : ℕ) → k ≢ place → (point_at ps k).kept ≡ true → (point_at ps k).name ≡ p.name → ⊥
+    other_name : (k : ℕ) → k ≢ place → is_kept ps k ≡ true → (point_at ps k).name ≡ p.name → ⊥
     other_name k d e f = d (name_place p.name k e f)
 
     pub one_more : PointsHeld n total ps' points'
     unfolding with_point
     one_more = record {
-      four = length-set ps.places place p ∙ h.four;
+      four = length-set ps.places place (Some p) ∙ h.four;
       names = λ j k. elim (ℕ_discrete j place) [
         | yes e ↦ elim (ℕ_discrete k place) [
           | yes f ↦ (λ _ _ _. e ∙ sym f)
-          | no d ↦ rw (e, at_place, there k d) (λ _ b q. absurd (other_name k d b (sym q)))
+          | no d ↦ rw (e, at_place, there k d, kept_there k d) (λ _ b q. absurd (other_name k d b (sym q)))
         ]
         | no c ↦ elim (ℕ_discrete k place) [
-          | yes f ↦ rw (f, at_place, there j c) (λ a _ q. absurd (other_name j c a q))
-          | no d ↦ rw (there j c, there k d) (h.names j k)
+          | yes f ↦ rw (f, at_place, there j c, kept_there j c) (λ a _ q. absurd (other_name j c a q))
+          | no d ↦ rw (there j c, there k d, kept_there j c, kept_there k d) (h.names j k)
         ]
       ];
       each = λ k. elim (ℕ_discrete k place) [
         | yes e ↦ rw (e, at_place) (λ _. (images, noted_here p.name refl, new))
-        | no d ↦ rw (there k d) (λ a. let x = h.each k a in (x.0, noted_there (point_at ps k).name (other_name k d a) ∙ x.1, x.2))
+        | no d ↦ rw (there k d, kept_there k d) (λ a. let x = h.each k a in (x.0, noted_there (point_at ps k).name (other_name k d a) ∙ x.1, x.2))
       ];
     }
 
@@ -174,7 +179,7 @@ module _ {n : ℕ} {total : Party → ℕ} {ps : Points} {points : List ℕ → 
 pub none_held : (n : ℕ) (total : Party → ℕ) → PointsHeld n total no_points (λ name. none)
 unfolding no_points point_at
 none_held n total =
-    let empty : (k : ℕ) → (point_at no_points k).kept ≡ false = λ k. get_d_repeated (λ (p : Point). p.kept ≡ false) 4 k no_point no_point refl refl in
+    let empty : (k : ℕ) → is_kept no_points k ≡ false = λ k. get_d_repeated (λ o. is_some o ≡ false) 4 k None None refl refl in
     record { four = refl; names = λ j k e. absurd (never e (empty j)); each = λ k e. absurd (never e (empty k)) }
 
 pub stands : {n : ℕ} {total : Party → ℕ} {ps : Points} {h : History} → PointsHeld n total ps h.points → n ≤ 8 → Stand n total ps h

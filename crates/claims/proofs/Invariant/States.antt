@@ -1,4 +1,5 @@
 -- States and versions: what one of their tests says about the others.
+use Rattle.std.specs.Prelude.{Some}
 use Prim.Native.Nat.{ℕ}
 use mathlib.Core.Path.{◌≡◌, refl, sym, ap, ◌∙◌}
 use mathlib.Core.Logic.{◌⊎◌, inl, inr, ⊎_elim}
@@ -9,7 +10,6 @@ use Rattle.state.specs.declared.State.{State}
 use Rattle.state.specs.declared.State.TheVariants.{Failed, Normal, CheckpBegin, Checkpointing, Checkpointed, Error, Recovering, Recovered, Crashed}
 use Rattle.state.specs.declared.Version.{Version}
 use Rattle.state.specs.declared.Version.TheVariants.{Known, Unknown, Lost}
-use Rattle.cabinet.specs.declared.Alarm.TheVariants.{Fault as At}
 use Rattle.state.specs.State.{is_in, works, in_recovery, in_restoring, in_saving, is_unknown, bit_of}
 use Rattle.protocol.specs.Receive.{serving}
 use Rattle.claims.proofs.State.Fun.{never, is_false, and_true, or_left, or_right, or_split, not_not}
@@ -101,5 +101,5 @@ unknown_old (Known v) e l = absurd (false≢true e)
 unknown_old (Unknown v) e l = (v, refl)
 unknown_old Lost e l = absurd (l refl)
 
-pub place_same : {p q : Place} → At p ≡ At q → p ≡ q
+pub place_same : {p q : Place} → Some p ≡ Some q → p ≡ q
 place_same e = cc

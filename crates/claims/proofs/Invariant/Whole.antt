@@ -1,5 +1,6 @@
 -- The facts about the whole group, and the invariant: all facts together. Each group of facts reads only the functions that it names,
 -- so that a move which leaves those alone keeps it.
+use Rattle.std.specs.Prelude.{Some}
 use Prim.Native.Nat.{ℕ, ◌<◌, ◌≤◌}
 use mathlib.Core.Path.{◌≡◌}
 use mathlib.Core.Logic.{◌≢◌, ◌⊎◌}
@@ -8,8 +9,7 @@ use lib.Dec.{eqb}
 use Rattle.outlet.specs.declared.Party.{Party}
 use Rattle.packet.specs.declared.Place.{Place}
 use Rattle.packet.specs.declared.Place.TheVariants.{Failed as AtFailed, Tripped as AtTripped, Link as AtLink}
-use Rattle.cabinet.specs.declared.Alarm.{Alarm}
-use Rattle.cabinet.specs.declared.Alarm.TheVariants.{Fault as At}
+use Rattle.cabinet.specs.Alarm.{Alarm}
 use Rattle.image.specs.declared.Image.{Image}
 use Rattle.state.specs.State.{works, is_unknown}
 use Rattle.image.specs.Image.{booked}
@@ -45,15 +45,15 @@ pub record Ground (n chief heir : ℕ) (alive : Bool) (work tab present : ℕ �
 pub data Place-of (work tab knows : ℕ → Bool) (alarm : ℕ → Alarm) (lk sound : ℕ → ℕ → Bool) : Place → Type 0 where
   failed : (x : ℕ) → tab x ≡ true → work x ≡ false → Place-of work tab knows alarm lk sound (AtFailed x)
   -- a tripped cabinet is in error for its own trip
-  tripped : (x : ℕ) → knows x ≡ true → alarm x ≡ At (AtTripped x) → Place-of work tab knows alarm lk sound (AtTripped x)
+  tripped : (x : ℕ) → knows x ≡ true → alarm x ≡ Some (AtTripped x) → Place-of work tab knows alarm lk sound (AtTripped x)
   faulty : (x y : ℕ) → x < y → lk x y ≡ true → sound x y ≡ false → Place-of work tab knows alarm lk sound (AtLink x y)
 
 pub record Places (faulted : Bool) (work tab knows : ℕ → Bool) (alarm : ℕ → Alarm) (lk sound : ℕ → ℕ → Bool) : Type 0 where
   pub standing : faulted ≡ false → (c d : ℕ) → lk c d ≡ sound c d
-  pub failed_for : (x : ℕ) → tab x ≡ true → work x ≡ false → (c : ℕ) × (knows c ≡ true) × (alarm c ≡ At (AtFailed x))
-  pub faulty_for : (x y : ℕ) → x < y → lk x y ≡ true → sound x y ≡ false → (c : ℕ) × (knows c ≡ true) × (alarm c ≡ At (AtLink x y))
+  pub failed_for : (x : ℕ) → tab x ≡ true → work x ≡ false → (c : ℕ) × (knows c ≡ true) × (alarm c ≡ Some (AtFailed x))
+  pub faulty_for : (x y : ℕ) → x < y → lk x y ≡ true → sound x y ≡ false → (c : ℕ) × (knows c ≡ true) × (alarm c ≡ Some (AtLink x y))
   pub someone : faulted ≡ true → (c : ℕ) × (knows c ≡ true)
-  pub from_one : (c : ℕ) → knows c ≡ true → (p : Place) → alarm c ≡ At p → Place-of work tab knows alarm lk sound p
+  pub from_one : (c : ℕ) → knows c ≡ true → (p : Place) → alarm c ≡ Some p → Place-of work tab knows alarm lk sound p
 
 -- ---- versions (C5, C6, C8)
 

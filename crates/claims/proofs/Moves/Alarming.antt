@@ -1,4 +1,5 @@
 -- All neighbours in use of a failed or tripped cabinet enter error, one after the other: what they are then, and that the others are as they were.
+use Rattle.std.specs.Prelude.{Some}
 use Prim.Native.Nat.{ℕ, zero, suc, ◌<◌, ◌≤◌}
 use mathlib.Core.Path.{◌≡◌, refl, sym, ap, ◌∙◌, subst}
 use mathlib.Core.Logic.{◌≢◌, ◌⊎◌, inl, inr, ⊎_elim}
@@ -8,7 +9,6 @@ use native.Mathlib.Decide.{ℕ_discrete}
 use Rattle.outlet.specs.declared.Party.{Party}
 use Rattle.packet.specs.declared.Place.{Place}
 use Rattle.table.specs.Table.{is_at}
-use Rattle.cabinet.specs.declared.Alarm.TheVariants.{Fault as At}
 use Rattle.state.specs.State.{works, in_recovery, is_unknown}
 use Rattle.group.specs.declared.Group.{Group}
 use Rattle.group.specs.Group.{cabinet}
@@ -40,7 +40,7 @@ pub record Alarmed (n : ℕ) (total : Party → ℕ) (k a : ℕ) (q : Place) (v 
   pub said : Bool
   pub core : Core n total w (g_said γ said)
   pub told : (i : ℕ) → i < k → near v a i ≡ true
-      → (in_recovery (w.own i).state ≡ true) × ((w.own i).alarm ≡ At q) × ((d : ℕ) → w.side i d ≡ s_alarmed q i d (v.side i d))
+      → (in_recovery (w.own i).state ≡ true) × ((w.own i).alarm ≡ Some q) × ((d : ℕ) → w.side i d ≡ s_alarmed q i d (v.side i d))
   pub others : (i : ℕ) → (k ≤ i) ⊎ (near v a i ≡ false) → (w.own i ≡ v.own i) × (w.side i ≡ v.side i)
   pub sound : w.sound ≡ v.sound
   pub worked : (i : ℕ) → work_of w i ≡ work_of v i

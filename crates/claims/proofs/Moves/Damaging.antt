@@ -1,5 +1,6 @@
 -- Kind 11, damage: a packet on a line is hurt while nobody recovers. A fail-safe packet becomes invalid; a normal one has another amount,
 -- and the receiver's hurt mark says so.
+use Rattle.std.specs.Prelude.{None, Some}
 use Prim.Native.Nat.{ℕ, zero, suc, ◌+◌, ◌<◌, ◌≤◌}
 use mathlib.Core.Path.{◌≡◌, refl, sym, ap, ◌∙◌, subst}
 use mathlib.Core.Logic.{◌≢◌}
@@ -12,8 +13,7 @@ use Rattle.outlet.specs.declared.Outlet.{Outlet}
 use Rattle.outlet.specs.declared.Party.{Party}
 use Rattle.outlet.specs.Outlet.{party_of, same_party}
 use Rattle.packet.specs.declared.PacketVersion.{PacketVersion}
-use Rattle.packet.specs.declared.OwnCheck.{OwnCheck}
-use Rattle.packet.specs.declared.OwnCheck.TheVariants.{Unchecked, Checked}
+use Rattle.packet.specs.Packet.{OwnCheck}
 use Rattle.packet.specs.declared.Pattern.{Pattern}
 use Rattle.packet.specs.declared.Payload.{Payload}
 use Rattle.packet.specs.declared.Check.{Check}
@@ -161,8 +161,8 @@ hurts : (v : PacketVersion) (p : Payload) (q : Pattern) → q.mask < 65536 → p
 hurts v p q s r f = go p.own refl
   where
     go : (k : OwnCheck) → p.own ≡ k → Hurt p (hurt_by p q)
-    go Unchecked e = let c = amounts_change p e v q r in amount_changed e c.0 (outlet_kept p q) c.1
-    go (Checked c) e = unfit (bursts_seen p c e f v q s r)
+    go None e = let c = amounts_change p e v q r in amount_changed e c.0 (outlet_kept p q) c.1
+    go (Some c) e = unfit (bursts_seen p c e f v q s r)
 
 module _ (version : PacketVersion) (q : Pattern) (lq : q.mask < 65536) (right : pattern_right version q ≡ true) where
   differ_first : (x : Packet) (r : List Payload) → is_normal x ≡ true → Fitting (amount_of x r) → Differ true (amount_of x r) (amount_of (damaged x q) r)

@@ -1,6 +1,7 @@
 -- Where all working cabinets are in error and unsure of their version, and the coordinator is lost. One of the others has joined the save
 -- under way, and what passes over the links of the last recovery's end makes that all but the coordinator: so the old version of
 -- each of them names the save that the rule gives, and one of them may go on with it.
+use Rattle.std.specs.Prelude.{Some}
 use Prim.Native.Nat.{ℕ, ◌<◌}
 use mathlib.Core.Path.{◌≡◌, refl, sym, ap, ◌∙◌}
 use mathlib.Core.Logic.{◌≢◌, inl, inr, ⊎_elim}
@@ -13,7 +14,6 @@ use Rattle.packet.specs.declared.Place.{Place}
 use Rattle.packet.specs.declared.Place.TheVariants.{Tripped as AtTripped}
 use Rattle.state.specs.declared.State.TheVariants.{Error}
 use Rattle.state.specs.declared.Version.TheVariants.{Unknown}
-use Rattle.cabinet.specs.declared.Alarm.TheVariants.{Fault as At}
 use Rattle.state.specs.State.{is_unknown}
 use Rattle.table.specs.Table.{is_at}
 use Rattle.claims.proofs.State.Fun.{never, is_false, and_true, and_intro, not_true_false}
@@ -34,7 +34,7 @@ chief γ = γ.big.chief
 -- ---- a cabinet whose fault was its coordinator
 
 module _ (n : ℕ) (total : Party → ℕ) (v : View) (γ : Ghost) (i : Inv n total v γ) (c : ℕ) (aw : aware_of v γ c ≡ true) (was : (v.own c).former ≡ true) where
-  abbrev place : (q : Place) × ((v.own c).alarm ≡ At q)
+  abbrev place : (q : Place) × ((v.own c).alarm ≡ Some q)
   place = (i.core.nodes c).place_known aw
 
   -- the fault is the coordinator of the last recovery's end
@@ -49,7 +49,7 @@ module _ (n : ℕ) (total : Party → ℕ) (v : View) (γ : Ghost) (i : Inv n to
       alive_not _ at (failed x t w) e = never ((i.core.leads (chief γ)).lives refl e).0 (ap (work_of v) (sym (eqb-true x (chief γ) at)) ∙ w)
       alive_not _ at (tripped x y m) e =
           let q : x ≡ chief γ = eqb-true x (chief γ) at in
-          ((i.core.leads (chief γ)).lives refl e).1 (ap (aware_of v γ) (sym q) ∙ y) (ap (alarm_of v) (sym q) ∙ m ∙ ap (λ (d : ℕ). At (AtTripped d)) q)
+          ((i.core.leads (chief γ)).lives refl e).1 (ap (aware_of v γ) (sym q) ∙ y) (ap (alarm_of v) (sym q) ∙ m ∙ ap (λ (d : ℕ). Some (AtTripped d)) q)
       alive_not _ at (faulty x y l m s) e = absurd (false≢true at)
 
   -- its table names the next one

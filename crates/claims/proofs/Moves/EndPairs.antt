@@ -1,5 +1,6 @@
 -- The end of a recovery, for a pair of cabinets: every working cabinet is recovered, has the one fault place and has heard its
 -- neighbours, so with the fault forgotten every pair starts anew. The coordinator's own change comes after it.
+use Rattle.std.specs.Prelude.{Some}
 use Prim.Native.Nat.{ℕ}
 use mathlib.Core.Path.{◌≡◌, refl, sym, ap, ◌∙◌, subst}
 use mathlib.Core.Logic.{inl, inr, ⊎_elim}
@@ -13,7 +14,6 @@ use Rattle.packet.specs.Packet.{start_check}
 use Rattle.state.specs.declared.State.{State}
 use Rattle.state.specs.declared.State.TheVariants.{CheckpBegin, Recovered}
 use Rattle.state.specs.declared.Version.{Version}
-use Rattle.cabinet.specs.declared.Alarm.TheVariants.{Fault as At}
 use Rattle.state.specs.State.{is_in, works, in_saving}
 use Rattle.claims.proofs.State.Fun.{never, and_true, and_intro}
 use Rattle.claims.proofs.State.View.{Own, Side, used}
@@ -60,7 +60,7 @@ left_of v q l a z = go a.faults a.recovers a.is
 pub record Done (b : Big) (q : Place) (o : Own) (m : Mind) : Type 0 where
   pub knows : works o.state ≡ true → aware b o ≡ true
   pub recovered : works o.state ≡ true → o.state ≡ Recovered
-  pub place : works o.state ≡ true → o.alarm ≡ At q
+  pub place : works o.state ≡ true → o.alarm ≡ Some q
   pub ready : works o.state ≡ true → m.ready ≡ true
 
 module _ (b : Big) (k x : ℕ) (q : Place) (c d : ℕ) (o : Own) (m : Mind) (p : Own) (n : Mind) (s t : Side) (l : List Packet) (w : Wire)

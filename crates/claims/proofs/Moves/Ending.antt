@@ -1,5 +1,6 @@
 -- The end of a recovery: with restored reports of all in its table the coordinator finds every working cabinet recovered, for one
 -- fault place and with one table; from then on the group is as at the start, from the images of the save that the rule gives.
+use Rattle.std.specs.Prelude.{None, Some}
 use Prim.Native.Nat.{ℕ, ◌<◌}
 use mathlib.Core.Path.{◌≡◌, refl, sym, ap, ◌∙◌, subst, fun_ext}
 use mathlib.Core.Logic.{◌≢◌, inl}
@@ -16,8 +17,7 @@ use Rattle.packet.specs.declared.Packet.{Packet}
 use Rattle.packet.specs.Packet.{start_check}
 use Rattle.state.specs.declared.State.{State}
 use Rattle.state.specs.declared.State.TheVariants.{Error, Recovered}
-use Rattle.cabinet.specs.declared.Alarm.{Alarm}
-use Rattle.cabinet.specs.declared.Alarm.TheVariants.{Quiet, Fault as At}
+use Rattle.cabinet.specs.Alarm.{Alarm}
 use Rattle.cabinet.specs.Alarm.{is_for}
 use Rattle.state.specs.State.{is_in, works, is_unknown, bit_of}
 use Rattle.protocol.specs.History.{upd}
@@ -76,7 +76,7 @@ module _ (n : ℕ) (total : Party → ℕ) (v : View) (γ : Ghost) (i : Inv n to
   abbrev b : Big
   b = γ.big
 
-  pub the_place : (q : Place) × ((v.own k).alarm ≡ At q)
+  pub the_place : (q : Place) × ((v.own k).alarm ≡ Some q)
   the_place = (i.core.nodes k).place_known aw
 
   abbrev q : Place
@@ -105,7 +105,7 @@ module _ (n : ℕ) (total : Party → ℕ) (v : View) (γ : Ghost) (i : Inv n to
       (f.1 ∙ rw (i.core.ground.sound_links c d s, stands p.0 at i.core.ground.sound_both c d s))
       (f.0 ∙ rw ((i.core.nodes d).placed wd, misses p.0 at d wd))
 
-  pub one_place : (d : ℕ) → work_of v d ≡ true → (v.own d).alarm ≡ At q
+  pub one_place : (d : ℕ) → work_of v d ≡ true → (v.own d).alarm ≡ Some q
   one_place d w =
       (fault_for (v.own d).alarm q).0
       (i.core.ground.reach (λ j. is_for (v.own j).alarm q)
@@ -132,21 +132,21 @@ module _ (n : ℕ) (total : Party → ℕ) (v : View) (γ : Ghost) (i : Inv n to
       go false e false f = refl
       go false e true f =
           let a = i.places.failed_for d f e in
-          let same : At q ≡ At (AtFailed d) = sym (one_place a.0 (aware_works b (v.own a.0) a.1)) ∙ a.2 in
+          let same : Some q ≡ Some (AtFailed d) = sym (one_place a.0 (aware_works b (v.own a.0) a.1)) ∙ a.2 in
           ap (λ (x : Alarm). not (hits_at x)) same ∙ ap not (hits_itself d)
         where
           hits_at : Alarm → Bool
-          hits_at Quiet = false
-          hits_at (At p) = hits_cabinet p d
+          hits_at None = false
+          hits_at (Some p) = hits_cabinet p d
 
   links_at : (c d : ℕ) → ((γ.wire c d).lk && not (hits_link q c d)) ≡ v.sound c d
   links_at c d = go (v.sound c d) refl (γ.wire c d).lk refl
     where
       hits_at : Alarm → Bool
-      hits_at Quiet = false
-      hits_at (At p) = hits_link p c d
+      hits_at None = false
+      hits_at (Some p) = hits_link p c d
 
-      struck_one : (x y : ℕ) → x < y → (γ.wire x y).lk ≡ true → v.sound x y ≡ false → At q ≡ At (AtLink x y)
+      struck_one : (x y : ℕ) → x < y → (γ.wire x y).lk ≡ true → v.sound x y ≡ false → Some q ≡ Some (AtLink x y)
       struck_one x y l f e =
           let a = i.places.faulty_for x y l f e in
           sym (one_place a.0 (aware_works b (v.own a.0) a.1)) ∙ a.2

@@ -1,4 +1,5 @@
 -- A cabinet enters error: all facts hold again, and the fault place is one that some cabinet knows of.
+use Rattle.std.specs.Prelude.{Some}
 use Prim.Native.Nat.{ℕ, ◌<◌}
 use mathlib.Core.Path.{◌≡◌, refl, sym, ap, ◌∙◌, subst}
 use mathlib.Core.Logic.{◌≢◌, ◌⊎◌, inl, inr, ⊎_elim}
@@ -16,8 +17,7 @@ use Rattle.state.specs.declared.State.{State}
 use Rattle.state.specs.declared.State.TheVariants.{Failed, Normal, CheckpBegin, Checkpointing, Checkpointed, Error, Recovering, Recovered, Crashed}
 use lib.Dec.{eqb}
 use Rattle.table.specs.Table.{is_at}
-use Rattle.cabinet.specs.declared.Alarm.{Alarm}
-use Rattle.cabinet.specs.declared.Alarm.TheVariants.{Fault as At}
+use Rattle.cabinet.specs.Alarm.{Alarm}
 use Rattle.image.specs.declared.Image.{Image}
 use Rattle.state.specs.State.{is_in, works, in_recovery, is_unknown}
 use Rattle.protocol.specs.History.{History, upd}
@@ -427,8 +427,8 @@ module _ (v : View) (γ : Ghost) (c : ℕ) (un : unaware γ.big (v.own c) ≡ tr
       (λ e. absurd (un_not_aware γ.big (v.own c) un (subst (λ (k : ℕ). aware_of v γ k ≡ true) e a)))
       (λ n. (aware_recovers γ.big (v.own j) a, refl))
 
-  itself : (aware_of e' ε c ≡ true) × (alarm_of e' c ≡ At q)
-  itself = subst (λ (x : Own). (in_recovery x.state ≡ true) × (x.alarm ≡ At q)) (sym (upd_same v.own c (o_erred (v.own c) q (lead_after v c q))))
+  itself : (aware_of e' ε c ≡ true) × (alarm_of e' c ≡ Some q)
+  itself = subst (λ (x : Own). (in_recovery x.state ≡ true) × (x.alarm ≡ Some q)) (sym (upd_same v.own c (o_erred (v.own c) q (lead_after v c q))))
       (erred_recovers (v.own c).version, refl)
 
   -- a place as before is one after it
@@ -436,8 +436,8 @@ module _ (v : View) (γ : Ghost) (c : ℕ) (un : unaware γ.big (v.own c) ≡ tr
       → Place-of (work_of e') (tab_of γ) (aware_of e' ε) (alarm_of e') (lk_of γ) sound p
   moved_on p k less at = place_map (work_of v) (work_of e') (tab_of γ) (aware_of v γ) (aware_of e' ε) (alarm_of v) (alarm_of e') (lk_of γ) k sound same_work still less p at
 
-  from_one_lem : (j : ℕ) → aware_of e' ε j ≡ true → (p : Place) → alarm_of e' j ≡ At p → Place-of (work_of e') (tab_of γ) (aware_of e' ε) (alarm_of e') (lk_of γ) sound p
-  from_one_lem j = upd_elim (λ (x : Own). in_recovery x.state ≡ true → (p : Place) → x.alarm ≡ At p
+  from_one_lem : (j : ℕ) → aware_of e' ε j ≡ true → (p : Place) → alarm_of e' j ≡ Some p → Place-of (work_of e') (tab_of γ) (aware_of e' ε) (alarm_of e') (lk_of γ) sound p
+  from_one_lem j = upd_elim (λ (x : Own). in_recovery x.state ≡ true → (p : Place) → x.alarm ≡ Some p
       → Place-of (work_of e') (tab_of γ) (aware_of e' ε) (alarm_of e') (lk_of γ) sound p)
       v.own c (o_erred (v.own c) q (lead_after v c q)) j
       (λ e a p f. subst (λ (r : Place). Place-of (work_of e') (tab_of γ) (aware_of e' ε) (alarm_of e') (lk_of γ) sound r) (place_same f) (moved_on q sound (λ x y s. s) place))
@@ -452,7 +452,7 @@ module _ (v : View) (γ : Ghost) (c : ℕ) (un : unaware γ.big (v.own c) ≡ tr
     failed_for = λ x t w. let k = h.failed_for x t (sym (same_work x) ∙ w) in let s = still k.0 k.1 in (k.0, s.0, s.1 ∙ k.2);
     faulty_for = λ x y l k s. ⊎_elim
         (λ e. let f = h.faulty_for x y l k e in let r = still f.0 f.1 in (f.0, r.0, r.1 ∙ f.2))
-        (λ e. (c, itself.0, itself.1 ∙ ap At e)) (lost x y l k s);
+        (λ e. (c, itself.0, itself.1 ∙ ap Some e)) (lost x y l k s);
     someone = λ e. (c, itself.0);
     from_one = from_one_lem;
   }

@@ -1,4 +1,5 @@
 -- Entering error and going on to recovering, as the view sees them, and what they leave of the group.
+use Rattle.std.specs.Prelude.{Some}
 use Prim.Native.Nat.{ℕ, ◌<◌}
 use mathlib.Core.Path.{◌≡◌, refl, sym, ap, ◌∙◌, fun_ext, subst}
 use mathlib.Core.Logic.{◌≢◌}
@@ -14,7 +15,6 @@ use Rattle.state.specs.declared.State.{State}
 use Rattle.state.specs.declared.State.TheVariants.{Normal, CheckpBegin, Error, Recovering, Recovered, Crashed}
 use Rattle.state.specs.declared.Version.{Version}
 use Rattle.state.specs.declared.Version.TheVariants.{Known, Unknown, Lost}
-use Rattle.cabinet.specs.declared.Alarm.TheVariants.{Fault as At}
 use Rattle.state.specs.State.{is_in, works, in_recovery, is_unknown, in_saving}
 use Rattle.group.specs.declared.Group.{Group}
 use Rattle.group.specs.Group.{cabinet}
@@ -66,7 +66,7 @@ erred_line x q u = cond u (Fault q ∷ erred_rest x) []
 
 -- its coordinator from then on is k
 abbrev pub o_erred : Own → Place → ℕ → Own
-o_erred o q k = o_phase (o_alarmed o q k) (erred_state o.version) o.version (At q)
+o_erred o q k = o_phase (o_alarmed o q k) (erred_state o.version) o.version (Some q)
 
 abbrev pub s_erred : View → ℕ → Place → ℕ → Side
 s_erred v c q d = s_alarmed q c d (v.side c d)

@@ -1,4 +1,5 @@
 -- Once the neighbours of a failed cabinet have entered error for it, it is the one fault place, and the invariant holds whole again.
+use Rattle.std.specs.Prelude.{Some}
 use Prim.Native.Nat.{ℕ, zero, suc, ◌<◌}
 use mathlib.Core.Path.{◌≡◌, refl, sym, ap, ◌∙◌, subst}
 use mathlib.Core.Logic.{◌≢◌, ◌⊎◌, inl, inr, ⊎_elim}
@@ -10,7 +11,6 @@ use native.Mathlib.Decide.{ℕ_discrete}
 use Rattle.outlet.specs.declared.Party.{Party}
 use Rattle.packet.specs.declared.Place.{Place}
 use Rattle.packet.specs.declared.Place.TheVariants.{Failed as AtFailed}
-use Rattle.cabinet.specs.declared.Alarm.TheVariants.{Fault as At}
 use Rattle.state.specs.State.{in_recovery}
 use Rattle.claims.proofs.State.Fun.{never, is_true, and_true, and_intro, and_not, not_true_false}
 use Rattle.claims.proofs.State.View.{View, Own, Side, used}
@@ -110,7 +110,7 @@ module _ (n : ℕ) (total : Party → ℕ) (a : ℕ) (v : View) (γ : Ghost) (i 
     off_a : work_of w a ≡ false
     off_a = h.worked a ∙ failed_off v a
 
-    aware_one : (c : ℕ) × (aware_of w δ' c ≡ true) × ((w.own c).alarm ≡ At (AtFailed a))
+    aware_one : (c : ℕ) × (aware_of w δ' c ≡ true) × ((w.own c).alarm ≡ Some (AtFailed a))
     aware_one =
         let x = alarmed_one in
         let t = h.told x.0 (near_eight x.0 x.1) x.1 in
@@ -125,7 +125,7 @@ module _ (n : ℕ) (total : Party → ℕ) (a : ℕ) (v : View) (γ : Ghost) (i 
             | no s ↦ absurd (never (h.worked x ∙ works_on v a x s ((i.core.nodes x).present unfaulted (sym (tabs x) ∙ t))) e)
           ] in
           let y = aware_one in
-          (y.0, y.1, y.2 ∙ ap (λ (z : ℕ). At (AtFailed z)) (sym q));
+          (y.0, y.1, y.2 ∙ ap (λ (z : ℕ). Some (AtFailed z)) (sym q));
       faulty_for = λ x y l k e.
           absurd (never (sym (links x y) ∙ k) (i.places.standing unfaulted x y ∙ ap (λ (s : ℕ → ℕ → Bool). s x y) (sym h.sound) ∙ e));
       someone = λ e. (aware_one.0, aware_one.1);

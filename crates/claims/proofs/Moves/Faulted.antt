@@ -1,5 +1,6 @@
 -- Kind 4, deliver: a fault packet taken in normal or a saving state. Its sender is aware of the fault, so its place is one already, and the
 -- receiver enters error for it and has heard the sender.
+use Rattle.std.specs.Prelude.{Some}
 use Prim.Native.Nat.{ℕ, ◌<◌}
 use mathlib.Core.Path.{◌≡◌, refl, sym, ap, ◌∙◌, subst}
 use mathlib.Core.Logic.{◌≢◌}
@@ -15,7 +16,6 @@ use Rattle.packet.specs.declared.Packet.TheVariants.{Fault}
 use Rattle.line.specs.Line.{oldest}
 use Rattle.state.specs.declared.State.{State}
 use Rattle.state.specs.declared.State.TheVariants.{Normal}
-use Rattle.cabinet.specs.declared.Alarm.TheVariants.{Fault as At}
 use Rattle.state.specs.State.{is_in, works}
 use Rattle.group.specs.declared.Group.{Group}
 use Rattle.group.specs.Group.{cabinet, state_of, line}
@@ -55,7 +55,7 @@ module _ (n : ℕ) (total : Party → ℕ) (v : View) (γ : Ghost) (i : Inv n to
 
   -- who was aware of the fault still is, for the same place
   abbrev Knower : View → Ghost → Place → Type 0
-  Knower u ε p = (c : ℕ) × (aware_of u ε c ≡ true) × (alarm_of u c ≡ At p)
+  Knower u ε p = (c : ℕ) × (aware_of u ε c ≡ true) × (alarm_of u c ≡ Some p)
 
   same_own : (c : ℕ) → aware_of v γ c ≡ true → (erred v b q).own c ≡ v.own c
   same_own c e = upd_other v.own b o' c (λ x. un_not_aware γ.big (v.own b) un (ap (λ (y : ℕ). aware_of v γ y) (sym x) ∙ e))
@@ -81,10 +81,10 @@ module _ (n : ℕ) (total : Party → ℕ) (v : View) (γ : Ghost) (i : Inv n to
       (λ x. ap (λ (f : ℕ → Bool). f x) same_work)
       (λ x e. (ap (λ (o : Own). aware γ.big o) (same_own x e) ∙ e, ap (λ (o : Own). o.alarm) (same_own x e))) (λ x y e. e) p
 
-  one_place : (c : ℕ) → aware_of (erred v b q) δ c ≡ true → (p : Place) → alarm_of (erred v b q) c ≡ At p
+  one_place : (c : ℕ) → aware_of (erred v b q) δ c ≡ true → (p : Place) → alarm_of (erred v b q) c ≡ Some p
       → Place-of (work_of v) (tab_of γ) (aware_of v γ) (alarm_of v) (lk_of γ) v.sound p
   one_place c =
-      upd_elim (λ (o : Own). aware γ.big o ≡ true → (p : Place) → o.alarm ≡ At p
+      upd_elim (λ (o : Own). aware γ.big o ≡ true → (p : Place) → o.alarm ≡ Some p
       → Place-of (work_of v) (tab_of γ) (aware_of v γ) (alarm_of v) (lk_of γ) v.sound p) v.own b o' c
       (λ x e p f. subst (Place-of (work_of v) (tab_of γ) (aware_of v γ) (alarm_of v) (lk_of γ) v.sound) (place_same f) place) (λ x. i.places.from_one c)
 
@@ -143,7 +143,7 @@ module _ (total : Party → ℕ) (g : Group) (h : History) (γ : Ghost) (w : Fit
   a_aware : aware γ.big ((view g).own a) ≡ true
   a_aware = fault_aware {d = b} (rw is_line at (i.core.pairs a b))
 
-  a_place : (cabinet g a).phase.alarm ≡ At q
+  a_place : (cabinet g a).phase.alarm ≡ Some q
   a_place = fault_place {d = b} (rw is_line at (i.core.pairs a b)) (i.core.nodes a).place_known
 
   is_faulted : γ.big.faulted ≡ true

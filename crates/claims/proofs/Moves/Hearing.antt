@@ -1,5 +1,6 @@
 -- A fault packet heard: it comes off the line, and the receiver has heard the sender. Both are aware of the fault and have the same
 -- place, so every fact stands. Kind 4, deliver: a fault packet taken in error, recovering or recovered.
+use Rattle.std.specs.Prelude.{Some}
 use Prim.Native.Nat.{ℕ, ◌<◌}
 use mathlib.Core.Path.{◌≡◌, refl, sym, ap, ◌∙◌, subst}
 use mathlib.Core.Logic.{◌≢◌, ⊎_elim}
@@ -14,7 +15,6 @@ use Rattle.packet.specs.declared.Packet.TheVariants.{Recover, Fault}
 use Rattle.packet.specs.Packet.{is_empty}
 use Rattle.line.specs.Line.{oldest, rest}
 use Rattle.state.specs.declared.Version.{Version}
-use Rattle.cabinet.specs.declared.Alarm.TheVariants.{Fault as At}
 use Rattle.cabinet.specs.Alarm.{is_for}
 use Rattle.state.specs.State.{works, in_recovery}
 use Rattle.group.specs.declared.Group.{Group}
@@ -69,10 +69,10 @@ module _ {b : Big} {c d : ℕ} {o : Own} {m : Mind} {p : Own} {n : Mind} {s t : 
       ⊎_elim (λ u. absurd (one_fault q k (h.no_fault u))) (λ e. e) (un_or_aware b o (live_line h (λ e. nil≢cons (sym e))).0)
 
   -- and has its place
-  pub fault_place : ((aware b o ≡ true) → (r : Place) × (o.alarm ≡ At r)) → o.alarm ≡ At q
+  pub fault_place : ((aware b o ≡ true) → (r : Place) × (o.alarm ≡ Some r)) → o.alarm ≡ Some q
   fault_place known =
       let r = known fault_aware in
-      r.1 ∙ ap At (fault_head o.version q r.0 k (h.alarms fault_aware r.0 r.1)).0
+      r.1 ∙ ap Some (fault_head o.version q r.0 k (h.alarms fault_aware r.0 r.1)).0
 
 -- ---- the pair of the line, and the pair back
 
@@ -80,11 +80,11 @@ abbrev pub s_heard : Side → Side
 s_heard s = s_marks s s.come s.saved s.restored true s.unsure
 
 module _ (b : Big) (c d : ℕ) (o : Own) (m : Mind) (p : Own) (n : Mind) (s t : Side) (k : List Packet) (w : Wire) (q : Place)
-    (h : Pair b c d o m p n s t (Fault q ∷ k) w) (known : (aware b o ≡ true) → (r : Place) × (o.alarm ≡ At r)) (up : aware b p ≡ true) (for-it : p.alarm ≡ At q) where
+    (h : Pair b c d o m p n s t (Fault q ∷ k) w) (known : (aware b o ≡ true) → (r : Place) × (o.alarm ≡ Some r)) (up : aware b p ≡ true) (for-it : p.alarm ≡ Some q) where
   no_calm : {A : Type 0} → unaware b o ≡ true → A
   no_calm u = absurd (un_not_aware b o u (fault_aware h))
 
-  at_place : o.alarm ≡ At q
+  at_place : o.alarm ≡ Some q
   at_place = fault_place h known
 
   left : (count is_fault k ≡ 0) × Alarms o.version q k
@@ -147,7 +147,7 @@ abbrev pub v_heard : View → ℕ → ℕ → List Packet → View
 v_heard v a b k = set_line (v_hear v a b) a b k
 
 module _ (n : ℕ) (total : Party → ℕ) (v : View) (γ : Ghost) (i : Inv n total v γ) (a b : ℕ) (other : a ≢ b) (q : Place) (k : List Packet)
-    (is : v.lines a b ≡ Fault q ∷ k) (up : aware γ.big (v.own b) ≡ true) (for-it : (v.own b).alarm ≡ At q) where
+    (is : v.lines a b ≡ Fault q ∷ k) (up : aware γ.big (v.own b) ≡ true) (for-it : (v.own b).alarm ≡ Some q) where
   abbrev s' : ℕ → Side
   s' = upd (v.side b) a (s_heard (v.side b a))
 

@@ -1,5 +1,6 @@
 -- Where a recovery ends the failed cabinet's version takes the note of the slot that has its image: nothing else changes, and no fact reads
 -- the version of a cabinet that has failed since the last recovery's end.
+use Rattle.std.specs.Prelude.{Some}
 use Prim.Native.Nat.{ℕ, ◌<◌}
 use mathlib.Core.Path.{◌≡◌, refl, sym, ap, ◌∙◌, subst}
 use mathlib.Core.Logic.{inl, inr, ⊎_elim}
@@ -12,8 +13,7 @@ use Rattle.packet.specs.declared.Place.{Place}
 use Rattle.packet.specs.declared.Place.TheVariants.{Failed as AtFailed}
 use Rattle.packet.specs.declared.Packet.{Packet}
 use Rattle.state.specs.declared.Version.{Version}
-use Rattle.cabinet.specs.declared.Alarm.{Alarm}
-use Rattle.cabinet.specs.declared.Alarm.TheVariants.{Fault as At}
+use Rattle.cabinet.specs.Alarm.{Alarm}
 use Rattle.image.specs.declared.Image.{Image}
 use Rattle.state.specs.State.{works, in_recovery, is_unknown}
 use Rattle.group.specs.declared.Group.{Group}
@@ -42,7 +42,7 @@ module _ (b : Big) (o : Own) (gone : works o.state ≡ false) where
 module _ (b : Big) (c d : ℕ) (o : Own) (m : Mind) (p : Own) (n : Mind) (s t : Side) (l : List Packet) (w : Wire) (h : Pair b c d o m p n s t l w) (y : Version) where
   version_from : works o.state ≡ false → Pair b c d (o_version o y) m p n s t l w
   version_from gone =
-      let al : aware b o ≡ true → (q : Place) → o.alarm ≡ At q → Alarms y q l = not_aware b o gone in
+      let al : aware b o ≡ true → (q : Place) → o.alarm ≡ Some q → Alarms y q l = not_aware b o gone in
       search
 
   version_to : Pair b c d o m (o_version p y) n s t l w
@@ -191,6 +191,6 @@ module _ (total : Party → ℕ) (g : Group) (γ : Ghost) (w : Fit g) (i : Inv g
   at_place _ (tripped x f e) = record { inv = i; note = λ c e. absurd (false≢true e) }
   at_place _ (faulty x y l f e) = record { inv = i; note = λ c e. absurd (false≢true e) }
 
-  pub remembered : aware_of (view g) γ k ≡ true → (q : Place) → (cabinet g k).phase.alarm ≡ At q → Noted q (note_lost g k)
+  pub remembered : aware_of (view g) γ k ≡ true → (q : Place) → (cabinet g k).phase.alarm ≡ Some q → Noted q (note_lost g k)
   unfolding note_lost
   remembered aw q e = subst (λ (a : Alarm). Noted q (note_for a g y₀)) (sym e) (at_place q (i.places.from_one k aw q e))

@@ -1,4 +1,5 @@
 -- Kind 8, restored: the report alone keeps the invariant, and where it ends the recovery demand 3 holds.
+use Rattle.std.specs.Prelude.{Some}
 use Prim.Native.Nat.{ℕ, ◌<◌}
 use mathlib.Core.Path.{◌≡◌, refl, sym, ap, ◌∙◌, subst}
 use mathlib.Core.Logic.{◌≢◌, ◌⊎◌, inl, inr, ⊎_elim}
@@ -11,7 +12,6 @@ use Rattle.marks.specs.Marks.{Marks, marked, covers}
 use Rattle.marks.specs.MarksLaws.{covers_has}
 use Rattle.outlet.specs.declared.Party.{Party}
 use Rattle.packet.specs.declared.Place.{Place}
-use Rattle.cabinet.specs.declared.Alarm.TheVariants.{Fault as At}
 use Rattle.state.specs.declared.State.{State}
 use Rattle.state.specs.declared.State.TheVariants.{Normal, Checkpointing, Error, Recovering, Recovered, Checkpointed}
 use Rattle.state.specs.declared.Version.{Version}
@@ -182,7 +182,7 @@ module _ (total : Party → ℕ) (g : Group) (h : History) (γ : Ghost) (w : Fit
 
     -- the place that k entered error for, and its note
 
-    abbrev at : (q : Place) × (((view g1).own k).alarm ≡ At q)
+    abbrev at : (q : Place) × (((view g1).own k).alarm ≡ Some q)
     at = the_place g.n total (view g1) γ1 inv1 k aware_1 reported_1
 
     abbrev g_n : Group
@@ -391,7 +391,7 @@ module _ (total : Party → ℕ) (g : Group) (h : History) (γ : Ghost) (w : Fit
     -- they were all in error for one place
     one_alarm : OnePlace (view g)
     one_alarm c d wc wd =
-        let at_one : (j : ℕ) → work_of (view g) j ≡ true → ((view g).own j).alarm ≡ At at.0 = λ j x.
+        let at_one : (j : ℕ) → work_of (view g) j ≡ true → ((view g).own j).alarm ≡ Some at.0 = λ j x.
         sym (phase1 j).2 ∙ one_place g.n total (view g1) γ1 inv1 k aware_1 reported_1 j (ap works (state1 j) ∙ x) in
         at_one c wc ∙ sym (at_one d wd)
 

@@ -1,9 +1,9 @@
 -- A cabinet goes to normal and puts resume on lines out of it: what that leaves of the facts about the pairs from it and to it, and of the
 -- fault places.
+use Rattle.std.specs.Prelude.{None}
 use Prim.Native.Nat.{ℕ}
 use Rattle.state.specs.State.{works}
-use Rattle.cabinet.specs.declared.Alarm.{Alarm}
-use Rattle.cabinet.specs.declared.Alarm.TheVariants.{Quiet}
+use Rattle.cabinet.specs.Alarm.{Alarm}
 use Rattle.image.specs.declared.Image.{Image}
 use Rattle.packet.specs.declared.Place.{Place}
 use Rattle.state.specs.declared.State.TheVariants.{Normal}
@@ -36,7 +36,7 @@ wait_short h wait = ⊎_elim (λ e. inl e) (λ e. inr (e.0, e.2)) (h.behind_empt
 
 -- it goes on in normal, with a version
 abbrev pub o_resumed : Own → Version → Own
-o_resumed o x = o_bare (o_phase o Normal x Quiet)
+o_resumed o x = o_bare (o_phase o Normal x None)
 
 module _ (b : Big) (o : Own) (x : Version) where
   pub resumed_un : unaware b (o_resumed o x) ≡ true

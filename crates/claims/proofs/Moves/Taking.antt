@@ -1,4 +1,5 @@
 -- A normal packet that its receiver adds, and that none comes to a cabinet that would not add it.
+use Rattle.std.specs.Prelude.{Some}
 use Prim.Native.Nat.{ℕ, ◌+◌, ◌*◌, ◌<◌}
 use mathlib.Core.Path.{◌≡◌, refl, sym, ap, ◌∙◌, subst}
 use mathlib.Core.Logic.{◌≢◌, ◌⊎◌, inl, inr, ⊎_elim}
@@ -17,7 +18,6 @@ use Rattle.packet.specs.declared.Packet.{Packet}
 use Rattle.packet.specs.declared.Packet.TheVariants.{Normal as NormalPacket, Recover}
 use Rattle.packet.specs.Packet.{start_check, step_check, fits}
 use Rattle.line.specs.Line.{oldest, rest}
-use Rattle.cabinet.specs.declared.Alarm.TheVariants.{Fault as At}
 use Rattle.state.specs.declared.State.{State}
 use Rattle.state.specs.declared.State.TheVariants.{Failed, Normal, CheckpBegin, Checkpointing, Checkpointed, Error, Recovering, Recovered, Crashed}
 use Rattle.image.specs.declared.Image.{Image}
@@ -59,7 +59,7 @@ no_end : (s : Bool) (p : Payload) (k : List Packet) → (NormalPacket p ∷ k �
 no_end s p k = ⊎_elim (λ e. nil≢cons (sym e)) (λ e. different p k [] e.0 e.2)
 
 module _ (b : Big) (c d : ℕ) (o : Own) (m : Mind) (p : Own) (n : Mind) (s t : Side) (k : List Packet) (w : Wire) (q : Payload)
-    (h : Pair b c d o m p n s t (NormalPacket q ∷ k) w) (alarmed : aware b o ≡ true → (x : Place) × (o.alarm ≡ At x))
+    (h : Pair b c d o m p n s t (NormalPacket q ∷ k) w) (alarmed : aware b o ≡ true → (x : Place) × (o.alarm ≡ Some x))
     (tab : works o.state ≡ true → m.tab ≡ true) where
   lively : (works o.state ≡ true) × (works p.state ≡ true) × (used s ≡ true)
   lively = live_line h (λ e. nil≢cons (sym e))

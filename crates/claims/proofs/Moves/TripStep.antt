@@ -1,4 +1,5 @@
 -- Kind 13, trip, where it is no third one: a cabinet trips, the commit of a save that it alone knew of is undone, and its neighbours enter error.
+use Rattle.std.specs.Prelude.{Some}
 use Prim.Native.Nat.{ℕ, ◌<◌}
 use mathlib.Core.Path.{◌≡◌, refl, sym, ap, ◌∙◌, subst}
 use mathlib.Core.Logic.{◌≢◌, inl, inr}
@@ -15,7 +16,6 @@ use Rattle.packet.specs.declared.Place.TheVariants.{Tripped as AtTripped}
 use Rattle.state.specs.declared.State.{State}
 use Rattle.state.specs.declared.State.TheVariants.{Checkpointing, Checkpointed, Error}
 use Rattle.state.specs.declared.Version.TheVariants.{Lost}
-use Rattle.cabinet.specs.declared.Alarm.TheVariants.{Fault as At}
 use Rattle.state.specs.State.{is_in, works, in_recovery, in_saving}
 use Rattle.table.specs.Table.{is_at}
 use Rattle.cabinet.specs.Cabinet.{coordinator}
@@ -159,13 +159,13 @@ module _ (total : Party → ℕ) (g : Group) (h : History) (γ : Ghost) (fit : F
     own_a : (view g').own a ≡ (v_down v a).own a
     own_a = (alarmed.others a (inr (is_false (near (v_down v a) a a) (λ e. near_other a e refl)))).0
 
-    aware_a : (aware_of (view g') δ' a ≡ true) × (alarm_of (view g') a ≡ At q)
+    aware_a : (aware_of (view g') δ' a ≡ true) × (alarm_of (view g') a ≡ Some q)
     aware_a =
         let down = trip_own g.n total v (g_faulted γ) flipped nobody refl a up (λ d. i.meets a d up) in
         (and_intro faulted (ap (λ (o : Own). in_recovery o.state) (own_a ∙ down)), ap (λ (o : Own). o.alarm) (own_a ∙ down))
 
     -- whoever is aware has that place
-    place_of : (c : ℕ) → aware_of (view g') δ' c ≡ true → alarm_of (view g') c ≡ At q
+    place_of : (c : ℕ) → aware_of (view g') δ' c ≡ true → alarm_of (view g') c ≡ Some q
     place_of c e = elim (ℕ_discrete c a) [
       | yes f ↦ ap (alarm_of (view g')) f ∙ aware_a.1
       | no d ↦

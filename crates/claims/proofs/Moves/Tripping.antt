@@ -1,5 +1,6 @@
 -- A cabinet trips: it is in error for its own trip, with its image and version gone, and nothing is left on the lines to it. Every fact holds
 -- again at once; that of the fault places is shown once its neighbours have entered error. What the ghost makes of it is what it makes of a fail.
+use Rattle.std.specs.Prelude.{Some}
 use Prim.Native.Nat.{ℕ}
 use mathlib.Core.Path.{◌≡◌, refl, sym, ap, ◌∙◌, subst}
 use mathlib.Core.Logic.{◌≢◌, ◌⊎◌, inl, inr, ⊎_elim}
@@ -14,7 +15,6 @@ use Rattle.packet.specs.declared.Place.TheVariants.{Tripped as AtTripped}
 use Rattle.packet.specs.declared.Packet.{Packet}
 use Rattle.state.specs.declared.State.TheVariants.{Error}
 use Rattle.state.specs.declared.Version.TheVariants.{Lost}
-use Rattle.cabinet.specs.declared.Alarm.TheVariants.{Fault as At}
 use Rattle.image.specs.declared.Image.{Image}
 use Rattle.state.specs.State.{works, in_recovery, is_unknown}
 use Rattle.table.specs.Table.{is_at}
@@ -87,7 +87,7 @@ module _ (v : View) (a : ℕ) where
 module _ (b : Big) (c d : ℕ) (o : Own) (m : Mind) (p : Own) (n : Mind) (s t : Side) (l : List Packet) (w : Wire) (h : Pair b c d o m p n s t l w) where
   blank_from : unaware b o ≡ true → Pair b c d (o_blank o) m p n s t l w
   blank_from un =
-      let al : aware b o ≡ true → (q : Place) → o.alarm ≡ At q → Alarms Lost q l = λ a. absurd (un_not_aware b o un a) in
+      let al : aware b o ≡ true → (q : Place) → o.alarm ≡ Some q → Alarms Lost q l = λ a. absurd (un_not_aware b o un a) in
       search
 
   blank_to : Pair b c d o m (o_blank p) n s t l w

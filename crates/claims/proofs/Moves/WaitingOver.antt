@@ -1,5 +1,6 @@
 -- Wait over, as document 01 had it: where it would be taken all working cabinets are in error and unsure and the coordinator is lost, and
 -- where nobody's report stands the invariant holds after it.
+use Rattle.std.specs.Prelude.{None, Some}
 use Prim.Native.Nat.{ℕ, ◌<◌}
 use mathlib.Core.Path.{◌≡◌, refl, sym, ap, ◌∙◌, subst}
 use mathlib.Core.Logic.{◌≢◌}
@@ -14,8 +15,7 @@ use Rattle.packet.specs.declared.Place.{Place}
 use Rattle.packet.specs.declared.Place.TheVariants.{Failed as AtFailed, Tripped as AtTripped, Link as AtLink}
 use Rattle.state.specs.declared.State.{State}
 use Rattle.state.specs.declared.State.TheVariants.{Checkpointing, Error}
-use Rattle.cabinet.specs.declared.Alarm.{Alarm}
-use Rattle.cabinet.specs.declared.Alarm.TheVariants.{Quiet, Fault as At}
+use Rattle.cabinet.specs.Alarm.{Alarm}
 use Rattle.cabinet.specs.declared.Cabinet.{Cabinet}
 use Rattle.state.specs.State.{is_in, works, is_unknown, bit_of}
 use Rattle.table.specs.Table.{is_at}
@@ -49,9 +49,9 @@ all_unsure g e c l w =
     sym (those_marked is_unsure g c l) ∙ covers_has (unsure_ones g) (working g) e c l (those_marked (λ c. works c.phase.state) g c l ∙ w)
 
 -- the fault was the coordinator, and a link joins the cabinet to the place
-lost_one : (m : Alarm) (c : Cabinet) → lost_coordinator m c ≡ true → (q : Place) × (m ≡ At q) × (c.noted.former ≡ true) × (joined_to q c ≡ true)
-lost_one Quiet c e = absurd (false≢true e)
-lost_one (At q) c e = let p = and_true {s = c.noted.former} e in (q, refl, p.0, p.1)
+lost_one : (m : Alarm) (c : Cabinet) → lost_coordinator m c ≡ true → (q : Place) × (m ≡ Some q) × (c.noted.former ≡ true) × (joined_to q c ≡ true)
+lost_one None c e = absurd (false≢true e)
+lost_one (Some q) c e = let p = and_true {s = c.noted.former} e in (q, refl, p.0, p.1)
 
 module _ (total : Party → ℕ) (g : Group) (γ : Ghost) (i : Inv g.n total (view g) γ) (a : ℕ) (fine : wait_over_refusal g a ≡ 0) where
   abbrev v : View
@@ -65,7 +65,7 @@ module _ (total : Party → ℕ) (g : Group) (γ : Ghost) (i : Inv g.n total (vi
   is_error : is_in (state_of g a) Error ≡ true
   is_error = (and_true {s = is_in (state_of g a) Error} checks.0).0
 
-  abbrev lost : (q : Place) × ((cabinet g a).phase.alarm ≡ At q) × ((cabinet g a).noted.former ≡ true) × (joined_to q (cabinet g a) ≡ true)
+  abbrev lost : (q : Place) × ((cabinet g a).phase.alarm ≡ Some q) × ((cabinet g a).noted.former ≡ true) × (joined_to q (cabinet g a) ≡ true)
   lost = lost_one (cabinet g a).phase.alarm (cabinet g a) (and_true {s = is_in (state_of g a) Error} checks.0).1
 
   pub wait_aware : aware_of v γ a ≡ true

@@ -1,5 +1,6 @@
 -- What holds of each cabinet, each line and each saved image by itself, and is kept by each change of one, holds in every run.
 -- One walk over all moves and kinds of step serves every such property.
+use Rattle.std.specs.Prelude.{None, Some}
 use Prim.Native.Nat.{ℕ, zero, suc, ◌+◌, ◌-◌, ◌*◌, ◌<◌}
 use mathlib.Core.Path.{◌≡◌, refl, ◌∙◌}
 use mathlib.Core.Bool.{Bool, true, false, cond, not, ◌&&◌, ◌||◌}
@@ -28,8 +29,7 @@ use Rattle.state.specs.declared.State.TheVariants.{Failed, Normal, CheckpBegin, 
 use Rattle.state.specs.declared.Version.{Version}
 use Rattle.state.specs.declared.Version.TheVariants.{Known, Unknown, Lost}
 use Rattle.image.specs.declared.Image.{Image}
-use Rattle.cabinet.specs.declared.Alarm.{Alarm}
-use Rattle.cabinet.specs.declared.Alarm.TheVariants.{Quiet, Fault as At}
+use Rattle.cabinet.specs.Alarm.{Alarm}
 use Rattle.cabinet.specs.declared.Cabinet.{Cabinet}
 use Rattle.cabinet.specs.Alarm.{is_for}
 use Rattle.state.specs.State.{is_in, works, in_recovery}
@@ -37,7 +37,7 @@ use Rattle.image.specs.Image.{booking, first_note, with_octet, with_piece}
 use Rattle.cabinet.specs.Cabinet.{absent, in_use, with_image, with_state, with_version, sending, taking, hurt_from, beginning, comparing, cutting, wrote, owing, owing_also, owing_but, owing_none, saved_for, resuming, alarmed, blanked, hearing, recovering, fetched, restored_for, unsure_for, crashing}
 use Rattle.settled.specs.declared.Reason.{Reason}
 use Rattle.settled.specs.declared.Reason.TheVariants.{Decided}
-use Rattle.settled.specs.declared.Settled.{Settled}
+use Rattle.settled.specs.Settled.{Settled}
 use Rattle.outgoing.specs.declared.Outgoing.{Outgoing}
 use Rattle.store.specs.declared.Store.{Store}
 use Rattle.store.specs.Store.{is_last, is_away, leaves, comes_back}
@@ -628,8 +628,8 @@ module _ (C : Cabinet → Type 0) (L : Line → Type 0) (I : Image → Type 0) (
   ok_note_at (AtLink x y) g v h = h
 
   ok_note_for : (a : Alarm) (g : Group) (v : Version) → Ok g → Ok (note_for a g v)
-  ok_note_for Quiet g v h = h
-  ok_note_for (At p) g v h = ok_note_at p g v h
+  ok_note_for None g v h = h
+  ok_note_for (Some p) g v h = ok_note_at p g v h
 
   pub ok_note_lost : (g : Group) (i : ℕ) → Ok g → Ok (note_lost g i)
   unfolding note_lost

@@ -1,5 +1,6 @@
 -- No step changes how many cabinets a group has, nor its packet version; and the store is changed by a piece, by a store that leaves and by one that
 -- comes back.
+use Rattle.std.specs.Prelude.{None, Some}
 use Prim.Native.Nat.{ℕ, zero, suc, ◌-◌}
 use mathlib.Core.Path.{◌≡◌, refl, sym, ap, ◌∙◌}
 use mathlib.Core.Bool.{Bool, true, false, cond, not, ◌&&◌, ◌||◌}
@@ -22,8 +23,7 @@ use Rattle.state.specs.declared.State.TheVariants.{Normal, CheckpBegin, Checkpoi
 use Rattle.state.specs.declared.Version.{Version}
 use Rattle.state.specs.declared.Version.TheVariants.{Known, Unknown, Lost}
 use Rattle.settled.specs.declared.Reason.{Reason}
-use Rattle.cabinet.specs.declared.Alarm.{Alarm}
-use Rattle.cabinet.specs.declared.Alarm.TheVariants.{Quiet, Fault as At}
+use Rattle.cabinet.specs.Alarm.{Alarm}
 use Rattle.cabinet.specs.Alarm.{is_for}
 use Rattle.state.specs.State.{is_in, in_recovery}
 use Rattle.cabinet.specs.Cabinet.{in_use}
@@ -66,8 +66,8 @@ note_at_fixed (AtTripped x) g v = refl
 note_at_fixed (AtLink x y) g v = refl
 
 note_for_fixed : (a : Alarm) (g : Group) (v : Version) → shell (note_for a g v) ≡ shell g
-note_for_fixed Quiet g v = refl
-note_for_fixed (At p) g v = note_at_fixed p g v
+note_for_fixed None g v = refl
+note_for_fixed (Some p) g v = note_at_fixed p g v
 
 note_fixed : (g : Group) (k : ℕ) → shell (note_lost g k) ≡ shell g
 unfolding note_lost

@@ -11,7 +11,7 @@ use Rattle.packet.specs.declared.Packet.{Packet}
 use Rattle.packet.specs.Packet.{start_check}
 use Rattle.state.specs.declared.State.{State}
 use Rattle.state.specs.declared.Version.{Version}
-use Rattle.cabinet.specs.declared.Alarm.{Alarm}
+use Rattle.cabinet.specs.Alarm.{Alarm}
 use Rattle.image.specs.declared.Image.{Image}
 use Rattle.cabinet.specs.declared.Cabinet.{Cabinet}
 use Rattle.group.specs.declared.Group.{Group}

@@ -1,4 +1,5 @@
 -- The moves of the protocol, seen in the view: each is one change of a cabinet with its sides, and one of its lines out.
+use Rattle.std.specs.Prelude.{None, Some}
 use Prim.Native.Nat.{ℕ, zero, suc, ◌<◌, ◌≤◌}
 use mathlib.Core.Path.{◌≡◌, refl, sym, ap, ◌∙◌, fun_ext, subst}
 use mathlib.Core.Logic.{◌≢◌}
@@ -27,8 +28,7 @@ use Rattle.state.specs.declared.Version.{Version}
 use Rattle.state.specs.declared.Version.TheVariants.{Known, Lost}
 use Rattle.state.specs.declared.State.{State}
 use Rattle.state.specs.declared.State.TheVariants.{Failed, Normal, CheckpBegin, Checkpointing, Error, Recovering}
-use Rattle.cabinet.specs.declared.Alarm.{Alarm}
-use Rattle.cabinet.specs.declared.Alarm.TheVariants.{Quiet, Fault as At}
+use Rattle.cabinet.specs.Alarm.{Alarm}
 use Rattle.settled.specs.declared.Reason.{Reason}
 use Rattle.image.specs.declared.Image.{Image}
 use Rattle.cabinet.specs.declared.Cabinet.{Cabinet}
@@ -177,7 +177,7 @@ abbrev pub o_alarmed : Own → Place → ℕ → Own
 o_alarmed o p k = record {
   state = Error;
   version = o.version;
-  alarm = At p;
+  alarm = Some p;
   pieces = 0;
   image = o.image;
   home = o.home;
@@ -216,7 +216,7 @@ abbrev pub v_join : View → ℕ → View
 v_join v i = v_joined (set_lines v i (v_put v i (λ b. Checkp (v.side i b).put))) i
 
 abbrev pub v_resumed : View → ℕ → Version → View
-v_resumed v i x = set_cabinet v i (o_bare (o_phase (v.own i) Normal x Quiet)) (λ b. s_cleared (v.side i b))
+v_resumed v i x = set_cabinet v i (o_bare (o_phase (v.own i) Normal x None)) (λ b. s_cleared (v.side i b))
 
 pub view_resumed : (g : Group) → Fit g → (i : ℕ) (x : Version) → i < 8 → view (with_cabinet g i (resuming (cabinet g i) x)) ≡ v_resumed (view g) i x
 view_resumed g w i x l =
@@ -498,8 +498,8 @@ note_at_lem (AtFailed x) g y w = elim (dec_lt x 8) [
 ]
 
 note_for_lem : (a : Alarm) (g : Group) (y : Version) → Fit g → Versions (view g) (view (note_for a g y))
-note_for_lem Quiet g y w = same_versions (view g)
-note_for_lem (At p) g y w = note_at_lem p g y w
+note_for_lem None g y w = same_versions (view g)
+note_for_lem (Some p) g y w = note_at_lem p g y w
 
 pub sim_note : (g : Group) → Fit g → (k : ℕ) → Versions (view g) (view (note_lost g k))
 unfolding note_lost

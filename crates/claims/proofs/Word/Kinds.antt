@@ -1,4 +1,5 @@
 -- Each kind of step, where it is taken: what it does to each cabinet, who enters recovering in it, and what is noted.
+use Rattle.std.specs.Prelude.{None, Some}
 use Prim.Native.Nat.{ℕ, zero, suc, ◌+◌, ◌-◌, ◌<◌}
 use mathlib.Core.Path.{◌≡◌, refl, sym, ap, ◌∙◌, subst}
 use mathlib.Core.Logic.{◌≢◌, inr}
@@ -25,8 +26,7 @@ use Rattle.state.specs.State.{is_in, works, in_recovery, is_unknown}
 use Rattle.settled.specs.declared.Reason.TheVariants.{Decided}
 use Rattle.settled.specs.Settled.{enters, ends as note_ends}
 use Rattle.cabinet.specs.declared.Cabinet.{Cabinet}
-use Rattle.cabinet.specs.declared.Alarm.{Alarm}
-use Rattle.cabinet.specs.declared.Alarm.TheVariants.{Quiet, Fault as At}
+use Rattle.cabinet.specs.Alarm.{Alarm}
 use Rattle.cabinet.specs.Alarm.{is_for}
 use Rattle.cabinet.specs.Cabinet.{in_use, coordinator, blanked}
 use Rattle.store.specs.Store.{home_in}
@@ -315,8 +315,8 @@ module _ (total : Party → ℕ) (g : Group) (h : History) (γ : Ghost) (w : Fit
     noted_at (AtLink x z) y v = refl
 
     noted_for : (p : Alarm) (y : Group) (v : Version) → (note_for p y v).settled ≡ y.settled
-    noted_for Quiet y v = refl
-    noted_for (At p) y v = noted_at p y v
+    noted_for None y v = refl
+    noted_for (Some p) y v = noted_at p y v
 
     noted_lost : (y : Group) → (note_lost y k).settled ≡ y.settled
     unfolding note_lost

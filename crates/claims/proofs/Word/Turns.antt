@@ -1,4 +1,5 @@
 -- What a step may do to a cabinet's state and version, who of all enters recovering in it, and what becomes of the note.
+use Rattle.std.specs.Prelude.{None, Some}
 use Prim.Native.Nat.{ℕ, suc, ◌<◌, ◌≤◌}
 use mathlib.Core.Path.{◌≡◌, refl, sym, ap, ◌∙◌}
 use mathlib.Core.Logic.{◌≢◌, ◌⊎◌, inl, inr, ⊎_elim}
@@ -12,8 +13,7 @@ use Rattle.state.specs.declared.Version.{Version}
 use Rattle.state.specs.declared.Version.TheVariants.{Known, Unknown, Lost}
 use Rattle.state.specs.State.{is_in, works, in_recovery, is_unknown}
 use Rattle.settled.specs.declared.Reason.{Reason}
-use Rattle.settled.specs.declared.Settled.{Settled}
-use Rattle.settled.specs.declared.Settled.TheVariants.{Nobody, By}
+use Rattle.settled.specs.Settled.{Settled}
 use Rattle.settled.specs.Settled.{reason_of, first_of, enters}
 use Rattle.claims.proofs.State.Fun.{never, is_false, and_true, and_intro, not_true_false, or_left, or_right}
 use Rattle.claims.proofs.State.View.{Own}
@@ -107,11 +107,11 @@ pub data Who (v w : ℕ → Own) (s s' : Settled) (t n : ℕ) : Type 0 where
 
 -- where the recovery goes on nobody else counts
 pub enters_twice : (s : Settled) (i j : ℕ) (r q : Reason) → enters (enters s i r) j q ≡ enters s i r
-enters_twice Nobody i j r q = refl
-enters_twice (By f) i j r q = go f.going refl
+enters_twice None i j r q = refl
+enters_twice (Some f) i j r q = go f.going refl
   where
-    go : (t : Bool) → f.going ≡ t → enters (cond t (By f) (By (first_of i r))) j q ≡ cond t (By f) (By (first_of i r))
-    go true e = ap (λ (t : Bool). cond t (By f) (By (first_of j q))) e
+    go : (t : Bool) → f.going ≡ t → enters (cond t (Some f) (Some (first_of i r))) j q ≡ cond t (Some f) (Some (first_of i r))
+    go true e = ap (λ (t : Bool). cond t (Some f) (Some (first_of j q))) e
     go false e = refl
 
 -- the note once a cabinet with this version has entered error

@@ -1,4 +1,5 @@
 -- Nothing but the question reads the note: every move and every kind of step makes the same of two groups that differ in it alone.
+use Rattle.std.specs.Prelude.{None, Some}
 use Prim.Native.Nat.{ℕ, zero, suc, ◌-◌}
 use mathlib.Core.Path.{◌≡◌, refl, sym, ap, ◌∙◌, fun_ext}
 use mathlib.Core.Bool.{Bool, true, false, cond, not, ◌&&◌, ◌||◌}
@@ -20,9 +21,7 @@ use Rattle.state.specs.declared.State.TheVariants.{Normal, CheckpBegin, Checkpoi
 use Rattle.state.specs.declared.Version.{Version}
 use Rattle.state.specs.declared.Version.TheVariants.{Known, Unknown, Lost}
 use Rattle.image.specs.declared.Image.{Image}
-use Rattle.settled.specs.declared.Settled.TheVariants.{Nobody}
-use Rattle.cabinet.specs.declared.Alarm.{Alarm}
-use Rattle.cabinet.specs.declared.Alarm.TheVariants.{Quiet, Fault as At}
+use Rattle.cabinet.specs.Alarm.{Alarm}
 use Rattle.cabinet.specs.Alarm.{is_for}
 use Rattle.state.specs.State.{is_in, in_recovery}
 use Rattle.cabinet.specs.Cabinet.{in_use}
@@ -47,7 +46,7 @@ use Rattle.claims.specs.Word.{with_note, unnoted, site_of, Unread, UnreadEver}
 -- ---- groups and outcomes that are the same but for the note
 
 abbrev bare : Group → Group
-bare g = with_settled g Nobody
+bare g = with_settled g None
 
 data Same (g g' : Group) : Type 0 where
   but : bare g ≡ bare g' → Same g g'
@@ -96,10 +95,10 @@ end_forgets k g =
     (over {m = λ x. settle_over (end_recovery x k)} (λ x. but refl) (note (cabinet g k).phase.alarm)) (but refl)
   where
     note : (a : Alarm) → Same (note_for a g (cabinet g k).phase.version) (note_for a (bare g) (cabinet g k).phase.version)
-    note Quiet = but refl
-    note (At (AtFailed x)) = but refl
-    note (At (AtTripped x)) = but refl
-    note (At (AtLink x y)) = but refl
+    note None = but refl
+    note (Some (AtFailed x)) = but refl
+    note (Some (AtTripped x)) = but refl
+    note (Some (AtLink x y)) = but refl
 
 back_forgets : (a : ℕ) → Forgets (λ g. come_back_if_away g a)
 unfolding come_back_if_away come_back drop_reports with_cabinet cabinet

@@ -1,23 +1,20 @@
--- The goals of `over`.
-use Prim.Native.Nat.{◌≤◌, ◌-◌}
-use native.Mathlib.Numerals.{add-one}
-use native.Mathlib.Omega.{arith}
-use lib.ListN.{length, drop_of_length-le}
-use lib.Seq.{drop-cons}
-use borrow.Author.Rules.{rules}
-use Rattle.crc.specs.Crc.{crc_from}
+-- `fold` takes the register over the octets in order, as the definition does.
+-- Assumes nothing.
+use Rattle.std.proofs.Common.{rules, ℕ, ◌≡◌, List, [], ◌∷◌, ◌++◌, refl, sym, ap, ◌∙◌}
+use Rattle.std.proofs.lemmas.Fn.{fold_over, fronts}
+use Rattle.std.proofs.lemmas.Iterator.{YieldsList-from_slice}
+use Rattle.crc.specs.Crc.{crc_octet, crc_from}
+use Rattle.crc.proofs.Laws.{from_append}
 use Rattle.crc.proofs.over.Goals as goal
 
-pub loop-i-preserved : goal.loop-i-preserved
+-- one octet more
+one_more : (r : ℕ) (xs : List ℕ) (x : ℕ) (a b : ℕ) → a ≡ crc_from r xs → b ≡ crc_octet a x → b ≡ crc_from r (xs ++ (x ∷ []))
 unfolding crc_from
-loop-i-preserved c =
-    let loop = c.loop-i in
-    let octets = c.args.octets.now in
-    (search rules, rw (c.octet-reg.ensures, add-one) (rw (drop-cons octets loop.i 0 (search rules)) at loop.invariant.1))
+one_more r xs x a b e f = f ∙ ap (λ (k : ℕ). crc_octet k x) e ∙ sym (from_append xs (x ∷ []) r)
 
 pub returns : goal.returns
 unfolding crc_from
 returns c =
-    let octets = c.args.octets.now in
-    let none_left : length octets ≤ c.loop-i.i = omega arith in
-    rw (drop_of_length-le octets none_left) at c.loop-i.invariant.1
+    fold_over fronts (λ y. y.now) _ (λ xs a. a ≡ crc_from c.args.register xs) _
+    (λ xs a x b f e k. (one_more c.args.register xs x.now a b e (search rules), search rules))
+    c.iter.result c.args.octets.now c.args.register _ (YieldsList-from_slice c.args.octets.now cc).runs refl c.fold.ensures.ran

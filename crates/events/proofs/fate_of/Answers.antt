@@ -8,8 +8,8 @@ returns-then-is_fault c = rw (← c.finds.ensures, ← c.is_fault.ensures, c.if-
 
 pub returns-then-taken : goal.returns-then-taken
 unfolding fate_of
-returns-then-taken c = rw (← c.finds.ensures, ← c.is_fault.ensures, c.if-is_fault.false, ← c.in_use.ensures, ← c.marked.ensures, ← c.heeds.ensures, ← c.and-taken.ensures, c.if-taken.true)
+returns-then-taken c = rw (← c.finds.ensures, ← c.is_fault.ensures, c.if-is_fault.false, ← c.is_taken-taken.ensures, c.if-taken.true)
 
 pub returns-else-taken : goal.returns-else-taken
 unfolding fate_of
-returns-else-taken c = rw (← c.finds.ensures, ← c.is_fault.ensures, c.if-is_fault.false, ← c.in_use.ensures, ← c.marked.ensures, ← c.heeds.ensures, ← c.and-taken.ensures, c.if-taken.false)
+returns-else-taken c = rw (← c.finds.ensures, ← c.is_fault.ensures, c.if-is_fault.false, ← c.is_taken-taken.ensures, c.if-taken.false)

@@ -1,7 +1,9 @@
--- `group::rows_of` meets its contract: each row is read by one `marks_at`.
-use Rattle.group.specs.Group.{rows_of}
+-- `group::rows_of` makes each row of its own.
+use Rattle.std.proofs.Common.{rules}
+use Rattle.group.specs.Group.{rows_of, no_row}
+use Rattle.group.proofs.Mapped.{row_of_map}
 use Rattle.group.proofs.rows_of.Goals as goal
 
 pub returns : goal.returns
 unfolding rows_of
-returns c = rw (c.marks_at-8.ensures, c.marks_at-7.ensures, c.marks_at-6.ensures, c.marks_at-5.ensures, c.marks_at-4.ensures, c.marks_at-3.ensures, c.marks_at-2.ensures, c.marks_at.ensures)
+returns c = row_of_map _ (λ row. row.marks) _ (λ x y q called. search rules) _ _ no_row c.map.ensures.items

@@ -1,7 +1,12 @@
--- `checkp_faulty` asks both.
+-- `checkp_faulty`, by whether the state is one in which checkps are compared.
+use Rattle.std.proofs.Common.{rules}
 use Rattle.linkcheck.specs.Linkcheck.{checkp_faulty}
 use Rattle.linkcheck.proofs.checkp_faulty.Goals as goal
 
-pub returns : goal.returns
+pub returns-then-compares : goal.returns-then-compares
 unfolding checkp_faulty
-returns c = rw (c.and.ensures, c.compares.ensures, c.same-unequal.ensures, c.check_at.ensures)
+returns-then-compares c = rw (← c.compares.ensures, c.if-compares.true, ← c.check_at.ensures) (search rules)
+
+pub returns-else-compares : goal.returns-else-compares
+unfolding checkp_faulty
+returns-else-compares c = rw (← c.compares.ensures, c.if-compares.false)

@@ -1,7 +1,11 @@
--- `normal_faulty` asks both.
+-- `normal_faulty`, by whether the packet is taken.
 use Rattle.linkcheck.specs.Linkcheck.{normal_faulty}
 use Rattle.linkcheck.proofs.normal_faulty.Goals as goal
 
-pub returns : goal.returns
+pub returns-then-not-takes : goal.returns-then-not-takes
 unfolding normal_faulty
-returns c = rw (c.and.ensures, c.serving.ensures, c.takes.ensures)
+returns-then-not-takes c = rw (← c.takes.ensures, c.if-not-takes.true, c.serving.ensures)
+
+pub returns-else-not-takes : goal.returns-else-not-takes
+unfolding normal_faulty
+returns-else-not-takes c = rw (← c.takes.ensures, c.if-not-takes.false)

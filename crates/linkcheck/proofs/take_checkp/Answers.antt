@@ -4,4 +4,4 @@ use Rattle.linkcheck.proofs.take_checkp.Goals as goal
 
 pub returns : goal.returns
 unfolding take_checkp
-returns c = rw (c.with_cabinet.ensures, c.cutting.ensures, c.comparing-compared.ensures)
+returns c = rw (c.with_cabinet.ensures, c.cutting.ensures, c.comparing.ensures)

@@ -27,16 +27,15 @@ pub grow-requires : goal.grow-requires
 grow-requires t c =
     let a = c.args in
     let h : length a.seen ≡ 8 = search rules in
-    let l : c.next-found.result < 8 = omega arith in
-    (omega (arith, next_fewer a.rows a.working a.seen _ c.next-found.ensures l h), tt)
+    (rw c.set_mark.ensures (omega (arith, next_fewer a.rows a.working a.seen _ c.next-found.ensures c.if-found-lt8.true h)), tt)
 
 pub returns-then-found-lt8 : goal.returns-then-found-lt8
 returns-then-found-lt8 t c =
     let a = c.args in
     let h : length a.seen ≡ 8 = search rules in
-    let l : c.next-found.result < 8 = omega arith in
+    let l = c.if-found-lt8.true in
     let e = c.next-found.ensures in
-    more a.rows a.working a.seen _ e _ l (next_fewer a.rows a.working a.seen _ e l h) c.grow.ensures
+    more a.rows a.working a.seen _ e _ l (next_fewer a.rows a.working a.seen _ e l h) (rw c.set_mark.ensures at c.grow.ensures)
 
-pub returns : goal.returns
-returns t c = let l : 8 ≤ c.next-found.result = omega arith in λ n le. last _ _ _ _ c.next-found.ensures l n
+pub returns-else-found-lt8 : goal.returns-else-found-lt8
+returns-else-found-lt8 t c = λ n le. last _ _ _ _ c.next-found.ensures c.if-found-lt8.false n

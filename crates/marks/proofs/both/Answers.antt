@@ -1,7 +1,9 @@
--- `both` asks each number once.
-use Rattle.marks.specs.Marks.{both}
+-- The row is that of what its closure gives at each number.
+use Rattle.std.proofs.Common.{rules}
+use Rattle.marks.specs.Marks.{both, in_both}
+use Rattle.marks.proofs.Rows.{row_of_calls}
 use Rattle.marks.proofs.both.Goals as goal
 
 pub returns : goal.returns
 unfolding both
-returns c = rw (c.in_both-8.ensures, c.in_both-7.ensures, c.in_both-6.ensures, c.in_both-5.ensures, c.in_both-4.ensures, c.in_both-3.ensures, c.in_both-2.ensures, c.in_both.ensures)
+returns c = row_of_calls _ (in_both c.args.a c.args.b) _ (λ i y q l called. search rules) _ c.from_fn.ensures.items

@@ -1,7 +1,9 @@
--- `either` asks each number once.
-use Rattle.marks.specs.Marks.{either}
+-- The row is that of what its closure gives at each number.
+use Rattle.std.proofs.Common.{rules}
+use Rattle.marks.specs.Marks.{either, in_either}
+use Rattle.marks.proofs.Rows.{row_of_calls}
 use Rattle.marks.proofs.either.Goals as goal
 
 pub returns : goal.returns
 unfolding either
-returns c = rw (c.in_either-8.ensures, c.in_either-7.ensures, c.in_either-6.ensures, c.in_either-5.ensures, c.in_either-4.ensures, c.in_either-3.ensures, c.in_either-2.ensures, c.in_either.ensures)
+returns c = row_of_calls _ (in_either c.args.a c.args.b) _ (λ i y q l called. search rules) _ c.from_fn.ensures.items

@@ -1,25 +1,11 @@
--- The goals of `lowest`.
-use borrow.Author.Rules.{rules}
-use Prim.Native.Nat.{◌-◌}
-use mathlib.Core.Path.{◌≡◌, sym, ◌∙◌}
-use native.Mathlib.Omega.{arith}
-use Rattle.marks.specs.Marks.{lowest}
-use Rattle.marks.proofs.Count.{one_more}
+-- `find` gives the first of the eight that is marked.
+use Rattle.std.proofs.Common.{rules, ◌≡◌, true, false, ◌∙◌}
+use Rattle.std.proofs.lemmas.Iterator.{first_from_Range}
+use Rattle.marks.specs.Marks.{marked, lowest}
+use Rattle.marks.proofs.Searches.{lowest_found}
 use Rattle.marks.proofs.lowest.Goals as goal
-
-pub returns-then-marks-i : goal.returns-then-marks-i
-unfolding lowest
-returns-then-marks-i c = sym (c.loop-i.invariant.1
-    ∙ rw (one_more c.loop-i.i c.loop-i-test.true, c.if-marks-i.true))
-
-pub loop-i-preserved : goal.loop-i-preserved
-unfolding lowest
-loop-i-preserved c = (
-  search rules,
-  c.loop-i.invariant.1
-      ∙ rw (one_more c.loop-i.i c.loop-i-test.true, c.if-marks-i.false),
-)
 
 pub returns : goal.returns
 unfolding lowest
-returns c = let e : c.loop-i.i ≡ 8 = omega arith in sym (c.loop-i.invariant.1 ∙ rw e)
+returns c = c.unwrap_or.ensures ∙ lowest_found (marked c.args.marks) _
+    (first_from_Range _ _ _ _ (λ k. marked c.args.marks k ≡ true) (λ k. marked c.args.marks k ≡ false) c.find.ensures.ran (λ x q k. search rules) (λ x q k. search rules))

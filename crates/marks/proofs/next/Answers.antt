@@ -1,22 +1,10 @@
--- The goals of `next`.
-use borrow.Author.Rules.{rules}
-use Prim.Native.Nat.{◌-◌}
-use mathlib.Core.Path.{◌≡◌, sym, ◌∙◌}
-use native.Mathlib.Omega.{arith}
+-- `find` gives the first of the eight that is fresh.
+use Rattle.std.proofs.Common.{rules, ◌≡◌, true, false, ◌∙◌}
+use Rattle.std.proofs.lemmas.Iterator.{first_from_Range}
 use Rattle.marks.specs.Reach.{fresh}
-use Rattle.marks.proofs.Count.{one_more}
+use Rattle.marks.proofs.Searches.{lowest_found}
 use Rattle.marks.proofs.next.Goals as goal
 
-pub returns-then-fresh : goal.returns-then-fresh
-returns-then-fresh c = sym (c.loop-j.invariant.1
-    ∙ rw (one_more c.loop-j.j c.loop-j-test.true, ← c.fresh.ensures, c.if-fresh.true))
-
-pub loop-j-preserved : goal.loop-j-preserved
-loop-j-preserved c = (
-  search rules,
-  c.loop-j.invariant.1
-      ∙ rw (one_more c.loop-j.j c.loop-j-test.true, ← c.fresh.ensures, c.if-fresh.false),
-)
-
 pub returns : goal.returns
-returns c = let e : c.loop-j.j ≡ 8 = omega arith in sym (c.loop-j.invariant.1 ∙ rw e)
+returns c = c.unwrap_or.ensures ∙ lowest_found (fresh c.args.rows c.args.working c.args.seen) _
+    (first_from_Range _ _ _ _ (λ k. fresh c.args.rows c.args.working c.args.seen k ≡ true) (λ k. fresh c.args.rows c.args.working c.args.seen k ≡ false) c.find.ensures.ran (λ x q k. search rules) (λ x q k. search rules))

@@ -1,7 +1,9 @@
--- `without` asks each number once.
-use Rattle.marks.specs.Marks.{without}
+-- The row is that of what its closure gives at each number.
+use Rattle.std.proofs.Common.{rules}
+use Rattle.marks.specs.Marks.{without, in_first}
+use Rattle.marks.proofs.Rows.{row_of_calls}
 use Rattle.marks.proofs.without.Goals as goal
 
 pub returns : goal.returns
 unfolding without
-returns c = rw (c.in_first-8.ensures, c.in_first-7.ensures, c.in_first-6.ensures, c.in_first-5.ensures, c.in_first-4.ensures, c.in_first-3.ensures, c.in_first-2.ensures, c.in_first.ensures)
+returns c = row_of_calls _ (in_first c.args.a c.args.b) _ (λ i y q l called. search rules) _ c.from_fn.ensures.items

@@ -2,10 +2,10 @@
 use Rattle.packet.specs.Packet.{fits}
 use Rattle.packet.proofs.fits.Goals as goal
 
-pub returns-in-Unchecked : goal.returns-in-Unchecked
+pub returns-in-None : goal.returns-in-None
 unfolding fits
-returns-in-Unchecked c = rw (← c.own_check-right.ensures, c.in-Unchecked.is)
+returns-in-None c = rw c.in-None.is
 
-pub returns-in-Checked : goal.returns-in-Checked
+pub returns-in-Some : goal.returns-in-Some
 unfolding fits
-returns-in-Checked c = rw (← c.own_check-right.ensures, c.in-Checked.is)
+returns-in-Some c = rw (c.own_check.ensures, c.in-Some.is)

@@ -2,10 +2,10 @@
 use Rattle.packet.specs.Packet.{hurt_by}
 use Rattle.packet.proofs.hurt_by.Goals as goal
 
-pub returns-in-Unchecked : goal.returns-in-Unchecked
+pub returns-in-None : goal.returns-in-None
 unfolding hurt_by
-returns-in-Unchecked c = rw c.in-Unchecked.is
+returns-in-None c = rw c.in-None.is
 
-pub returns-in-Checked : goal.returns-in-Checked
+pub returns-in-Some : goal.returns-in-Some
 unfolding hurt_by
-returns-in-Checked c = rw (c.in-Checked.is, c.shifted-number.ensures)
+returns-in-Some c = rw (c.in-Some.is, c.shifted-number.ensures)

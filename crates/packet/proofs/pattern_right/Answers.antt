@@ -1,20 +1,13 @@
 -- `pattern_right` asks one after the other.
-use borrow.Author.Tests.{lt-ltb, le-ltb}
+use Rattle.std.proofs.Common.{arith}
+use Rattle.std.proofs.lemmas.Grind.{common_steps}
 use Rattle.packet.specs.Packet.{pattern_right}
 use Rattle.packet.proofs.pattern_right.Goals as goal
 
-pub returns-then-inside : goal.returns-then-inside
+pub returns-then-shifted-lt4294967296 : goal.returns-then-shifted-lt4294967296
 unfolding pattern_right
-returns-then-inside c = rw (← c.in_reach-reach.ensures, ← c.shifted-inside.ensures, ← c.may_shift-allowed.ensures, lt-ltb _ _ c.if-changes.true, c.if-reach.true, lt-ltb _ _ c.if-inside.true)
+returns-then-shifted-lt4294967296 c = grind (arith, common_steps)
 
-pub returns-else-inside : goal.returns-else-inside
+pub returns-else-shifted-lt4294967296 : goal.returns-else-shifted-lt4294967296
 unfolding pattern_right
-returns-else-inside c = rw (← c.in_reach-reach.ensures, ← c.shifted-inside.ensures, ← c.may_shift-allowed.ensures, lt-ltb _ _ c.if-changes.true, c.if-reach.true, le-ltb _ _ c.if-inside.false)
-
-pub returns-else-reach : goal.returns-else-reach
-unfolding pattern_right
-returns-else-reach c = rw (← c.in_reach-reach.ensures, lt-ltb _ _ c.if-changes.true, c.if-reach.false)
-
-pub returns-else-changes : goal.returns-else-changes
-unfolding pattern_right
-returns-else-changes c = rw (le-ltb _ _ c.if-changes.false)
+returns-else-shifted-lt4294967296 c = grind (arith, common_steps)

@@ -1,17 +1,13 @@
--- `packet::shifted` meets its contract, by the two tests, and then the one shift.
-use Rattle.std.proofs.Common.{le-leb}
-use borrow.Author.Tests.{lt-leb}
+-- `packet::shifted` meets its contract, by whether the shift is in reach.
+use Rattle.std.proofs.Common.{arith}
+use Rattle.std.proofs.lemmas.Grind.{common_steps}
 use Rattle.packet.specs.Packet.{shifted}
 use Rattle.packet.proofs.shifted.Goals as goal
 
-pub returns-then-w-le2 : goal.returns-then-w-le2
+pub returns-then-in_reach : goal.returns-then-in_reach
 unfolding shifted
-returns-then-w-le2 c = rw (c.moved_up.ensures, le-leb _ _ c.if-w-le7.true, le-leb _ _ c.if-w-le2.true)
+returns-then-in_reach c = grind (arith, common_steps)
 
-pub returns-else-w-le2 : goal.returns-else-w-le2
+pub returns-else-in_reach : goal.returns-else-in_reach
 unfolding shifted
-returns-else-w-le2 c = rw (le-leb _ _ c.if-w-le7.true, lt-leb _ _ c.if-w-le2.false)
-
-pub returns-else-w-le7 : goal.returns-else-w-le7
-unfolding shifted
-returns-else-w-le7 c = rw (lt-leb _ _ c.if-w-le7.false)
+returns-else-in_reach c = grind (arith, common_steps)

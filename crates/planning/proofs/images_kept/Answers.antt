@@ -1,7 +1,8 @@
--- `images_kept` asks each cabinet by one `image_kept`.
-use Rattle.protocol.specs.Points.{images_kept}
+use Rattle.std.proofs.Common.{rules}
+use Rattle.protocol.specs.Points.{images_kept, image_kept}
+use Rattle.marks.proofs.Rows.{row_of_calls}
 use Rattle.planning.proofs.images_kept.Goals as goal
 
 pub returns : goal.returns
 unfolding images_kept
-returns c = rw (c.image_kept-8.ensures, c.image_kept-7.ensures, c.image_kept-6.ensures, c.image_kept-5.ensures, c.image_kept-4.ensures, c.image_kept-3.ensures, c.image_kept-2.ensures, c.image_kept.ensures)
+returns c = row_of_calls _ (image_kept c.args.g) _ (λ i y q l called. search rules) _ c.from_fn.ensures.items

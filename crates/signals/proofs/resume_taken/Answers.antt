@@ -1,15 +1,24 @@
--- `resume_taken`, by the state of the cabinet.
+-- `resume_taken`, by the state.
+use Rattle.std.proofs.Common.{◌≡◌, rules}
+use Rattle.state.specs.State.{is_in}
+use Rattle.state.specs.declared.State.TheVariants.{Checkpointed}
 use Rattle.signals.specs.Signals.{resume_taken}
 use Rattle.signals.proofs.resume_taken.Goals as goal
 
-pub returns-then-is_in : goal.returns-then-is_in
+pub returns-then-eq : goal.returns-then-eq
 unfolding resume_taken
-returns-then-is_in c = rw (c.adopt.ensures, ← c.is_in.ensures, c.if-is_in.true)
+returns-then-eq c =
+    let e : c.eq.result ≡ is_in c.args.s.cabinet.phase.state Checkpointed = search rules in
+    rw (c.adopt.ensures, ← e, c.if-eq.true)
 
 pub returns-then-resumes_from : goal.returns-then-resumes_from
 unfolding resume_taken
-returns-then-resumes_from c = rw (c.end_recovery.ensures, ← c.is_in.ensures, c.if-is_in.false, ← c.resumes_from.ensures, c.if-resumes_from.true)
+returns-then-resumes_from c =
+    let e : c.eq.result ≡ is_in c.args.s.cabinet.phase.state Checkpointed = search rules in
+    rw (c.end_recovery.ensures, ← e, c.if-eq.false, ← c.resumes_from.ensures, c.if-resumes_from.true)
 
 pub returns-else-resumes_from : goal.returns-else-resumes_from
 unfolding resume_taken
-returns-else-resumes_from c = rw (← c.is_in.ensures, c.if-is_in.false, ← c.resumes_from.ensures, c.if-resumes_from.false)
+returns-else-resumes_from c =
+    let e : c.eq.result ≡ is_in c.args.s.cabinet.phase.state Checkpointed = search rules in
+    rw (← e, c.if-eq.false, ← c.resumes_from.ensures, c.if-resumes_from.false)

@@ -4,4 +4,4 @@ use Rattle.survey.proofs.crash_all.Goals as goal
 
 pub returns : goal.returns
 unfolding crash_all
-returns c = rw c.crashing_ones-cabinets.ensures
+returns c = rw c.crashing_ones.ensures

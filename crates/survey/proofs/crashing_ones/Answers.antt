@@ -1,7 +1,10 @@
--- `survey::crashing_ones` meets its contract.
-use Rattle.group.specs.Group.{crash_all}
+-- `survey::crashing_ones` asks each of the eight.
+use Rattle.std.proofs.Common.{rules}
+use Rattle.marks.proofs.Rows.{row_of_calls}
+use Rattle.cabinet.specs.Cabinet.{crashing}
+use Rattle.group.specs.Group.{cabinet, crash_all}
 use Rattle.survey.proofs.crashing_ones.Goals as goal
 
 pub returns : goal.returns
 unfolding crash_all
-returns c = rw (c.crashing_at-8.ensures, c.crashing_at-7.ensures, c.crashing_at-6.ensures, c.crashing_at-5.ensures, c.crashing_at-4.ensures, c.crashing_at-3.ensures, c.crashing_at-2.ensures, c.crashing_at.ensures)
+returns c = row_of_calls _ (λ i. crashing (cabinet c.args.g i)) _ (λ i y q l called. search rules) _ c.from_fn.ensures.items

@@ -2,6 +2,10 @@
 use Rattle.group.specs.Group.{quiet}
 use Rattle.survey.proofs.quiet.Goals as goal
 
-pub returns : goal.returns
+pub returns-then-covers : goal.returns-then-covers
 unfolding quiet
-returns c = rw (c.and.ensures, c.some-still.ensures, c.laden_ones.ensures, c.covers-settled.ensures, c.working.ensures, c.normal_ones.ensures)
+returns-then-covers c = rw (← c.normal_ones.ensures, ← c.working.ensures, ← c.covers.ensures, c.if-covers.true, ← c.laden_ones.ensures, ← c.some.ensures)
+
+pub returns-else-covers : goal.returns-else-covers
+unfolding quiet
+returns-else-covers c = rw (← c.normal_ones.ensures, ← c.working.ensures, ← c.covers.ensures, c.if-covers.false)

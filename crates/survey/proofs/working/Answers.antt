@@ -1,7 +1,10 @@
--- `survey::working` meets its contract.
-use Rattle.group.specs.Group.{working}
+-- `survey::working` asks each of the eight.
+use Rattle.std.proofs.Common.{rules}
+use Rattle.marks.proofs.Rows.{row_of_calls}
+use Rattle.state.specs.State.{works}
+use Rattle.group.specs.Group.{state_of, working}
 use Rattle.survey.proofs.working.Goals as goal
 
 pub returns : goal.returns
 unfolding working
-returns c = rw (c.works_at-8.ensures, c.works_at-7.ensures, c.works_at-6.ensures, c.works_at-5.ensures, c.works_at-4.ensures, c.works_at-3.ensures, c.works_at-2.ensures, c.works_at.ensures)
+returns c = row_of_calls _ (λ i. works (state_of c.args.g i)) _ (λ i y q l called. search rules) _ c.from_fn.ensures.items

@@ -1,6 +1,6 @@
 -- `answer_line`: its parts in order.
-use Rattle.buffer.proofs.Texts.{then}
+use Rattle.buffer.proofs.Texts.{and_then}
 use Rattle.text.proofs.answer_line.Goals as goal
 
 pub returns : goal.returns
-returns c = then (then (then c.word-at.ensures c.number-at.ensures) c.number-at-2.ensures) c.end_line.ensures
+returns c = and_then (and_then (and_then c.word.ensures c.number.ensures) c.number-2.ensures) c.put.ensures

@@ -1,6 +1,6 @@
 -- `cab_line`: its parts in order.
-use Rattle.buffer.proofs.Texts.{then}
+use Rattle.buffer.proofs.Texts.{and_then}
 use Rattle.text.proofs.cab_line.Goals as goal
 
 pub returns : goal.returns
-returns c = then (then (then c.word-at.ensures c.number-at.ensures) c.cab_rest-at.ensures) c.end_line.ensures
+returns c = and_then (and_then (and_then c.word.ensures c.number.ensures) c.cab_rest.ensures) c.put.ensures

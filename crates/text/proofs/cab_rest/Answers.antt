@@ -1,12 +1,17 @@
--- `cab_rest`: the state alone, or the state with version and bookings.
-use Rattle.buffer.proofs.Texts.{then}
-use Rattle.text.proofs.Cabinets.{all_fields}
+-- `cab_rest`: the state with version and bookings.
+use Rattle.buffer.proofs.Texts.{and_then}
 use Rattle.text.proofs.cab_rest.Goals as goal
 
 pub returns-then-works : goal.returns-then-works
-returns-then-works c = let w = rw c.booking-then-works-2.ensures at c.number.ensures in
-    let b = rw c.booking-then-works.ensures at c.number-at-then-works.ensures in
-    let a = rw c.booking.ensures at c.number-at.ensures in
-    let version = rw c.version_octet.ensures at c.put-at-then-works-2.ensures in
-    all_fields c.args.c c.works.ensures c.if-works.true
-    (then c.put-at.ensures (then c.state_word-at.ensures (then (then c.put-at-then-works.ensures version) (then (then a b) w))))
+returns-then-works c =
+    rw (
+      ← c.works.ensures,
+      c.if-works.true,
+      ← c.state_word.ensures,
+      ← c.version_octet.ensures,
+      ← c.booking.ensures,
+      ← c.booking-then-works.ensures,
+      ← c.booking-then-works-2.ensures,
+    )
+    (and_then c.put.ensures (and_then c.word.ensures (and_then (and_then c.put-then-works.ensures c.put-then-works-2.ensures)
+    (and_then (and_then c.number.ensures c.number-then-works.ensures) c.number-then-works-2.ensures))))

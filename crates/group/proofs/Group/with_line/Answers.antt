@@ -1,7 +1,8 @@
--- `group::Group::with_line` meets its contract.
+-- `group::Group::with_line` meets its contract: the definition unfolds.
+use Rattle.std.proofs.Common.{rules}
 use Rattle.group.specs.Group.{with_line}
 use Rattle.group.proofs.Group.with_line.Goals as goal
 
 pub returns : goal.returns
 unfolding with_line
-returns c = rw (c.with_outgoing.ensures, c.with_line_to.ensures, c.outgoing-o.ensures)
+returns c = search rules

@@ -1,7 +1,8 @@
--- `group::Group::with_sound` meets its contract.
+-- `group::Group::with_sound` meets its contract: the definition unfolds.
+use Rattle.std.proofs.Common.{rules}
 use Rattle.group.specs.Group.{with_sound}
 use Rattle.group.proofs.Group.with_sound.Goals as goal
 
 pub returns : goal.returns
 unfolding with_sound
-returns c = rw c.of_rows-sound.ensures
+returns c = search rules

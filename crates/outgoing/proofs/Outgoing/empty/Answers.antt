@@ -1,7 +1,8 @@
--- `outgoing::Outgoing::empty` meets its contract.
+-- A row of empty lines.
+use Rattle.std.proofs.Common.{rules}
 use Rattle.outgoing.specs.Lines.{empty_lines}
 use Rattle.outgoing.proofs.Outgoing.empty.Goals as goal
 
 pub returns : goal.returns
 unfolding empty_lines
-returns c = rw c.empty-line.ensures
+returns c = search rules

@@ -1,18 +1,13 @@
--- `outgoing::Outgoing::with_line_to` meets its contract: past the last line nothing is set.
-use borrow.Author.Rules.{rules}
-use mathlib.Core.Path.{◌≡◌}
-use native.Mathlib.Omega.{arith}
-use lib.ListN.{length}
-use lib.Seq.{set_out}
+-- Past the last line nothing is set.
+use Rattle.std.proofs.Common.{rules, arith}
+use Rattle.std.proofs.lemmas.Grind.{common_steps}
 use Rattle.outgoing.specs.Lines.{with_line_to}
 use Rattle.outgoing.proofs.Outgoing.with_line_to.Goals as goal
 
-pub returns-then-k-lt8 : goal.returns-then-k-lt8
+pub returns-then-j-lt8 : goal.returns-then-j-lt8
 unfolding with_line_to
-returns-then-k-lt8 c = search rules
+returns-then-j-lt8 c = search rules
 
-pub returns-else-k-lt8 : goal.returns-else-k-lt8
+pub returns-else-j-lt8 : goal.returns-else-j-lt8
 unfolding with_line_to
-returns-else-k-lt8 c = let a = c.args in
-    let h : length a.self.lines ≡ 8 = search rules in
-    rw (set_out a.self.lines a.j a.l (omega arith))
+returns-else-j-lt8 c = grind (arith, common_steps)

@@ -4,4 +4,4 @@ use Rattle.packet.proofs.Check.step.Goals as goal
 
 pub returns : goal.returns
 unfolding crc_from
-returns c = rw (c.wrapping_add_u16.ensures.value, c.over_own.ensures, c.over_three.ensures)
+returns c = rw (c.over_own.ensures, c.over_three.ensures)

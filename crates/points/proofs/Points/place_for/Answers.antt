@@ -5,8 +5,8 @@ use Rattle.points.proofs.Points.place_for.Goals as goal
 
 pub returns-then-old-lt4 : goal.returns-then-old-lt4
 unfolding place_for
-returns-then-old-lt4 c = rw (← c.place_of-old.ensures, ← c.free_place-free.ensures, lt-ltb _ _ c.if-old-lt4.true)
+returns-then-old-lt4 c = rw (← c.place_of-old.ensures, lt-ltb _ _ c.if-old-lt4.true)
 
 pub returns-else-old-lt4 : goal.returns-else-old-lt4
 unfolding place_for
-returns-else-old-lt4 c = rw (← c.place_of-old.ensures, ← c.free_place-free.ensures, le-ltb _ _ c.if-old-lt4.false)
+returns-else-old-lt4 c = rw (c.free_place.ensures, ← c.place_of-old.ensures, le-ltb _ _ c.if-old-lt4.false)

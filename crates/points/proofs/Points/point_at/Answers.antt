@@ -1,20 +1,7 @@
--- `point_at_lem` meets its contract: past the last place it is the default.
-use borrow.Author.Rules.{rules}
-use mathlib.Core.Path.{◌≡◌, ◌∙◌, sym}
-use native.Mathlib.Omega.{arith}
-use lib.ListN.{length, get_or-eq_default}
-use Rattle.points.specs.Points.{no_point, point_at}
-use Rattle.marks.proofs.Lists.{get_d_in}
+-- `point_at` meets its contract: where no point stands it is the default.
+use Rattle.points.specs.Points.{point_at}
 use Rattle.points.proofs.Points.point_at.Goals as goal
 
-pub returns-then-k-lt4 : goal.returns-then-k-lt4
+pub returns : goal.returns
 unfolding point_at
-returns-then-k-lt4 c = let a = c.args in
-    let h : length a.self.places ≡ 4 = search rules in
-    get_d_in a.self.places a.i _ no_point (omega (arith, c.if-k-lt4.true))
-
-pub returns-else-k-lt4 : goal.returns-else-k-lt4
-unfolding point_at
-returns-else-k-lt4 c = let a = c.args in
-    let h : length a.self.places ≡ 4 = search rules in
-    c.none.ensures ∙ sym (get_or-eq_default a.self.places no_point {n = a.i} (omega (arith, c.if-k-lt4.false)))
+returns c = rw (c.unwrap_or.ensures, c.held_at.ensures, c.none.ensures)

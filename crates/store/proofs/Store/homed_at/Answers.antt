@@ -1,7 +1,8 @@
--- `homed_at` asks each number once.
-use Rattle.store.specs.Store.{homed_at}
+use Rattle.std.proofs.Common.{rules}
+use Rattle.marks.proofs.Rows.{row_of_calls}
+use Rattle.store.specs.Store.{is_homed_at, homed_at}
 use Rattle.store.proofs.Store.homed_at.Goals as goal
 
 pub returns : goal.returns
 unfolding homed_at
-returns c = rw (c.is_homed_at-8.ensures, c.is_homed_at-7.ensures, c.is_homed_at-6.ensures, c.is_homed_at-5.ensures, c.is_homed_at-4.ensures, c.is_homed_at-3.ensures, c.is_homed_at-2.ensures, c.is_homed_at.ensures)
+returns c = row_of_calls _ (is_homed_at c.args.self c.args.a) _ (λ i y q l called. search rules) _ c.from_fn.ensures.items

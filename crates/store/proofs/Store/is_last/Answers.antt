@@ -1,7 +1,12 @@
--- `is_last` follows its definition, call by call.
+-- `is_last` asks one after the other.
+use Rattle.std.proofs.Common.{rules}
 use Rattle.store.specs.Store.{is_last}
 use Rattle.store.proofs.Store.is_last.Goals as goal
 
-pub returns : goal.returns
+pub returns-then-is_store : goal.returns-then-is_store
 unfolding is_last
-returns c = rw (c.and.ensures, c.is_present.ensures, c.partner.ensures, c.is_store.ensures)
+returns-then-is_store c = search rules
+
+pub returns-else-is_store : goal.returns-else-is_store
+unfolding is_last
+returns-else-is_store c = search rules

@@ -1,7 +1,7 @@
--- `leaves` follows its definition, call by call.
+-- `leaves` follows its definition.
 use Rattle.store.specs.Store.{leaves}
 use Rattle.store.proofs.Store.leaves.Goals as goal
 
 pub returns : goal.returns
 unfolding leaves
-returns c = rw (c.with_present.ensures, c.set_mark.ensures)
+returns c = rw c.set_mark.ensures

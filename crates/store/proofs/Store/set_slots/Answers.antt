@@ -1,8 +1,8 @@
--- `set_slots` follows its definition, call by call.
-use borrow.Author.Rules.{rules}
+-- `set_slots` follows its definition.
+use Rattle.std.proofs.Common.{refl}
 use Rattle.store.specs.Store.{set_slots}
 use Rattle.store.proofs.Store.set_slots.Goals as goal
 
 pub returns : goal.returns
 unfolding set_slots
-returns c = search rules
+returns c = refl

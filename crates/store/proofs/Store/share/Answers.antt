@@ -4,4 +4,4 @@ use Rattle.store.proofs.Store.share.Goals as goal
 
 pub returns : goal.returns
 unfolding share
-returns c = rw (c.marked-2.ensures, c.marked.ensures, c.slots_at-2.ensures, c.slots_at.ensures, c.number_at-p.ensures, c.number_at-h.ensures)
+returns c = rw (c.is_present-2.ensures, c.is_present.ensures, c.second_of.ensures, c.first_of.ensures, c.partner-partner.ensures, c.file_home-home.ensures)

@@ -7,13 +7,13 @@ use lib.Seq.{set_out}
 use Rattle.store.specs.Share.{with_share}
 use Rattle.store.proofs.Store.with_share.Goals as goal
 
-pub returns-then-k-lt8 : goal.returns-then-k-lt8
+pub returns-then-c-lt8 : goal.returns-then-c-lt8
 unfolding with_share
-returns-then-k-lt8 c = refl
+returns-then-c-lt8 c = refl
 
-pub returns-else-k-lt8 : goal.returns-else-k-lt8
+pub returns-else-c-lt8 : goal.returns-else-c-lt8
 unfolding with_share
-returns-else-k-lt8 c = let a = c.args in
+returns-else-c-lt8 c = let a = c.args in
     let h : length a.self.firsts ≡ 8 = search rules in
     let k : length a.self.seconds ≡ 8 = search rules in
     rw (set_out a.self.firsts a.c a.x.first (omega arith), set_out a.self.seconds a.c a.x.second (omega arith))

@@ -1,5 +1,0 @@
--- The measure of `decimal` is the number itself.
-use Rattle.buffer.proofs.+decimal.Given as goal
-
-abbrev pub decreases-decimal : goal.decreases-decimal
-decreases-decimal l = l.n

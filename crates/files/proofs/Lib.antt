@@ -1,0 +1,2 @@
+-- What a read adds to the front of a buffer.
+mod Front

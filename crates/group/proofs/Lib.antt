@@ -1,0 +1,2 @@
+-- What the methods of the row of eight leave.
+pub mod Mapped

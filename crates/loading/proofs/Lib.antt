@@ -1,0 +1,2 @@
+-- A load's answer by its refusal.
+pub mod Refused

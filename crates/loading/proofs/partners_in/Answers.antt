@@ -1,0 +1,7 @@
+use Rattle.std.proofs.Common.{rules}
+use Rattle.load.specs.Load.{partner_number}
+use Rattle.marks.proofs.Rows.{row_of_calls}
+use Rattle.loading.proofs.partners_in.Goals as goal
+
+pub returns : goal.returns
+returns c = row_of_calls _ (partner_number c.args.file.now) _ (λ i y q l called. search rules) _ c.from_fn.ensures.items

@@ -1,0 +1,7 @@
+use Rattle.std.proofs.Common.{rules}
+use Rattle.load.specs.Load.{is_store_in}
+use Rattle.marks.proofs.Rows.{row_of_calls}
+use Rattle.loading.proofs.stores_in.Goals as goal
+
+pub returns : goal.returns
+returns c = row_of_calls _ (is_store_in c.args.file.now) _ (λ i y q l called. search rules) _ c.from_fn.ensures.items

@@ -1,0 +1,2 @@
+-- What a load answers.
+pub mod Loading

@@ -1,2 +1,0 @@
--- The records of a plan.
-pub mod Operations

@@ -1,0 +1,2 @@
+-- What `all` answers over the entries.
+pub mod Entries
