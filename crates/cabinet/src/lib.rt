@@ -338,7 +338,7 @@ impl Cabinet {
     }
 
     // The fault packet of neighbour j has come.
-    // Kept: comparing, owing, saved_for, unsure_for and restored_for are like it at other rows of marks; each is one struct expression.
+    // Kept: saved_for, unsure_for and restored_for are like it at other rows of marks, comparing and owing nearly so; each is one struct expression.
     pub fn hearing(self, j: u8) -> Cabinet
         ensures { result ≡ hearing self j }
     {

@@ -94,6 +94,7 @@ fn all_slots(file: &[u8]) -> [Slots; 8]
 }
 
 // The number of the home of cabinet i, 8 past the last one.
+// Kept, here and in partner_number: 8 and no Option, as store::Store has them.
 fn home_number(file: &[u8], i: u16) -> u8
     ensures { result ≡ home_number file.now i }
 {

@@ -102,7 +102,7 @@ impl Points {
         4
     }
 
-    // Kept: like place_of but for the test; a closure for it would be no shorter than the loop.
+    // Like place_of but for the test; both are to be searches by `find` (docs/design-left.patch).
     fn free_place(self) -> u8
         ensures { result ≡ first_place (is_free self) }
     {

@@ -271,7 +271,7 @@ pub fn rows_in(file: &[u8]) -> [[bool; 8]; 8]
 {
     let mut rows = [[false; 8]; 8];
     for k in 0..link_count(file) {
-        // Kept: the check does not cover a call's result that is laid in an array that changes.
+        // Kept: in two lines, since the check does not cover an array that is assigned the result of a call that reads it.
         let more = with_link(rows, file, k);
         rows = more;
     }

@@ -11,7 +11,7 @@ use std::array;
 
 // The check registers of a cabinet's lines out and in, and which lines in had a normal packet
 // hurt since the register restarted.
-// Kept: three rows side by side: a packet changes one of them, and each is promised equal to its own definition.
+// Kept: three rows side by side: a normal packet changes one of them, and each is promised equal to its own definition.
 #[derive(Clone, Copy)]
 pub struct Registers {
     pub sent: [Check; 8],

@@ -57,6 +57,7 @@ pub fn there(i: u8, c: Cabinet) -> Cabinet
 }
 
 // .. and what stands there, a cabinet or a line, once it is changed: what stood there, past the eighth.
+// Kept: it is a test of the place and writes nothing.
 pub fn kept<T: Copy>(i: u8, changed: T, before: T) -> T
     ensures { result ≡ cond (ltb i 8) changed before }
 {

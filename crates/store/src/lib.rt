@@ -205,7 +205,7 @@ impl Store {
 
     // ---- the slots
 
-    // Kept, here and below: first and second are twins but for the field that they read; a shared form would pass all slots by value.
+    // Kept: like second_of but for the field; first_back and second_back are alike too, crossed, and each definition has its name.
     fn first_of(self, c: u8) -> Slots
         ensures { result ≡ first_of self c }
     {

@@ -30,7 +30,7 @@ pub enum Order {
     Return,
 }
 
-// The kinds of turn are closed, and each function below is one match on them, in the words of its definition.
+// The kinds of turn are closed, and below each question of a turn is one match on them, in the words of its definition.
 // Kept: enums and no closures or dyn: the run has to know which parts of the group a turn touches before it is done.
 // What changes one cabinet, the sender or the receiver, and the line between them.
 #[derive(Clone, Copy)]
@@ -131,7 +131,7 @@ fn plan_order(octets: &[u8]) -> Order
 }
 
 // How many octets a record has.
-// Kept: `plan`, here and above, is a flag that C passes (`kirsodza_chronicle`), and `operations_of plan` stands in the clauses.
+// Kept: `plan`, here, in order_of and in steps, replay and chronicle, is a flag that C passes (`kirsodza_chronicle`), and `operations_of plan` stands in the clauses.
 pub fn record_size(plan: bool) -> usize
     ensures { result ≡ record_size plan }
 {
