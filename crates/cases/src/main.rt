@@ -4,6 +4,8 @@
 // then the group file, the step records or the plan, and the expected text. Cases are numbered from 0.
 #![tactic(auto)]
 
+ghost use Rattle.std.specs.Prelude.{◌≡◌, ◌+◌, ◌*◌, get_or};
+
 use files::read_full;
 use std::fmt::{Display, Formatter};
 use std::fs::File;
@@ -61,14 +63,17 @@ impl Display for Tally {
 
 // ---- one case
 
-fn number(octets: [u8; 4]) -> usize {
+fn number(octets: [u8; 4]) -> usize
+    ensures { result ≡ ((get_or octets 0 0 * 256 + get_or octets 1 0) * 256 + get_or octets 2 0) * 256 + get_or octets 3 0 }
+{
     u32::from_be_bytes(octets) as usize
 }
 
-// Reads the input's next n octets to the start of the buffer, which has room for those of each case
-// that is stored.
+// Reads the input's next n octets to the start of the buffer, or as many as it has room for: all of
+// each case that is stored.
 fn part<'b>(input: &mut impl Read, buffer: &'b mut [u8], n: usize) -> Result<&'b [u8], Broken> {
-    let octets = buffer.get_mut(..n).ok_or(Broken)?;
+    let room = n.min(buffer.len());
+    let octets = &mut buffer[..room];
     if read_full(input, octets) < n {
         return Err(Broken);
     }
@@ -151,8 +156,8 @@ fn container<F: Fn(&[u8], &[u8], &[u8]) -> bool>(
 {
     match File::open(rt, path) {
         Ok(mut file) => {
-            print!(rt; "{name}: ")?;
-            println!(rt; "{}", run_all(agrees, &mut file))
+            print!(rt; "{name}")?;
+            println!(rt; ": {}", run_all(agrees, &mut file))
         }
         Err(e) => {
             let _ = fail(rt, path, &e);

@@ -86,10 +86,10 @@ impl Group {
     pub fn cabinet(self, i: u8) -> Cabinet
         ensures { result ≡ cabinet self i }
     {
-        self.cabinets
-            .get(i as usize)
-            .copied()
-            .unwrap_or_else(Cabinet::absent)
+        match self.cabinets.get(i as usize) {
+            Some(c) => *c,
+            None => Cabinet::absent(),
+        }
     }
 
     // Kept, here and in with_outgoing and with_trips_of: a test and a write, as in marks::set_mark.
@@ -112,10 +112,10 @@ impl Group {
     pub fn outgoing(self, i: u8) -> Outgoing
         ensures { result ≡ outgoing self i }
     {
-        self.outgoing
-            .get(i as usize)
-            .copied()
-            .unwrap_or_else(Outgoing::empty)
+        match self.outgoing.get(i as usize) {
+            Some(o) => *o,
+            None => Outgoing::empty(),
+        }
     }
 
     pub fn with_outgoing(self, i: u8, o: Outgoing) -> Group

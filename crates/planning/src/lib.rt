@@ -25,10 +25,21 @@ fn image_kept(g: Group, i: u8) -> Image
     g.slot(g.home(i), i, state::bit_of(g.cabinet(i).phase.version))
 }
 
+// Kept: written out by number. By `array::from_fn` the lines of the group are copied for each of the eight, and a point takes nearly twice as long.
+#[tactic(auto, unfolding(protocol::specs::Points::images_kept))]
 fn images_kept(g: Group) -> [Image; 8]
     ensures { result ≡ images_kept g }
 {
-    array::from_fn(|i| image_kept(g, i as u8))
+    [
+        image_kept(g, 0),
+        image_kept(g, 1),
+        image_kept(g, 2),
+        image_kept(g, 3),
+        image_kept(g, 4),
+        image_kept(g, 5),
+        image_kept(g, 6),
+        image_kept(g, 7),
+    ]
 }
 
 fn point_of(g: Group, name: [u8; 8]) -> Point
@@ -48,12 +59,12 @@ fn may_take_point(points: Points, g: Group, name: [u8; 8]) -> Result<(), Refusal
     Refusal::NoPlaceLeft.unless(points.place_for(name) < 4)
 }
 
-#[tactic(auto, unfolding(protocol::specs::Points::take_point))]
+#[tactic(auto, unfolding(protocol::specs::Points::take_point, points::specs::Points::with_point))]
 pub fn take_point(points: Points, g: Group, name: [u8; 8]) -> Result<Points, Refusal>
     ensures { noted_after points result ≡ take_point points g name }
 {
     may_take_point(points, g, name)?;
-    Ok(points.with_point(points.place_for(name), point_of(g, name)))
+    Ok(points.with_point(points.place_for(name), Some(point_of(g, name))))
 }
 
 // What the run of records stores after it: the answer with the points, which a refusal leaves as they were.

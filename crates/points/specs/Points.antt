@@ -25,8 +25,12 @@ is_kept ps i = is_some (held_at ps i)
 unfoldable pub point_at : Points → ℕ → Point
 point_at ps i = unwrap_or (held_at ps i) no_point
 
+-- place i with this point, or free
+abbrev pub with_place : Points → ℕ → Option Point → Points
+with_place ps i p = record { places = set ps.places i p }
+
 unfoldable pub with_point : Points → ℕ → Point → Points
-with_point ps i p = record { places = set ps.places i (Some p) }
+with_point ps i p = with_place ps i (Some p)
 
 -- the image that a point has of cabinet i
 unfoldable pub image_at : Point → ℕ → Image

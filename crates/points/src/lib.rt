@@ -2,7 +2,7 @@
 #![tactic(auto)]
 
 ghost use Rattle.std.specs.Prelude.{◌≡◌};
-ghost use Rattle.points.specs.Points.{no_point, no_points, held_at, point_at, with_point, image_at, is_named, is_free, first_place, place_of, place_for};
+ghost use Rattle.points.specs.Points.{no_point, no_points, held_at, point_at, with_place, image_at, is_named, is_free, first_place, place_of, place_for};
 
 use image::Image;
 
@@ -50,7 +50,7 @@ impl Points {
     }
 
     // The point at place i, if one stands there.
-    fn held_at(self, i: u8) -> Option<Point>
+    pub fn held_at(self, i: u8) -> Option<Point>
         ensures { result ≡ held_at self i }
     {
         self.places.get(i as usize).copied().unwrap_or(None)
@@ -62,13 +62,14 @@ impl Points {
         self.held_at(i).unwrap_or(Point::none())
     }
 
+    // Puts a point at place i, or frees the place.
     // Kept: a test and a write, as in marks::set_mark.
-    pub fn with_point(self, i: u8, p: Point) -> Points
-        ensures { result ≡ with_point self i p }
+    pub fn with_point(self, i: u8, p: Option<Point>) -> Points
+        ensures { result ≡ with_place self i p }
     {
         let mut points = self;
         if i < 4 {
-            points.places[i as usize] = Some(p);
+            points.places[i as usize] = p;
         }
         points
     }

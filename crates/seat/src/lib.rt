@@ -25,8 +25,8 @@ pub struct Spot {
     pub line: Line,
 }
 
-// What the run of records stores after a turn: the answer with what is left, which after a refusal is what stood there.
-// Kept, here and in SpotAnswer: a number beside what is left: the run stores both at each turn, and the definitions of the kinds name both, each by
+// What a turn gives to the run of records: the answer with what is left, which after a refusal is what stood there.
+// Kept, here and in SpotAnswer: a number beside what is left: the run stores the number at each turn, and the definitions of the kinds name both, each by
 // its own name, so that no one struct of any type stands for these two, saving::KeptAnswer, group::Outcome and protocol::Noted.
 #[derive(Clone, Copy)]
 pub struct SeatAnswer {

@@ -26,6 +26,7 @@ use Rattle.store.specs.Store.{is_away}
 use Rattle.store.specs.Share.{share, with_share, serves_in}
 use Rattle.group.specs.declared.Row.{Row}
 use Rattle.group.specs.declared.Group.{Group}
+use Rattle.group.specs.declared.Outcome.{Outcome}
 use Rattle.group.specs.Group.{cabinet, with_cabinet, outgoing, with_outgoing, line, with_line, with_settled, no_row, answering}
 use Rattle.survey.specs.Survey.{any_of}
 use Rattle.survey.proofs.Rows.{any_crashed, any_recovering}
@@ -45,6 +46,7 @@ use Rattle.turns.specs.declared.Report.{Report}
 use Rattle.turns.specs.Turns.{linked, turn_of, doer, deed_done, line_left, call_done, word_left, piece_done, coordinator_of, report_refusal, home_left, reported, concluded, trips_left, word_of, closes_with}
 use Rattle.turns.specs.Stored.{turn_in, deed_stored, call_stored, kept_stored, piece_stored, report_taken, report_at, report_stored}
 use Rattle.turns.proofs.Same.{Eight, coordinator_below}
+use Rattle.turns.proofs.Refused.{deed_refused_same, piece_refused_same}
 
 -- ---- the turn
 
@@ -90,6 +92,15 @@ deed_arm g x d a b i k who cx c changed ox left on l keeps r h ei eon el ew ek e
     let same : r ≡ deed_done d (get_or g.cabinets (doer d a b) absent) (line_to (get_or g.outgoing a empty_lines) b) a b g.packets =
     er ∙ rw (ec, el, eon, ek, ei, ew, cabinet_there g.cabinets (doer d a b) cx h.cabinets, line_there_lem g.outgoing a b ox h.outgoing) in
     rw (← same, eleft, ekeeps, eon, ech, ek, ei, ew, cabinet_kept g.cabinets (doer d a b) cx r.cabinet h.cabinets, line_kept_lem g.outgoing a b ox r.line h.outgoing)
+
+pub deed_refused : (g : Group) (x : Settled) (d : Deed) (a b i k who : ℕ) (cx c : Cabinet) (ox : Outgoing) (on l : Line) (r : SpotAnswer) → Eight g
+    → i ≡ a % 8 → on ≡ line_to (get_or g.outgoing i ox) b → l ≡ line_there a on → who ≡ doer d a b → k ≡ who % 8
+    → c ≡ there who (get_or g.cabinets k cx) → r ≡ deed_done d c l a b g.packets → (r.answer ≡ 0 → ⊥)
+    → deed_stored d (with_settled g x) a b ≡ answering r.answer (with_settled g x)
+deed_refused g x d a b i k who cx c ox on l r h ei eon el ew ek ec er z =
+    let said : (deed_stored d (with_settled g x) a b).answer ≡ r.answer =
+    ap (λ (o : Outcome). o.answer) (deed_arm g x d a b i k who cx c _ ox _ on l _ r h ei eon el ew ek ec er refl refl refl) in
+    deed_refused_same d (with_settled g x) a b (λ e. z (sym said ∙ e)) ∙ ap (λ (n : ℕ). answering n (with_settled g x)) said
 
 -- ---- the line from a to b, then b's cabinet and all its lines
 
@@ -150,6 +161,15 @@ piece_arm g x d a i h k cx c hx home changed ex owing sh store r e8 ei ec esh eh
     let long : length (set g.cabinets a r.cabinet) ≡ 8 = length-set g.cabinets a r.cabinet ∙ e8.cabinets in
     let owed = owed_by (set g.cabinets a r.cabinet) h k a ex owing r.owes (ltb h 8) long ek refl (eow ∙ rw cs) in
     rw (← same, est, cs, owed, eh, esh)
+
+pub piece_refused : (g : Group) (x : Settled) (d : Piece) (a i h k : ℕ) (cx c hx home : Cabinet) (sh : Share) (r : KeptAnswer) → Eight g
+    → i ≡ a % 8 → c ≡ there a (get_or g.cabinets i cx) → sh ≡ share g.store a → h ≡ serves_in sh → k ≡ h % 8
+    → home ≡ there h (get_or g.cabinets k hx) → r ≡ piece_done d c home sh a → (r.answer ≡ 0 → ⊥)
+    → piece_stored d (with_settled g x) a ≡ answering r.answer (with_settled g x)
+piece_refused g x d a i h k cx c hx home sh r e8 ei ec esh eh ek ehome er z =
+    let said : (piece_stored d (with_settled g x) a).answer ≡ r.answer =
+    ap (λ (o : Outcome). o.answer) (piece_arm g x d a i h k cx c hx home _ cx _ sh _ r e8 ei ec esh eh ek ehome er refl refl refl) in
+    piece_refused_same d (with_settled g x) a (λ e. z (sym said ∙ e)) ∙ ap (λ (n : ℕ). answering n (with_settled g x)) said
 
 -- ---- a home h, then a coordinator k
 

@@ -79,10 +79,12 @@ pub fn run(site: Site, plan: bool, list: &[u8], answers: &mut [u8]) -> Site
                 let cx = g.cabinets[k];
                 let r = turns::deed_done(deed, seat::there(x, cx), l, a, b, version);
                 at = buffer::put(answers, at, r.answer);
-                let changed = seat::kept(x, r.cabinet, cx);
-                let left = lines.with_line_to(b, seat::kept(a, r.line, line));
-                g.cabinets[k] = changed;
-                g.outgoing[i] = left;
+                if r.answer == 0 {
+                    let changed = seat::kept(x, r.cabinet, cx);
+                    let left = lines.with_line_to(b, seat::kept(a, r.line, line));
+                    g.cabinets[k] = changed;
+                    g.outgoing[i] = left;
+                }
             }
             // That line, then all lines of b: begin, and a signal heard.
             Turn::Call(call) => {
@@ -116,13 +118,15 @@ pub fn run(site: Site, plan: bool, list: &[u8], answers: &mut [u8]) -> Site
                 let ch = g.cabinets[k];
                 let r = turns::piece_done(piece, c, seat::there(h, ch), share, a);
                 at = buffer::put(answers, at, r.answer);
-                let changed = seat::kept(a, r.cabinet, ci);
-                let kept = store.with_share(a, r.share);
-                g.cabinets[i] = changed;
-                g.store = kept;
-                let home = g.cabinets[k];
-                let owing = saving::owe_if(owed_at(r.owes, h), home, a);
-                g.cabinets[k] = owing;
+                if r.answer == 0 {
+                    let changed = seat::kept(a, r.cabinet, ci);
+                    let kept = store.with_share(a, r.share);
+                    g.cabinets[i] = changed;
+                    g.store = kept;
+                    let home = g.cabinets[k];
+                    let owing = saving::owe_if(owed_at(r.owes, h), home, a);
+                    g.cabinets[k] = owing;
+                }
             }
             // A home, then a coordinator: saved, restored and unsure.
             Turn::Report(report) => {

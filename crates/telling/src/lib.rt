@@ -7,10 +7,19 @@ ghost use Rattle.std.proofs.lemmas.List.Edits.{sets};
 ghost use Rattle.load.specs.Load.{load};
 ghost use Rattle.protocol.specs.Listing.{records};
 ghost use Rattle.protocol.specs.History.{steps};
-ghost use Rattle.protocol.specs.Word.{word};
+ghost use Rattle.protocol.specs.Word.{which_word, word};
 ghost use Rattle.replay.specs.Replay.{EndsWell};
 
 use buffer::Writer;
+use group::Group;
+use settled::First;
+
+// What the group tells; a refusal by its number.
+fn told(g: Group) -> Result<First, u8>
+    ensures { result ≡ which_word g }
+{
+    asking::which_word(g).map_err(u8::from)
+}
 
 // The line for a group file and a list of step records, of which the first 10,000 count: its length,
 // and its octets stored in the buffer from the start as far as the buffer reaches. It has at most 17
@@ -29,7 +38,7 @@ pub fn write_word(file: &[u8], list: &[u8], out: &mut [u8]) -> usize
     let mut text = Writer { out, end: 0 };
     match replayed {
         Ok(group) => {
-            text::word_line(&mut text, asking::which_word(group));
+            text::word_line(&mut text, told(group));
             text.end
         }
         Err(refusal) => {

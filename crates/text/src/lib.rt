@@ -13,12 +13,10 @@ ghost use Rattle.protocol.specs.Listing.{
 ghost use Rattle.protocol.specs.Evening.{word_of};
 ghost use Rattle.protocol.specs.Word.{numbers_of, spaced, word_line};
 ghost use Rattle.buffer.specs.Added.{Added};
-ghost use Rattle.refusal.specs.Refusal.{numbered};
 
 use buffer::Writer;
 use cabinet::Cabinet;
 use outlet::Outlet;
-use refusal::Refusal;
 use settled::First;
 use state::Version;
 
@@ -105,17 +103,18 @@ fn first_numbers(out: &mut Writer, first: First)
     out.number(u8::from(first.reason) as u16);
 }
 
-fn told_numbers(out: &mut Writer, t: Result<First, Refusal>)
-    ensures { Added (spaced (numbers_of (numbered t))) out.old out.new }
+fn told_numbers(out: &mut Writer, t: Result<First, u8>)
+    ensures { Added (spaced (numbers_of t)) out.old out.new }
 {
     match t {
-        Err(refusal) => out.number(u8::from(refusal) as u16),
+        Err(number) => out.number(number as u16),
         Ok(first) => first_numbers(out, first),
     }
 }
 
-pub fn word_line(out: &mut Writer, t: Result<First, Refusal>)
-    ensures { Added (word_line (numbers_of (numbered t))) out.old out.new }
+// A refusal is told by its number.
+pub fn word_line(out: &mut Writer, t: Result<First, u8>)
+    ensures { Added (word_line (numbers_of t)) out.old out.new }
 {
     out.word(b"word");
     told_numbers(out, t);

@@ -2,12 +2,10 @@
 // Cabinets are numbered from 0 here.
 #![tactic(auto)]
 
-ghost use Rattle.std.specs.Prelude.{◌≡◌, true, false, length, drop};
+ghost use Rattle.std.specs.Prelude.{◌≡◌, true, length, drop};
 ghost use Rattle.turns.specs.Turns.{record_size, step_in, order_of, name_in, first_in, second_in, first_named, second_named, linked, refused_or, taken_turn, found, unless_recovering, step_turn, record_turn, turn_of, doer, deed_done, line_left, call_done, word_left, piece_done, coordinator_of, report_refusal, home_left, reported, concluded, trips_left, word_of, closes_with};
 ghost use Rattle.turns.specs.Stored.{whole_stored};
 ghost use Rattle.refusal.specs.Refusal.{answer_of};
-ghost use Rattle.seat.specs.Seat.{seat_after, spot_after};
-ghost use Rattle.saving.specs.Saving.{kept_after};
 
 use cabinet::Cabinet;
 use delivery::Finding;
@@ -316,26 +314,9 @@ pub fn doer(d: Deed, a: u8, b: u8) -> u8
     }
 }
 
+// Kept, here and in piece_done and call_done: `after` in each arm. One Result of all arms is taken apart field by field at each record, which takes a
+// quarter more time.
 #[tactic(auto, unfolding(crate::specs::Turns::deed_done))]
-fn spot_left(
-    d: Deed,
-    c: Cabinet,
-    l: Line,
-    a: u8,
-    b: u8,
-    version: PacketVersion,
-) -> Result<Spot, Refusal>
-    ensures { spot_after (record { cabinet = c; line = l }) result ≡ deed_done d c l a b version }
-{
-    match d {
-        Deed::Send { p, q } => sending::send(c, l, b, p, q, version),
-        Deed::Note { p, q } => sending::note(c, l, p, q),
-        Deed::Take => Ok(delivery::take(c, l, a)),
-        Deed::Damage { p, w } => Ok(hurting::damage(c, l, a, p, w)),
-        Deed::Lose { p } => Ok(hurting::lose(c, l, a, p)),
-    }
-}
-
 pub fn deed_done(d: Deed, c: Cabinet, l: Line, a: u8, b: u8, version: PacketVersion) -> SpotAnswer
     ensures { result ≡ deed_done d c l a b version }
 {
@@ -343,7 +324,13 @@ pub fn deed_done(d: Deed, c: Cabinet, l: Line, a: u8, b: u8, version: PacketVers
         cabinet: c,
         line: l,
     };
-    SpotAnswer::after(before, spot_left(d, c, l, a, b, version))
+    match d {
+        Deed::Send { p, q } => SpotAnswer::after(before, sending::send(c, l, b, p, q, version)),
+        Deed::Note { p, q } => SpotAnswer::after(before, sending::note(c, l, p, q)),
+        Deed::Take => SpotAnswer::after(before, Ok(delivery::take(c, l, a))),
+        Deed::Damage { p, w } => SpotAnswer::after(before, Ok(hurting::damage(c, l, a, p, w))),
+        Deed::Lose { p } => SpotAnswer::after(before, Ok(hurting::lose(c, l, a, p))),
+    }
 }
 
 // ---- a cabinet and all its lines
@@ -359,19 +346,13 @@ pub fn line_left(d: Call, l: Line) -> Line
 }
 
 #[tactic(auto, unfolding(crate::specs::Turns::call_done))]
-fn seat_left(d: Call, s: Seat, a: u8, b: u8, p: Packet) -> Result<Seat, Refusal>
-    ensures { seat_after s result ≡ call_done d s a b p }
-{
-    match d {
-        Call::Begin => saving::begin(s, a),
-        Call::Signal => Ok(delivery::hear(s, a, b, p)),
-    }
-}
-
 pub fn call_done(d: Call, s: Seat, a: u8, b: u8, p: Packet) -> SeatAnswer
     ensures { result ≡ call_done d s a b p }
 {
-    SeatAnswer::after(s, seat_left(d, s, a, b, p))
+    match d {
+        Call::Begin => SeatAnswer::after(s, saving::begin(s, a)),
+        Call::Signal => SeatAnswer::after(s, Ok(delivery::hear(s, a, b, p))),
+    }
 }
 
 // Which word settles the recovery then; cabinet b is c before it.
@@ -395,15 +376,6 @@ pub fn word_left(
 // ---- a cabinet and its slots
 
 #[tactic(auto, unfolding(crate::specs::Turns::piece_done))]
-fn piece_left(d: Piece, c: Cabinet, home: Cabinet, share: Share, a: u8) -> Result<Kept, Refusal>
-    ensures { kept_after (record { cabinet = c; share = share; owes = false }) result ≡ piece_done d c home share a }
-{
-    match d {
-        Piece::Write => saving::write(c, home, share, a),
-        Piece::Fetch => restoring::fetch(c, home, share),
-    }
-}
-
 pub fn piece_done(d: Piece, c: Cabinet, home: Cabinet, share: Share, a: u8) -> KeptAnswer
     ensures { result ≡ piece_done d c home share a }
 {
@@ -412,7 +384,10 @@ pub fn piece_done(d: Piece, c: Cabinet, home: Cabinet, share: Share, a: u8) -> K
         share,
         owes: false,
     };
-    KeptAnswer::after(before, piece_left(d, c, home, share, a))
+    match d {
+        Piece::Write => KeptAnswer::after(before, saving::write(c, home, share, a)),
+        Piece::Fetch => KeptAnswer::after(before, restoring::fetch(c, home, share)),
+    }
 }
 
 // ---- a home and a coordinator

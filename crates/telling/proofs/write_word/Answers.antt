@@ -7,7 +7,7 @@ use Rattle.telling.proofs.write_word.Goals as goal
 
 pub returns-in-Ok : goal.returns-in-Ok
 returns-in-Ok c = let a = c.args in
-    let text = accepted a.file.now a.list.now c.min-used.ensures (rw c.in-Ok.is at c.replay-replayed.ensures.value) refl c.which_word.ensures c.word_line.ensures.written in record {
+    let text = accepted a.file.now a.list.now c.min-used.ensures (rw c.in-Ok.is at c.replay-replayed.ensures.value) refl c.told.ensures c.word_line.ensures.written in record {
       value = text.0;
       out_after = search (rules, text.1.0);
       upper_bound = text.1.1;

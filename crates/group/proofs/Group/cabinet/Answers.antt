@@ -3,6 +3,10 @@ use Rattle.std.proofs.Common.{rules}
 use Rattle.group.specs.Group.{cabinet}
 use Rattle.group.proofs.Group.cabinet.Goals as goal
 
-pub returns : goal.returns
+pub returns-in-Some : goal.returns-in-Some
 unfolding cabinet
-returns c = search rules
+returns-in-Some c = search rules
+
+pub returns-in-None : goal.returns-in-None
+unfolding cabinet
+returns-in-None c = search rules

@@ -3,17 +3,13 @@ use borrow.Author.Rules.{rules}
 use mathlib.Core.Path.{◌≡◌, refl}
 use native.Mathlib.Omega.{arith}
 use lib.ListN.{length}
-use Rattle.std.proofs.Common.{Some}
 use lib.Seq.{set_out}
-use Rattle.points.specs.Points.{with_point}
 use Rattle.points.proofs.Points.with_point.Goals as goal
 
 pub returns-then-i-lt4 : goal.returns-then-i-lt4
-unfolding with_point
 returns-then-i-lt4 c = refl
 
 pub returns-else-i-lt4 : goal.returns-else-i-lt4
-unfolding with_point
 returns-else-i-lt4 c = let a = c.args in
     let h : length a.self.places ≡ 4 = search rules in
-    rw (set_out a.self.places a.i (Some a.p) (omega arith))
+    rw (set_out a.self.places a.i a.p (omega arith))
