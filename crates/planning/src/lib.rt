@@ -51,20 +51,20 @@ fn point_of(g: Group, name: [u8; 8]) -> Point
     }
 }
 
-fn may_take_point(points: Points, g: Group, name: [u8; 8]) -> Result<(), Refusal>
-    ensures { answer_of result ≡ point_refusal points g name }
+fn may_take_point(points: &Points, g: &Group, name: [u8; 8]) -> Result<(), Refusal>
+    ensures { answer_of result ≡ point_refusal points.now g.now name }
 {
-    Refusal::AfterCrash.unless(!survey::is_crashed(g))?;
-    Refusal::NotQuiet.unless(survey::quiet(g))?;
+    Refusal::AfterCrash.unless(!survey::is_crashed(*g))?;
+    Refusal::NotQuiet.unless(survey::is_quiet(g))?;
     Refusal::NoPlaceLeft.unless(points.place_for(name) < 4)
 }
 
 #[tactic(auto, unfolding(protocol::specs::Points::take_point, points::specs::Points::with_point))]
-pub fn take_point(points: Points, g: Group, name: [u8; 8]) -> Result<Points, Refusal>
-    ensures { noted_after points result ≡ take_point points g name }
+pub fn take_point(points: Points, g: &Group, name: [u8; 8]) -> Result<Points, Refusal>
+    ensures { noted_after points result ≡ take_point points g.now name }
 {
-    may_take_point(points, g, name)?;
-    Ok(points.with_point(points.place_for(name), Some(point_of(g, name))))
+    may_take_point(&points, g, name)?;
+    Ok(points.with_point(points.place_for(name), Some(point_of(*g, name))))
 }
 
 // What the run of records stores after it: the answer with the points, which a refusal leaves as they were.

@@ -74,26 +74,26 @@ impl Points {
         points
     }
 
-    // The point at place i has this name.
-    fn is_named(self, name: [u8; 8], i: u8) -> bool
-        ensures { result ≡ is_named self name i }
+    // The point at place i has this name. The places are lent, here and below, so that they are not copied for the question.
+    fn is_named(&self, name: [u8; 8], i: u8) -> bool
+        ensures { result ≡ is_named self.now name i }
     {
-        match self.held_at(i) {
-            Some(point) => point.name == name,
-            None => false,
+        match self.places.get(i as usize) {
+            Some(Some(point)) => point.name == name,
+            _ => false,
         }
     }
 
-    fn is_free(self, i: u8) -> bool
-        ensures { result ≡ is_free self i }
+    fn is_free(&self, i: u8) -> bool
+        ensures { result ≡ is_free self.now i }
     {
-        self.held_at(i).is_none()
+        !matches!(self.places.get(i as usize), Some(Some(_)))
     }
 
     // Where the point of this name is, 4 where there is none.
     // Kept: 4 and no Option, here and in `place_for`: the definitions say 4, and the checks 21 and 23 compare with it.
-    pub fn place_of(self, name: [u8; 8]) -> u8
-        ensures { result ≡ place_of self name }
+    pub fn place_of(&self, name: [u8; 8]) -> u8
+        ensures { result ≡ place_of self.now name }
     {
         for i in 0..4u8 {
             if self.is_named(name, i) {
@@ -104,8 +104,8 @@ impl Points {
     }
 
     // Like place_of but for the test; both are to be searches by `find` (docs/design-left.patch).
-    fn free_place(self) -> u8
-        ensures { result ≡ first_place (is_free self) }
+    fn free_place(&self) -> u8
+        ensures { result ≡ first_place (is_free self.now) }
     {
         for i in 0..4u8 {
             if self.is_free(i) {
@@ -116,8 +116,8 @@ impl Points {
     }
 
     // Where a point of this name goes, 4 where every place has another: a name used again keeps its place.
-    pub fn place_for(self, name: [u8; 8]) -> u8
-        ensures { result ≡ place_for self name }
+    pub fn place_for(&self, name: [u8; 8]) -> u8
+        ensures { result ≡ place_for self.now name }
     {
         let old = self.place_of(name);
         if old < 4 { old } else { self.free_place() }

@@ -12,12 +12,12 @@ use Rattle.points.specs.declared.Points.{Points}
 use Rattle.settled.specs.Settled.{Settled}
 use Rattle.group.specs.declared.Group.{Group}
 use Rattle.group.specs.declared.Outcome.{Outcome}
-use Rattle.group.specs.Group.{with_settled}
+use Rattle.group.specs.Group.{with_settled, cabinet, outgoing, is_crashed, quiet, working, normal_ones, laden_ones}
 use Rattle.buffer.specs.Written.{Written}
 use Rattle.protocol.specs.declared.Noted.{Noted}
 use Rattle.protocol.specs.declared.Site.{Site}
 use Rattle.protocol.specs.History.{pointing, returning}
-use Rattle.protocol.specs.Points.{take_point, return_to}
+use Rattle.protocol.specs.Points.{take_point, images_kept, return_to}
 use Rattle.protocol.specs.Evening.{operate, operate_all, answers_to}
 use Rattle.turns.specs.declared.Order.{Order}
 use Rattle.turns.specs.declared.Turn.{Turn}
@@ -49,6 +49,11 @@ pub pointed : (g : Group) (x : Settled) (ps : Points) (name : List ℕ) (n : Not
     → operate (site_of g x ps) (pointing name) ≡ record { answer = n.answer; site = site_of g x n.points }
 unfolding operate
 pointed g x ps name n e = rw e
+
+-- who settled the recovery is asked by no point
+pub point_without : (g : Group) (x : Settled) (ps : Points) (name : List ℕ) → take_point ps g name ≡ take_point ps (with_settled g x) name
+unfolding take_point images_kept is_crashed quiet working normal_ones laden_ones cabinet outgoing
+point_without g x ps name = refl
 
 pub returned : (g : Group) (x : Settled) (ps : Points) (name : List ℕ) (o : Outcome) → o ≡ return_to ps (with_settled g x) name
     → operate (site_of g x ps) (returning name) ≡ record { answer = o.answer; site = site_of o.group o.group.settled ps }

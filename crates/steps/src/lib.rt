@@ -176,11 +176,8 @@ pub fn run(site: Site, plan: bool, list: &[u8], answers: &mut [u8]) -> Site
                 settled = g.settled;
             }
             Turn::Point => {
-                let taken = planning::take_point(
-                    points,
-                    g.with_settled(settled),
-                    turns::name_in(record),
-                );
+                // Who settled the recovery is asked by no point.
+                let taken = planning::take_point(points, &g, turns::name_in(record));
                 let noted = planning::noted_after(points, taken);
                 at = buffer::put(answers, at, noted.answer);
                 points = noted.points;

@@ -65,11 +65,17 @@ fn laden_ones(g: Group) -> [bool; 8]
     array::from_fn(|i| has_laden(g, i as u8))
 }
 
-// Every working cabinet is in normal and every line empty.
+// Every working cabinet is in normal and every line empty. The group is lent, so that it is not copied for the question.
+pub fn is_quiet(g: &Group) -> bool
+    ensures { result ≡ quiet g.now }
+{
+    marks::covers(normal_ones(*g), working(*g)) && !some(laden_ones(*g))
+}
+
 pub fn quiet(g: Group) -> bool
     ensures { result ≡ quiet g }
 {
-    marks::covers(normal_ones(g), working(g)) && !some(laden_ones(g))
+    is_quiet(&g)
 }
 
 fn crashing_ones(g: Group) -> [Cabinet; 8]

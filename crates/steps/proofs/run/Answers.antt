@@ -11,7 +11,7 @@ use Rattle.turns.specs.Stored.{turn_in}
 use Rattle.turns.proofs.Same.{Below}
 use Rattle.steps.proofs.Turning.{made_of, call_below}
 use Rattle.steps.proofs.Arms.{turn_read, deed_arm, deed_refused, call_arm, piece_arm, piece_refused, report_refused, report_arm}
-use Rattle.steps.proofs.Holding.{eight_with, set_eight, pointed, returned, at_first, some_left, none_left, asked, going, at_last}
+use Rattle.steps.proofs.Holding.{eight_with, set_eight, pointed, point_without, returned, at_first, some_left, none_left, asked, going, at_last}
 use Rattle.steps.proofs.run.Goals as goal
 
 pub loop-rest-init : goal.loop-rest-init
@@ -246,7 +246,7 @@ loop-rest-preserved-in-Point c =
     (turn_read l.g l.settled o a b _ _ _ _ _ _ e8 ei ej) in
     let turned = sym read ∙ c.in-Point.is in
     let ask = asked inv r o a b _ c.order_of-order.ensures c.first_named-a.ensures c.second_named-b.ensures turned in
-    let done = rw (c.with_settled-in-Point.ensures, c.name_in.ensures) at (c.noted_after-noted.ensures ∙ c.take_point-taken.ensures) in
+    let done = rw c.name_in.ensures at (c.noted_after-noted.ensures ∙ c.take_point-taken.ensures) ∙ point_without l.g l.settled l.points _ in
     going inv (some_left _ c.is_empty.ensures c.loop-rest-test.true) c.record_size.ensures c.min-size.ensures c.split_at.ensures.front c.split_at.ensures.back (ask ∙ pointed l.g l.settled l.points _ _ done) c.put-at-in-Point.ensures (e8)
 
 pub loop-rest-preserved : goal.loop-rest-preserved

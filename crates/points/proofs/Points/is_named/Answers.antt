@@ -1,8 +1,11 @@
 -- `is_named` compares the names where a point stands.
-use Rattle.points.specs.Points.{point_at}
+use Rattle.std.proofs.Common.{rules, ◌≡◌, Some}
+use Rattle.points.specs.Points.{point_at, held_at}
 use Rattle.points.proofs.Names.{compared}
 use Rattle.points.proofs.Points.is_named.Goals as goal
 
-pub returns-in-Some : goal.returns-in-Some
+pub returns-in-Some-Some : goal.returns-in-Some-Some
 unfolding point_at
-returns-in-Some c = rw (← c.held_at.ensures, c.in-Some.is, c.eq.ensures) (compared c.in-Some.point.name c.args.name)
+returns-in-Some-Some c =
+    let held : held_at c.args.self.now c.args.i ≡ Some c.in-Some-Some.point = search rules in
+    rw (held, c.eq.ensures) (compared c.in-Some-Some.point.name c.args.name)

@@ -1,6 +1,6 @@
--- `survey::quiet` meets its contract.
+-- `survey::is_quiet` meets its contract.
 use Rattle.group.specs.Group.{quiet}
-use Rattle.survey.proofs.quiet.Goals as goal
+use Rattle.survey.proofs.is_quiet.Goals as goal
 
 pub returns-then-covers : goal.returns-then-covers
 unfolding quiet
