@@ -25,7 +25,7 @@ fn image_kept(g: Group, i: u8) -> Image
     g.slot(g.home(i), i, state::bit_of(g.cabinet(i).phase.version))
 }
 
-// Kept: written out by number. By `array::from_fn` the lines of the group are copied for each of the eight, and a point takes nearly twice as long.
+// Kept: written out by number. By `array::from_fn`, of a lent group too, the group is copied for each of the eight, and a point takes over twice as long.
 #[tactic(auto, unfolding(protocol::specs::Points::images_kept))]
 fn images_kept(g: Group) -> [Image; 8]
     ensures { result ≡ images_kept g }

@@ -22,7 +22,7 @@ fn owed_at(owes: bool, home: u8) -> bool
 }
 
 // The group and its points after all records of a list of steps, or of a plan. What each is answered is stored in the buffer, as far as it
-// reaches. Which word settled the recovery is kept beside the group until the end, and in it where all of it is passed on.
+// reaches. Which word settled the recovery is kept beside the group until the end, and in it where all of it is passed on and may ask for it.
 pub fn run(site: Site, plan: bool, list: &[u8], answers: &mut [u8]) -> Site
     ensures value { result ≡ operate_all site (operations_of plan list.now) }
     ensures answers_after { answers.new ≡ sets answers.old 0 (answers_to site (operations_of plan list.now)) }
