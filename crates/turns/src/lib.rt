@@ -314,8 +314,8 @@ pub fn doer(d: Deed, a: u8, b: u8) -> u8
     }
 }
 
-// Kept, here and in piece_done and call_done: `after` in each arm. One Result of all arms is taken apart field by field at each record, which took 5
-// to 13 in a hundred more time of a list.
+// Kept, here and in piece_done and call_done: `after` in each arm. One Result of all arms is taken apart field by field at each record: a list
+// took 5 to 13 in a hundred more time.
 #[tactic(auto, unfolding(crate::specs::Turns::deed_done))]
 pub fn deed_done(d: Deed, c: Cabinet, l: Line, a: u8, b: u8, version: PacketVersion) -> SpotAnswer
     ensures { result ≡ deed_done d c l a b version }
